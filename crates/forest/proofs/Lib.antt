@@ -1,0 +1,4 @@
+pub mod Bools
+pub mod Laws
+pub mod Lists
+pub mod Rows

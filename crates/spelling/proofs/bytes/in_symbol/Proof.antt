@@ -1,0 +1,18 @@
+use borrow.Author.Needs.{needs}
+use Rattle.spelling.proofs.bytes.in_symbol.Statement.{statement}
+use Rattle.spelling.proofs.bytes.in_symbol.Tie as tie
+
+is-letter-requires : tie.Need-is-letter-requires
+is-letter-requires c κs = search needs
+
+is-digit-requires : tie.Need-is-digit-requires
+is-digit-requires c κs = search needs
+
+is-mark-requires : tie.Need-is-mark-requires
+is-mark-requires c κs = search needs
+
+returns : tie.Need-returns
+returns c = cc
+
+pub in-symbol-spec : {M : Type 1} → statement M
+in-symbol-spec = tie.close (tie.spec is-letter-requires is-digit-requires is-mark-requires returns)

@@ -1,0 +1,11 @@
+use mathlib.Core.Bool.{false}
+use Rattle.forest.specs.Lists.{spelling}
+use Rattle.forest.proofs.Lists.{one-by-one}
+use Rattle.spelling.proofs.bytes.is_mark.Statement.{statement}
+use Rattle.spelling.proofs.bytes.is_mark.Tie as tie
+
+returns : tie.Need-returns
+returns c = one-by-one false (c .args .b) (spelling "~!@$%^&*_-+=<>.?/")
+
+pub is-mark-spec : {M : Type 1} → statement M
+is-mark-spec = tie.close (tie.spec returns)

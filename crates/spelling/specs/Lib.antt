@@ -1,0 +1,4 @@
+pub mod Bytes
+pub mod Limits
+pub mod Kinds
+pub mod Steps

@@ -1,0 +1,31 @@
+//! Words by their bytes: what a word is, or why it is refused.
+pub mod bytes;
+pub mod kinds;
+
+// The classes of bytes of which words are made.
+pub enum Class {
+    Digits,
+    HexDigits,
+    BinaryDigits,
+    SymbolBytes,
+}
+
+// Why a text is refused; `NoFault` is why one is not.
+pub enum Fault {
+    NoFault,
+    TooLong,
+    BadWord,
+    Bracket,
+    PastLimit,
+    NotCarried,
+}
+
+// What a word is: a numeral has its value, a literal its width in bits and its value.
+pub enum Kind {
+    Open,
+    Close,
+    Numeral(u64),
+    Literal(u32, u64),
+    Symbol,
+    Faulty(Fault),
+}

@@ -1,0 +1,11 @@
+use mathlib.Core.Path.{sym}
+use Prim.Native.Nat.{ℕ}
+use lib.ListN.{length-replicate}
+use Rattle.vectors.proofs.input_room.Statement.{statement}
+use Rattle.vectors.proofs.input_room.Tie as tie
+
+returns : tie.Need-returns
+returns c = sym (length-replicate {A = ℕ} 1500000 0)
+
+pub input-room-spec : {M : Type 1} → statement M
+input-room-spec = tie.close (tie.spec returns)

@@ -1,0 +1,6 @@
+pub mod Limits
+pub mod Spans
+pub mod Words
+pub mod Table
+pub mod Reading
+pub mod Steps
