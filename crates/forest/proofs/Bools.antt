@@ -51,3 +51,7 @@ or-other false b e t = t
 pub and-false-left : (a b : Bool) → b ≡ true → a && b ≡ false → a ≡ false
 and-false-left true b e t = sym e ∙ t
 and-false-left false b e t = refl
+
+-- no test both passes and fails
+pub apart : {A : Type 0} → false ≡ true → A
+apart h = let z : _≡_ {A = ℕ} 0 1 = cc in absurd (omega arith)

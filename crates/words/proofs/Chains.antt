@@ -57,7 +57,7 @@ close-apart (Faulty fault) e = refl
 -- ---- where lists are closed
 
 -- the bracket that closes a list is not before its first word, nor past the last
-close-bounds : (ws : List Word) (inner i : ℕ) → (i ≤ closeOf ws inner i) × (closeOf ws inner i ≤ i + length ws)
+pub close-bounds : (ws : List Word) (inner i : ℕ) → (i ≤ closeOf ws inner i) × (closeOf ws inner i ≤ i + length ws)
 unfolding closeOf
 close-bounds [] inner i = omega arith
 close-bounds (w ∷ ws) inner i = go (opens (w .kind)) (closes (w .kind)) (eqb inner 0) (close-bounds ws (inner + 1) (i + 1)) (close-bounds ws (inner - 1) (i + 1)) (close-bounds ws inner (i + 1))
@@ -72,7 +72,7 @@ close-bounds (w ∷ ws) inner i = go (opens (w .kind)) (closes (w .kind)) (eqb i
     go false true false p q r = omega (arith, q)
     go false false z p q r = omega (arith, r)
 
-drop-past : (w : Word) (ws : List Word) (i m : ℕ) → i + 1 ≤ m → drop (m - i) (w ∷ ws) ≡ drop (m - (i + 1)) ws
+pub drop-past : (w : Word) (ws : List Word) (i m : ℕ) → i + 1 ≤ m → drop (m - i) (w ∷ ws) ≡ drop (m - (i + 1)) ws
 drop-past w ws i m h = let q : m - i ≡ suc (m - (i + 1)) = omega arith in rw q
 
 -- past the bracket that closes the lists within, one list is still open

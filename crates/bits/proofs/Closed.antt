@@ -1,0 +1,128 @@
+-- The value of an operator over operands of their sorts is a value of the result's sort.
+use Prim.Native.Nat.{ℕ, zero, suc, _^_, _<_}
+use Prim.Native.String.{String}
+use native.Mathlib.Omega.{arith}
+use mathlib.Core.Path.{_≡_, refl}
+use mathlib.Core.Bool.{Bool, true, false, cond, not, _&&_, _||_}
+use mathlib.Core.List.{List, [], _∷_}
+use mathlib.Core.Option.{some}
+use lib.Dec.{eqb, lit<, lit≤, ltb}
+use lib.ListN.{getD, length}
+use borrow.Author.Tests.{eqb-true}
+use Rattle.bits.specs.Operators.{Operands, one, three, two, widthOfOne, widthOfTwo, Operator, noOperator, operatorAt, operatorCount, operatorSort, operatorValue, operators, row}
+use Rattle.forest.proofs.Bools.{and-right}
+use Rattle.bits.specs.Sorts.{AllFit, Fit, choice, cutting, joining, sortBy, width}
+use Rattle.bits.specs.Steps.{Word, Words}
+use Rattle.bits.specs.Values.{concatValue, extractValue, holds, iteValue}
+use Rattle.bits.proofs.Below.{bvand-below, bvlshr-below, bvnot-below, bvor-below, bvshl-below, bvudiv-below, bvurem-below, bvxor-below, concat-below, mod-below, truth-below}
+use Rattle.bits.proofs.Rules.{chosen, cut, givesBool, pair, passed, truths, vectors, word-fits}
+
+-- P holds of each of some things.
+abbrev Each : {A : Type 0} → (A → Type 0) → List A → Type 0
+Each P [] = Unit
+Each P (x ∷ more) = P x × Each P more
+
+-- It holds of what stands at k, if it holds of what stands for nothing.
+each-at : {A : Type 0} (P : A → Type 0) (l : List A) (d : A) → Each P l → P d → (k : ℕ) → P (getD l k d)
+each-at P [] d h g k = g
+each-at P (x ∷ more) d h g zero = h .0
+each-at P (x ∷ more) d h g (suc k) = each-at P more d (h .1) g k
+
+-- Of the first of some things and of the others.
+infixr 5 _and_
+_and_ : {A B : Type 0} → A → B → A × B
+a and b = (a, b)
+
+-- A row's value is one of the sort that its rule gives.
+record Closed (r : Operator) : Type 0 where
+  fits : (x : Operands) (s : ℕ) → AllFit (x .sorts) (x .values) → length (x .sorts) ≡ r .operands → sortBy (r .rule) (x .i) (x .j) (x .sorts) ≡ some s
+      → Fit s (r .value x)
+
+-- A row whose result is Bool.
+boolean : {r : Operator} → givesBool (r .rule) ≡ true → ((x : Operands) → r .value x < 2) → Closed r
+boolean {r} b f =
+    record { fits = λ x s a l h. rw (← truths (r .rule) b (x .i) (x .j) (x .sorts) h) (record { sort = lit≤ tt; value = f x }) }
+
+-- A row with one vector.
+unary : {name : String} {value : Operands → ℕ} → ((x : Operands) → Word (widthOfOne x) (one x) → value x < 2 ^ widthOfOne x) → Closed (row name 1 width value)
+unary f =
+    record {
+      fits = λ x s a l h.
+          let v = vectors (x .i) (x .j) a h in
+          rw (← v .result) (word-fits (v .first .width) (f x (v .first)));
+    }
+
+-- A row with two vectors.
+binary : {name : String} {value : Operands → ℕ} → ((x : Operands) → Words (widthOfOne x) (one x) (two x) → value x < 2 ^ widthOfOne x)
+    → Closed (row name 2 width value)
+binary f =
+    record {
+      fits = λ x s a l h.
+          let v = vectors (x .i) (x .j) a h in
+          rw (← v .result) (word-fits (v .first .width) (f x (record { first = v .first; second = v .second l })));
+    }
+
+-- Of two values of a sort either is one.
+either : (t : Bool) {s a b : ℕ} → Fit s a → Fit s b → Fit s (cond t a b)
+either true f g = f
+either false f g = g
+
+-- `ite`
+choosing : {name : String} → Closed (row name 3 choice (λ x. iteValue (one x) (two x) (three x)))
+choosing = record { fits = λ x s a l h. let v = chosen (x .i) (x .j) a l h in either (holds (one x)) (v .second) (v .third) }
+
+-- `concat`
+joined : {name : String} → Closed (row name 2 joining (λ x. concatValue (widthOfTwo x) (one x) (two x)))
+joined =
+    record {
+      fits = λ x s a l h.
+          let p = pair (x .i) (x .j) a h in
+          rw (← p .result) (word-fits (p .operands .together) (concat-below (p .operands)));
+    }
+
+-- `(_ extract i j)`
+extracted : {name : String} → Closed (row name 1 cutting (λ x. extractValue (x .i) (x .j) (one x)))
+extracted =
+    record {
+      fits = λ x s a l h.
+          let c = cut (x .i) (x .j) a h in
+          rw (← c .result) (word-fits (record { least = omega arith; most = omega (arith, c .most) }) (mod-below _ _));
+    }
+
+-- Every row is closed.
+rows-closed : Each Closed operators
+unfolding operators
+rows-closed =
+    boolean refl (λ x. truth-below (not (holds (one x))))
+    and boolean refl (λ x. truth-below (holds (one x) && holds (two x)))
+    and boolean refl (λ x. truth-below (holds (one x) || holds (two x)))
+    and boolean refl (λ x. truth-below (holds (one x) && not (holds (two x)) || not (holds (one x)) && holds (two x)))
+    and boolean refl (λ x. truth-below (not (holds (one x)) || holds (two x)))
+    and boolean refl (λ x. truth-below (eqb (one x) (two x)))
+    and boolean refl (λ x. truth-below (not (eqb (one x) (two x))))
+    and choosing
+    and unary (λ x w. bvnot-below _ _)
+    and unary (λ x w. mod-below _ _)
+    and binary (λ x w. bvand-below w)
+    and binary (λ x w. bvor-below w)
+    and binary (λ x w. bvxor-below w)
+    and binary (λ x w. mod-below _ _)
+    and binary (λ x w. mod-below _ _)
+    and binary (λ x w. mod-below _ _)
+    and binary (λ x w. bvudiv-below w)
+    and binary (λ x w. bvurem-below w)
+    and binary (λ x w. bvshl-below _ _ _)
+    and binary (λ x w. bvlshr-below w)
+    and boolean refl (λ x. truth-below (ltb (one x) (two x)))
+    and joined
+    and extracted
+    and tt
+
+-- The value of an operator over operands of their sorts is a value of the result's sort.
+pub closed : (o i j : ℕ) {ss vs : List ℕ} {s : ℕ} → AllFit ss vs → operatorSort o i j ss ≡ some s → Fit s (operatorValue o i j ss vs)
+unfolding operatorSort operatorValue operatorAt
+closed o i j {ss} {vs} {s} a h =
+    let counts = eqb (length ss) (operatorAt o .operands) in
+    let p = passed (ltb o operatorCount && counts) h in
+    let r = each-at Closed operators noOperator rows-closed (boolean refl (λ x. lit< tt)) o in
+    r .fits (record { i = i; j = j; sorts = ss; values = vs }) s a (eqb-true _ _ (and-right (ltb o operatorCount) counts (p .0))) (p .1)

@@ -1,0 +1,9 @@
+pub mod Powers
+pub mod Table
+pub mod Naming
+pub mod Rules
+pub mod Applying
+pub mod Below
+pub mod Closed
+pub mod Bench
+pub mod Results

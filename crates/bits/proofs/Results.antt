@@ -1,0 +1,114 @@
+-- The sort of an operator's result, by the number of its rule and the sorts of its first two operands.
+use Prim.Native.Nat.{ℕ, _+_, _-_, _≤_, _<_}
+use mathlib.Core.Path.{_≡_, refl, sym, ap, _∙_}
+use mathlib.Core.Bool.{true, _&&_}
+use mathlib.Core.List.{List, [], _∷_}
+use mathlib.Core.Option.{some}
+use lib.Dec.{eqb, leb, ltb}
+use lib.ListN.{getD, length}
+use borrow.Author.Tests.{leb-true, ltb-true}
+use Rattle.forest.proofs.Options.{never}
+use Rattle.bits.specs.Operators.{operatorAt, operatorCount, operatorSort}
+use Rattle.bits.specs.Sorts.{Rule, allAre, bool, choice, cutting, equality, joining, logic, maxWidth, order, ruleNumber, sortBy, vector, width}
+use Rattle.bits.specs.Steps.{ResultSort, Sortable}
+use Rattle.bits.proofs.Rules.{both, givesBool, passed, ruled, truths}
+
+-- The rule of a number.
+abbrev ruleAt : ℕ → Rule
+ruleAt k = getD (logic ∷ equality ∷ choice ∷ width ∷ order ∷ joining ∷ cutting ∷ []) k logic
+
+-- A rule's number tells it.
+rule-at : (rule : Rule) → rule ≡ ruleAt (ruleNumber rule)
+rule-at logic = refl
+rule-at equality = refl
+rule-at choice = refl
+rule-at width = refl
+rule-at order = refl
+rule-at joining = refl
+rule-at cutting = refl
+
+-- A rule that has none of the numbers of the four others gives Bool.
+gives-bool : (rule : Rule) → (ruleNumber rule ≡ 2 → ⊥) → (ruleNumber rule ≡ 3 → ⊥) → (ruleNumber rule ≡ 5 → ⊥) → (ruleNumber rule ≡ 6 → ⊥)
+    → givesBool rule ≡ true
+gives-bool logic a b c d = refl
+gives-bool equality a b c d = refl
+gives-bool choice a b c d = absurd (a refl)
+gives-bool width a b c d = absurd (b refl)
+gives-bool order a b c d = refl
+gives-bool joining a b c d = absurd (c refl)
+gives-bool cutting a b c d = absurd (d refl)
+
+-- What the rule `choice` gives.
+choice-sort : (i j : ℕ) (ss : List ℕ) {r : ℕ} → sortBy choice i j ss ≡ some r → getD ss 1 0 ≡ r
+unfolding sortBy
+choice-sort i j [] h = never h
+choice-sort i j (c ∷ []) h = never h
+choice-sort i j (c ∷ s ∷ more) h = ruled (eqb c bool && allAre s more) h .1
+
+-- What the rule `width` gives.
+width-sort : (i j : ℕ) (ss : List ℕ) {r : ℕ} → sortBy width i j ss ≡ some r → getD ss 0 0 ≡ r
+unfolding sortBy
+width-sort i j [] h = never h
+width-sort i j (s ∷ more) h = ruled (vector s && allAre s more) h .1
+
+-- What the rule `joining` gives, and that it is at most 64.
+joining-sort : (i j : ℕ) (ss : List ℕ) {r : ℕ} → sortBy joining i j ss ≡ some r → (getD ss 0 0 + getD ss 1 0 ≡ r) × (getD ss 0 0 + getD ss 1 0 ≤ maxWidth)
+unfolding sortBy
+joining-sort i j [] h = never h
+joining-sort i j (s ∷ []) h = never h
+joining-sort i j (s ∷ t ∷ more) h =
+    let p = ruled (vector s && vector t && leb (s + t) maxWidth) h in
+    (p .1, leb-true _ _ (both (vector s && vector t) (leb (s + t) maxWidth) (p .0) .1))
+
+-- What the rule `cutting` gives, and that i and j are in order and below the width.
+cutting-sort : (i j : ℕ) (ss : List ℕ) {r : ℕ} → sortBy cutting i j ss ≡ some r → (i - j + 1 ≡ r) × (j ≤ i) × (i < getD ss 0 0)
+unfolding sortBy
+cutting-sort i j [] h = never h
+cutting-sort i j (s ∷ more) h =
+    let p = ruled (leb j i && ltb i s) h in
+    let q = both (leb j i) (ltb i s) (p .0) in
+    (p .1, leb-true _ _ (q .0), ltb-true _ _ (q .1))
+
+-- The rule gives the result.
+by-rule : {o i j n m : ℕ} (e : Sortable o i j n m) → sortBy (operatorAt o .rule) i j (e .sorts) ≡ some (e .result)
+unfolding operatorSort
+by-rule {o} e = passed (ltb o operatorCount && eqb (length (e .sorts)) (operatorAt o .operands)) (e .sorted) .1
+
+module _ {o i j n m rule k : ℕ} (rule-is : rule ≡ ruleNumber (operatorAt o .rule)) (number : rule ≡ k) where
+  -- The rule of the number gives the result.
+  by-number : (e : Sortable o i j n m) → sortBy (ruleAt k) i j (e .sorts) ≡ some (e .result)
+  by-number e = rw (rule-at (operatorAt o .rule) ∙ ap ruleAt (sym rule-is ∙ number)) at (by-rule e)
+
+  -- The result of the rule `choice`.
+  pub chosen-result : k ≡ 2 → ResultSort o i j n m m
+  chosen-result q e = e .sort-two ∙ choice-sort i j (e .sorts) (rw q at (by-number e))
+
+  -- The result of the rule `width`.
+  pub width-result : k ≡ 3 → ResultSort o i j n m n
+  width-result q e = e .sort-one ∙ width-sort i j (e .sorts) (rw q at (by-number e))
+
+  -- The result of the rule `joining`.
+  pub joined-result : k ≡ 5 → ResultSort o i j n m (n + m)
+  joined-result q e = rw (e .sort-one, e .sort-two) (joining-sort i j (e .sorts) (rw q at (by-number e)) .0)
+
+  -- It is at most 64.
+  pub joined-narrow : k ≡ 5 → Sortable o i j n m → n + m ≤ maxWidth
+  joined-narrow q e = rw (e .sort-one, e .sort-two) (joining-sort i j (e .sorts) (rw q at (by-number e)) .1)
+
+  -- The result of the rule `cutting`.
+  pub cut-result : k ≡ 6 → ResultSort o i j n m (i - j + 1)
+  cut-result q e = cutting-sort i j (e .sorts) (rw q at (by-number e)) .0
+
+  -- Its numbers are in order.
+  pub cut-order : k ≡ 6 → Sortable o i j n m → j ≤ i
+  cut-order q e = cutting-sort i j (e .sorts) (rw q at (by-number e)) .1
+
+  -- They are below the width.
+  pub cut-below : k ≡ 6 → Sortable o i j n m → i < n
+  cut-below q e = rw (e .sort-one) (cutting-sort i j (e .sorts) (rw q at (by-number e)) .2)
+
+-- Any other rule gives Bool.
+pub bool-result : {o i j n m rule : ℕ} → rule ≡ ruleNumber (operatorAt o .rule) → (rule ≡ 2 → ⊥) → (rule ≡ 3 → ⊥) → (rule ≡ 5 → ⊥) → (rule ≡ 6 → ⊥)
+    → ResultSort o i j n m 0
+bool-result {o} {i} {j} q a b c d e =
+    truths (operatorAt o .rule) (gives-bool (operatorAt o .rule) (rw q at a) (rw q at b) (rw q at c) (rw q at d)) i j (e .sorts) (by-rule e)

@@ -1,0 +1,22 @@
+use borrow.Author.Needs.{needs}
+use Rattle.bits.specs.Operators.{Operator, operators}
+use Rattle.bits.specs.Sorts.{ruleNumber}
+use Rattle.bits.proofs.Table.{column, past}
+use Rattle.bits.proofs.operators.rule_of.Statement.{statement}
+use Rattle.bits.proofs.operators.rule_of.Tie as tie
+
+mul-result : tie.Need-mul-result
+mul-result c = search needs
+
+array-read-result : tie.Need-array-read-result
+array-read-result c = search needs
+
+returns : tie.Need-returns
+unfolding operators
+returns c = column (λ (r : Operator). ruleNumber (r .rule)) (c .before .args .o)
+
+returns-2 : tie.Need-returns-2
+returns-2 c = past (λ (r : Operator). ruleNumber (r .rule)) (c .if1 .left)
+
+pub rule-of-spec : {M : Type 1} → statement M
+rule-of-spec = tie.close (tie.spec mul-result array-read-result returns returns-2)

@@ -1,0 +1,4 @@
+pub mod Values
+pub mod Sorts
+pub mod Operators
+pub mod Steps

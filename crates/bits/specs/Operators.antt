@@ -1,0 +1,112 @@
+-- The operator table. "Each operator's name, operand count and sort rule stand in one table."
+use Prim.Native.Nat.{ℕ, _+_}
+use Prim.Native.String.{String}
+use mathlib.Core.Bool.{Bool, true, false, cond, _&&_}
+use mathlib.Core.List.{List, [], _∷_}
+use mathlib.Core.Option.{Option, none}
+use lib.Dec.{eqb, ltb}
+use lib.ListN.{getD, length}
+use Rattle.forest.specs.Lists.{spelling}
+use Rattle.bits.specs.Sorts.{Rule, choice, cutting, equality, joining, logic, order, sortBy, width}
+use Rattle.bits.specs.Values.{andValue, bvaddValue, bvandValue, bvlshrValue, bvmulValue, bvnegValue, bvnotValue, bvorValue, bvshlValue, bvsubValue, bvudivValue, bvultValue, bvuremValue, bvxorValue, concatValue, distinctValue, equalValue, extractValue, impliesValue, iteValue, notValue, orValue, xorValue}
+
+-- What an operator's value is made of: the numbers of `(_ extract i j)`, and the sorts and the values of its operands.
+pub record Operands : Type 0 where
+  pub i : ℕ
+  pub j : ℕ
+  pub sorts : List ℕ
+  pub values : List ℕ
+
+-- The value of the first, the second and the third operand, and the widths of the first two.
+abbrev pub one : Operands → ℕ
+one x = getD (x .values) 0 0
+
+abbrev pub two : Operands → ℕ
+two x = getD (x .values) 1 0
+
+abbrev pub three : Operands → ℕ
+three x = getD (x .values) 2 0
+
+abbrev pub widthOfOne : Operands → ℕ
+widthOfOne x = getD (x .sorts) 0 0
+
+abbrev pub widthOfTwo : Operands → ℕ
+widthOfTwo x = getD (x .sorts) 1 0
+
+-- A row of the table: an operator's name, how many operands it has, its sort rule and its value. Its number is its place in the table.
+pub record Operator : Type 0 where
+  pub name : String
+  pub operands : ℕ
+  pub rule : Rule
+  pub value : Operands → ℕ
+
+-- A row.
+abbrev pub row : String → ℕ → Rule → (Operands → ℕ) → Operator
+row name operands rule value = record { name = name; operands = operands; rule = rule; value = value }
+
+-- "Operators, two operands each unless said: `not`(1) `and or xor => = distinct ite`(3); `bvnot`(1) `bvneg`(1) `bvand bvor bvxor bvadd bvsub bvmul bvudiv
+-- bvurem bvshl bvlshr bvult concat`, `(_ extract i j)`(1)"
+unfoldable pub operators : List Operator
+operators =
+    row "not" 1 logic (λ x. notValue (one x))
+    ∷ row "and" 2 logic (λ x. andValue (one x) (two x))
+    ∷ row "or" 2 logic (λ x. orValue (one x) (two x))
+    ∷ row "xor" 2 logic (λ x. xorValue (one x) (two x))
+    ∷ row "=>" 2 logic (λ x. impliesValue (one x) (two x))
+    ∷ row "=" 2 equality (λ x. equalValue (one x) (two x))
+    ∷ row "distinct" 2 equality (λ x. distinctValue (one x) (two x))
+    ∷ row "ite" 3 choice (λ x. iteValue (one x) (two x) (three x))
+    ∷ row "bvnot" 1 width (λ x. bvnotValue (widthOfOne x) (one x))
+    ∷ row "bvneg" 1 width (λ x. bvnegValue (widthOfOne x) (one x))
+    ∷ row "bvand" 2 width (λ x. bvandValue (one x) (two x))
+    ∷ row "bvor" 2 width (λ x. bvorValue (one x) (two x))
+    ∷ row "bvxor" 2 width (λ x. bvxorValue (one x) (two x))
+    ∷ row "bvadd" 2 width (λ x. bvaddValue (widthOfOne x) (one x) (two x))
+    ∷ row "bvsub" 2 width (λ x. bvsubValue (widthOfOne x) (one x) (two x))
+    ∷ row "bvmul" 2 width (λ x. bvmulValue (widthOfOne x) (one x) (two x))
+    ∷ row "bvudiv" 2 width (λ x. bvudivValue (widthOfOne x) (one x) (two x))
+    ∷ row "bvurem" 2 width (λ x. bvuremValue (one x) (two x))
+    ∷ row "bvshl" 2 width (λ x. bvshlValue (widthOfOne x) (one x) (two x))
+    ∷ row "bvlshr" 2 width (λ x. bvlshrValue (widthOfOne x) (one x) (two x))
+    ∷ row "bvult" 2 order (λ x. bvultValue (one x) (two x))
+    ∷ row "concat" 2 joining (λ x. concatValue (widthOfTwo x) (one x) (two x))
+    ∷ row "extract" 1 cutting (λ x. extractValue (x .i) (x .j) (one x))
+    ∷ []
+
+-- How many operators there are; also the number that stands for "no operator".
+abbrev pub operatorCount : ℕ
+operatorCount = 23
+
+-- A row for a number that is no operator's.
+abbrev pub noOperator : Operator
+noOperator = row "" 0 logic (λ x. 0)
+
+-- Operator o.
+unfoldable pub operatorAt : ℕ → Operator
+operatorAt o = getD operators o noOperator
+
+-- Whether two lists of bytes are the same.
+unfoldable pub sameBytes : List ℕ → List ℕ → Bool
+sameBytes [] [] = true
+sameBytes [] (b ∷ v) = false
+sameBytes (a ∷ u) [] = false
+sameBytes (a ∷ u) (b ∷ v) = eqb a b && sameBytes u v
+
+-- The place of the first row that has the name, counted from o; past the last row where none has it.
+unfoldable pub named : List Operator → ℕ → (name : List ℕ) → ℕ
+named [] o name = o
+named (r ∷ more) o name =
+    let later = named more (o + 1) name in
+    cond (sameBytes (spelling (r .name)) name) o later
+
+-- The number of the operator that a word names, `operatorCount` where it names none; `extract` names one only within `(_ extract i j)`.
+unfoldable pub operatorOf : (word : List ℕ) → ℕ
+operatorOf word = named operators 0 word
+
+-- The sort of operator o over operands of the sorts ss; none where there is no such operator, or their number or a sort is wrong.
+unfoldable pub operatorSort : (o i j : ℕ) → (ss : List ℕ) → Option ℕ
+operatorSort o i j ss = cond (ltb o operatorCount && eqb (length ss) (operatorAt o .operands)) (sortBy (operatorAt o .rule) i j ss) none
+
+-- The value of operator o over operands of the sorts ss and the values vs.
+unfoldable pub operatorValue : (o i j : ℕ) → (ss vs : List ℕ) → ℕ
+operatorValue o i j ss vs = operatorAt o .value (record { i = i; j = j; sorts = ss; values = vs })

@@ -1,0 +1,87 @@
+-- Sorts, and the rules that give an operator's sort by those of its operands. A sort is written as a number: 0 is `Bool`, and n is `(_ BitVec n)`.
+use Prim.Native.Nat.{ℕ, _+_, _-_, _^_, _<_, _≤_}
+use mathlib.Core.Bool.{Bool, true, cond, _&&_}
+use mathlib.Core.List.{List, [], _∷_}
+use mathlib.Core.Option.{Option, none, some}
+use lib.Dec.{eqb, leb, ltb}
+
+-- `Bool`
+abbrev pub bool : ℕ
+bool = 0
+
+-- "Sorts: `Bool`, `(_ BitVec n)`, n from 1 to 64"
+abbrev pub maxWidth : ℕ
+maxWidth = 64
+
+-- Whether a sort is a `(_ BitVec n)`.
+abbrev pub vector : ℕ → Bool
+vector s = ltb 0 s
+
+-- How many values a sort has: 2 for Bool, 2 ^ n for `(_ BitVec n)`.
+abbrev pub valuesOf : ℕ → ℕ
+valuesOf s = cond (vector s) (2 ^ s) 2
+
+-- A sort, and a number that is a value of it.
+pub record Fit (s v : ℕ) : Type 0 where
+  pub sort : s ≤ maxWidth
+  pub value : v < valuesOf s
+
+-- Sorts, and for each a value of it.
+pub data AllFit : (ss vs : List ℕ) → Type 0 where
+  nothing : AllFit [] []
+  also : {s v : ℕ} {ss vs : List ℕ} → Fit s v → AllFit ss vs → AllFit (s ∷ ss) (v ∷ vs)
+
+-- Whether each of the sorts is s.
+abbrev pub allAre : ℕ → List ℕ → Bool
+allAre s [] = true
+allAre s (t ∷ more) = eqb t s && allAre s more
+
+-- The sort where the test passes, none where it fails.
+abbrev pub when : Bool → ℕ → Option ℕ
+when test s = cond test (some s) none
+
+-- The sort rules of the operators.
+pub data Rule : Type 0 where
+  -- operands Bool, result Bool: `not and or xor =>`
+  logic : Rule
+  -- operands of one sort, result Bool: `= distinct`
+  equality : Rule
+  -- a Bool and two operands of one sort, which is the result's: `ite`
+  choice : Rule
+  -- operands of one width, which is the result's: `bvnot` to `bvlshr`
+  width : Rule
+  -- operands of one width, result Bool: `bvult`
+  order : Rule
+  -- the result as wide as its two operands together: `concat`
+  joining : Rule
+  -- bits i down to j of the operand: `(_ extract i j)`
+  cutting : Rule
+
+-- The sort of the result, where the operands have the sorts ss and i and j are the numbers of `(_ extract i j)`; none for operands that do not fit.
+-- "`(_ extract i j)`(1), where j ≤ i < n (else 8) and the width is i - j + 1. A `concat` wider than 64 is answer 8."
+unfoldable pub sortBy : Rule → (i j : ℕ) → (ss : List ℕ) → Option ℕ
+sortBy logic i j ss = when (allAre bool ss) bool
+sortBy equality i j (s ∷ more) = when (allAre s more) bool
+sortBy equality i j [] = none
+sortBy choice i j (c ∷ s ∷ more) = when (eqb c bool && allAre s more) s
+sortBy choice i j (c ∷ []) = none
+sortBy choice i j [] = none
+sortBy width i j (s ∷ more) = when (vector s && allAre s more) s
+sortBy width i j [] = none
+sortBy order i j (s ∷ more) = when (vector s && allAre s more) bool
+sortBy order i j [] = none
+sortBy joining i j (s ∷ t ∷ more) = when (vector s && vector t && leb (s + t) maxWidth) (s + t)
+sortBy joining i j (s ∷ []) = none
+sortBy joining i j [] = none
+sortBy cutting i j (s ∷ more) = when (leb j i && ltb i s) (i - j + 1)
+sortBy cutting i j [] = none
+
+-- The number of a rule in the operator table.
+abbrev pub ruleNumber : Rule → ℕ
+ruleNumber logic = 0
+ruleNumber equality = 1
+ruleNumber choice = 2
+ruleNumber width = 3
+ruleNumber order = 4
+ruleNumber joining = 5
+ruleNumber cutting = 6

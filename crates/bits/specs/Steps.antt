@@ -1,0 +1,59 @@
+-- What the functions of this crate ask, where no definition of document 01 says it: definitions that serve a step.
+use Prim.Native.Nat.{ℕ, _+_, _<_, _≤_, _^_}
+use mathlib.Core.List.{List}
+use mathlib.Core.Option.{some}
+use mathlib.Core.Path.{_≡_}
+use lib.ListN.{getD}
+use Rattle.bits.specs.Operators.{operatorSort, operatorValue}
+use Rattle.bits.specs.Sorts.{AllFit, maxWidth}
+
+-- A width.
+pub record Width (n : ℕ) : Type 0 where
+  pub least : 1 ≤ n
+  pub most : n ≤ maxWidth
+
+-- A width and a number below 2 ^ n.
+pub record Word (n a : ℕ) : Type 0 where
+  pub width : Width n
+  pub below : a < 2 ^ n
+
+-- A width and two numbers below 2 ^ n.
+pub record Words (n a b : ℕ) : Type 0 where
+  pub first : Word n a
+  pub second : Word n b
+
+-- Two widths that are at most 64 together, and a number of each.
+pub record Joined (n m a b : ℕ) : Type 0 where
+  pub high : Word n a
+  pub low : Word m b
+  pub together : Width (n + m)
+
+-- Operands that operator o takes: of the first two the widths, of the first three the values. What is not there is 0.
+pub record Operable (o i j widthOne widthTwo one two three : ℕ) : Type 0 where
+  pub sorts : List ℕ
+  pub values : List ℕ
+  pub result : ℕ
+  pub sorted : operatorSort o i j sorts ≡ some result
+  pub fit : AllFit sorts values
+  pub width-one : widthOne ≡ getD sorts 0 0
+  pub width-two : widthTwo ≡ getD sorts 1 0
+  pub is-one : one ≡ getD values 0 0
+  pub is-two : two ≡ getD values 1 0
+  pub is-three : three ≡ getD values 2 0
+
+-- The value that operator o gives them.
+abbrev pub Applied : (o i j widthOne widthTwo one two three r : ℕ) → Type 0
+Applied o i j widthOne widthTwo one two three r =
+    (e : Operable o i j widthOne widthTwo one two three) → r ≡ operatorValue o i j (e .sorts) (e .values)
+
+-- Operands that operator o takes: of the first two the sorts. What is not there is 0.
+pub record Sortable (o i j sortOne sortTwo : ℕ) : Type 0 where
+  pub sorts : List ℕ
+  pub result : ℕ
+  pub sorted : operatorSort o i j sorts ≡ some result
+  pub sort-one : sortOne ≡ getD sorts 0 0
+  pub sort-two : sortTwo ≡ getD sorts 1 0
+
+-- The sort that operator o gives them.
+abbrev pub ResultSort : (o i j sortOne sortTwo r : ℕ) → Type 0
+ResultSort o i j sortOne sortTwo r = (e : Sortable o i j sortOne sortTwo) → r ≡ e .result

@@ -1,0 +1,105 @@
+-- What the operators give, "As in SMT-LIB": on natural numbers below 2 ^ n, at any width n. A Bool is a number too: 0 is false, 1 is true.
+use Prim.Native.Nat.{ℕ, _+_, _*_, _-_, _/_, _%_, _^_}
+use mathlib.Core.Bool.{Bool, cond, not, _&&_, _||_}
+use lib.Bits.{bitAnd, bitOr, bitXor}
+use lib.Dec.{eqb, ltb}
+
+-- The number of a truth value: "Bool is 0 or 1".
+abbrev pub truth : Bool → ℕ
+truth b = cond b 1 0
+
+-- The truth value of a number.
+abbrev pub holds : ℕ → Bool
+holds a = eqb a 1
+
+-- `not`
+abbrev pub notValue : ℕ → ℕ
+notValue a = truth (not (holds a))
+
+-- `and`
+abbrev pub andValue : ℕ → ℕ → ℕ
+andValue a b = truth (holds a && holds b)
+
+-- `or`
+abbrev pub orValue : ℕ → ℕ → ℕ
+orValue a b = truth (holds a || holds b)
+
+-- `xor`: one of the two and not both.
+abbrev pub xorValue : ℕ → ℕ → ℕ
+xorValue a b = truth (holds a && not (holds b) || not (holds a) && holds b)
+
+-- `=>`
+abbrev pub impliesValue : ℕ → ℕ → ℕ
+impliesValue a b = truth (not (holds a) || holds b)
+
+-- `=`, of two values of one sort.
+abbrev pub equalValue : ℕ → ℕ → ℕ
+equalValue a b = truth (eqb a b)
+
+-- `distinct`, of two values of one sort.
+abbrev pub distinctValue : ℕ → ℕ → ℕ
+distinctValue a b = truth (not (eqb a b))
+
+-- `ite`
+abbrev pub iteValue : (c a b : ℕ) → ℕ
+iteValue c a b = cond (holds c) a b
+
+-- `bvnot`: each bit turned, so that a and its complement add up to all ones.
+abbrev pub bvnotValue : (n a : ℕ) → ℕ
+bvnotValue n a = 2 ^ n - 1 - a
+
+-- `bvneg`: "results modulo 2^n"
+abbrev pub bvnegValue : (n a : ℕ) → ℕ
+bvnegValue n a = (2 ^ n - a) % 2 ^ n
+
+-- `bvand`, bit by bit.
+abbrev pub bvandValue : (a b : ℕ) → ℕ
+bvandValue a b = bitAnd a b
+
+-- `bvor`, bit by bit.
+abbrev pub bvorValue : (a b : ℕ) → ℕ
+bvorValue a b = bitOr a b
+
+-- `bvxor`, bit by bit.
+abbrev pub bvxorValue : (a b : ℕ) → ℕ
+bvxorValue a b = bitXor a b
+
+-- `bvadd`: "results modulo 2^n"
+abbrev pub bvaddValue : (n a b : ℕ) → ℕ
+bvaddValue n a b = (a + b) % 2 ^ n
+
+-- `bvsub`: "results modulo 2^n"
+abbrev pub bvsubValue : (n a b : ℕ) → ℕ
+bvsubValue n a b = (a + (2 ^ n - b)) % 2 ^ n
+
+-- `bvmul`: "results modulo 2^n"
+abbrev pub bvmulValue : (n a b : ℕ) → ℕ
+bvmulValue n a b = a * b % 2 ^ n
+
+-- `bvudiv`: "division by 0 gives all ones"
+abbrev pub bvudivValue : (n a b : ℕ) → ℕ
+bvudivValue n a b = cond (eqb b 0) (2 ^ n - 1) (a / b)
+
+-- `bvurem`: "remainder by 0 the dividend"
+abbrev pub bvuremValue : (a b : ℕ) → ℕ
+bvuremValue a b = cond (eqb b 0) a (a % b)
+
+-- `bvshl`: "a shift by n or more gives 0"
+abbrev pub bvshlValue : (n a b : ℕ) → ℕ
+bvshlValue n a b = cond (ltb b n) (a * 2 ^ b % 2 ^ n) 0
+
+-- `bvlshr`: "a shift by n or more gives 0"
+abbrev pub bvlshrValue : (n a b : ℕ) → ℕ
+bvlshrValue n a b = cond (ltb b n) (a / 2 ^ b) 0
+
+-- `bvult`
+abbrev pub bvultValue : (a b : ℕ) → ℕ
+bvultValue a b = truth (ltb a b)
+
+-- `concat`, of which the second operand has width m: "`concat` puts its first operand high"
+abbrev pub concatValue : (m a b : ℕ) → ℕ
+concatValue m a b = a * 2 ^ m + b
+
+-- `(_ extract i j)`: bits i down to j, "the width is i - j + 1"
+abbrev pub extractValue : (i j a : ℕ) → ℕ
+extractValue i j a = a / 2 ^ j % 2 ^ (i - j + 1)

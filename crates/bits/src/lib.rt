@@ -1,0 +1,4 @@
+//! Values of the operators on numbers of a width from 1 to 64, and the operator table.
+pub mod operators;
+pub mod truth;
+pub mod vectors;

@@ -1,0 +1,127 @@
+-- Document 01's cases of derivations, "Settled on the bench", as theorems about the definitions.
+use mathlib.Core.Path.{_≡_, refl}
+use Prim.Native.Nat.{ℕ, zero, suc}
+use native.Mathlib.Omega.{arith}
+use mathlib.Core.List.{List, [], _∷_}
+use Rattle.forest.specs.Forest.{Forest, none, tree}
+use Rattle.terms.specs.Labels.{Label, Terms, literal, name, operator}
+use Rattle.grammar.specs.Derivation.{Item, the, nonTerminal, Rule, rule, headOf, formOf, Derives, done, use-rule, same, Fresh, Simple, s-done, s-rule, s-leaf, s-same}
+use Rattle.grammar.specs.Answer.{start}
+use Rattle.grammar.proofs.Same.{same-self}
+use Rattle.grammar.proofs.Likeness.{any-not-hole, any-not-label}
+use Rattle.grammar.proofs.Simple.{empty}
+
+-- a non-terminal alone, and a label alone
+abbrev hole : ℕ → Forest Item
+hole A = tree (nonTerminal A) none none
+
+abbrev only : Label → Forest Item
+only l = tree (the l) none none
+
+-- the argument x, of 32 bits
+abbrev x : Label
+x = name 32 0
+
+-- "Ring: A has rule B; B has A, x."
+abbrev ring : List Rule
+ring = rule 0 (hole 1) ∷ rule 1 (hole 0) ∷ rule 1 (only x) ∷ []
+
+abbrev ringBody : Terms
+ringBody = tree x none none
+
+-- "Body x shows 0, 2"
+pub ring-shown : Simple ring [] start ringBody (0 ∷ 2 ∷ [])
+unfolding headOf formOf Fresh
+ring-shown =
+    let f : Fresh 1 (0 ∷ []) = ((λ e. omega arith), tt) in
+    s-rule 0 (omega arith) refl tt (s-rule 2 (omega arith) refl f (s-same (same-self x) s-done s-done) s-done) s-done
+
+-- 0, 1, 0, 2 derives it too
+pub ring-long : Derives ring start ringBody (0 ∷ 1 ∷ 0 ∷ 2 ∷ [])
+unfolding headOf formOf
+ring-long =
+    use-rule 0 (omega arith) refl
+    (use-rule 1 (omega arith) refl (use-rule 0 (omega arith) refl (use-rule 2 (omega arith) refl (same (same-self x) done done) done) done) done)
+    done
+
+from-x : {seen ds : List ℕ} → Simple ring seen (only x) ringBody ds → ds ≡ []
+from-x (s-same e s-done s-done) = refl
+from-x (s-leaf a d) = absurd (any-not-label a x refl)
+
+never-A : {ds : List ℕ} → Simple ring (1 ∷ 0 ∷ []) (hole 0) ringBody ds → ⊥
+unfolding Fresh
+never-A (s-rule r h e f d d2) = f .1 .0 refl
+never-A (s-leaf a d) = any-not-hole a 0 refl
+
+from-B : {ds : List ℕ} → Simple ring (0 ∷ []) (hole 1) ringBody ds → ds ≡ 2 ∷ []
+unfolding headOf formOf
+from-B (s-rule zero h e f d d2) = absurd (omega (arith, e))
+from-B (s-rule (suc zero) h e f d d2) = absurd (never-A d)
+from-B (s-rule (suc (suc zero)) h e f d d2) = rw (from-x d, empty ring d2)
+from-B (s-rule (suc (suc (suc r))) h e f d d2) = absurd (omega (arith, h))
+from-B (s-leaf a d) = absurd (any-not-hole a 1 refl)
+
+-- whatever is shown for it is 0, 2
+pub ring-only : {ds : List ℕ} → Simple ring [] start ringBody ds → ds ≡ 0 ∷ 2 ∷ []
+unfolding headOf formOf
+ring-only (s-rule zero h e f d d2) = rw (from-B d, empty ring d2)
+ring-only (s-rule (suc zero) h e f d d2) = absurd (omega (arith, e))
+ring-only (s-rule (suc (suc zero)) h e f d d2) = absurd (omega (arith, e))
+ring-only (s-rule (suc (suc (suc r))) h e f d d2) = absurd (omega (arith, h))
+ring-only (s-leaf a d) = absurd (any-not-hole a 0 refl)
+
+-- "0, 1, 0, 2 is never shown"
+pub ring-never : Simple ring [] start ringBody (0 ∷ 1 ∷ 0 ∷ 2 ∷ []) → ⊥
+ring-never d = let e = ring-only d in let z : _≡_ {A = ℕ} 1 2 = cc in omega arith
+
+-- "Swap case, after document 000 example 3", however its literals are written
+module _ (written : (sort value : ℕ) → ℕ) where
+  -- a literal of a width
+  abbrev pub word : (width value : ℕ) → Label
+  word width value = literal width value (written width value)
+
+  -- operators over non-terminals
+  abbrev over-one : Label → (A : ℕ) → Forest Item
+  over-one o A = tree (the o) (hole A) none
+
+  abbrev over-two : Label → (A : ℕ) → Forest Item
+  over-two o A = tree (the o) (tree (nonTerminal A) none (hole A)) none
+
+  -- by their numbers in the operator table
+  abbrev bvnot : Label
+  bvnot = operator 8 0 0
+
+  abbrev bvand : Label
+  bvand = operator 10 0 0
+
+  abbrev bvor : Label
+  bvor = operator 11 0 0
+
+  abbrev concat : Label
+  concat = operator 21 0 0
+
+  abbrev extract : (i j : ℕ) → Label
+  extract i j = operator 22 i j
+
+  -- BV32 is non-terminal 0, BV16 is 1
+  abbrev pub swap : List Rule
+  swap =
+      rule 0 (only (word 32 0)) ∷ rule 0 (only (word 32 1)) ∷ rule 0 (only (word 32 4294967295)) ∷ rule 0 (only x)
+      ∷ rule 0 (over-two bvand 0) ∷ rule 0 (over-two bvor 0) ∷ rule 0 (over-one bvnot 0) ∷ rule 0 (over-two concat 1)
+      ∷ rule 1 (only (word 16 0)) ∷ rule 1 (only (word 16 1)) ∷ rule 1 (only (word 16 65535))
+      ∷ rule 1 (over-two bvand 1) ∷ rule 1 (over-two bvor 1) ∷ rule 1 (over-one bvnot 1)
+      ∷ rule 1 (over-one (extract 31 16) 0) ∷ rule 1 (over-one (extract 15 0) 0) ∷ []
+
+  -- `(concat ((_ extract 15 0) x) #x0000)`
+  abbrev pub swapBody : Terms
+  swapBody = tree concat (tree (extract 15 0) (tree x none none) (tree (word 16 0) none none)) none
+
+  -- "derivation 7, 15, 3, 8"
+  pub swap-shown : Simple swap [] start swapBody (7 ∷ 15 ∷ 3 ∷ 8 ∷ [])
+  unfolding headOf formOf Fresh
+  swap-shown =
+      let of-x : Simple swap [] (hole 0) (tree x none none) (3 ∷ []) = s-rule 3 (omega arith) refl tt (s-same (same-self x) s-done s-done) s-done in
+      let of-0 : Simple swap [] (hole 1) (tree (word 16 0) none none) (8 ∷ []) =
+      s-rule 8 (omega arith) refl tt (s-same (same-self (word 16 0)) s-done s-done) s-done in
+      s-rule 7 (omega arith) refl tt
+      (s-same (same-self concat) (s-rule 15 (omega arith) refl tt (s-same (same-self (extract 15 0)) of-x s-done) of-0) s-done) s-done

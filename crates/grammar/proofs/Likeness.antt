@@ -1,0 +1,196 @@
+-- Items of a rule and labels of the body that are alike, and the test of their numbers.
+use mathlib.Core.Path.{_≡_, refl, sym, ap, _∙_}
+use mathlib.Core.Logic.{⊎-elim}
+use Prim.Native.Nat.{ℕ, _+_, _*_, _/_, _%_, _<_}
+use native.Mathlib.Omega.{arith}
+use mathlib.Core.Bool.{Bool, true, _&&_, _||_, or-true as or-yes}
+use mathlib.Core.List.{List}
+use borrow.Author.Tests.{eq-eqb, eqb-true}
+use lib.Dec.{eqb}
+use Rattle.forest.specs.Forest.{Forest, count, join, none, tree}
+use Rattle.terms.specs.Labels.{Label, Terms, defined, function, literal, name, operator}
+use Rattle.terms.specs.Nodes.{Plain, codeAt, codeOf, literalKind, nameKind, operandsAt, valueAt, valueOf}
+use Rattle.terms.proofs.Bodies.{Says}
+use Rattle.grammar.specs.Derivation.{AnyLeaf, Item, Proper, SameLabel, anyArgument, anyLiteral, constant, nonTerminal, the, variable}
+use Rattle.grammar.specs.Tables.{anyArgumentKind, anyLiteralKind, itemCode, itemValue}
+use Rattle.grammar.specs.Columns.{alike, argumentFits, literalFits}
+use Rattle.grammar.proofs.Tests.{and-both, and-true, both-equal, equal-both, or-true}
+use Rattle.grammar.proofs.Same.{same-numbers, same-told}
+use Rattle.grammar.proofs.Reading.{ItemSays}
+
+-- an item of a rule derives a label
+pub data Alike : Item → Label → Type 0 where
+  labels : {l m : Label} → SameLabel l m → Alike (the l) m
+  any : {i : Item} {l : Label} → AnyLeaf i l → Alike i l
+
+-- the item is no non-terminal
+abbrev pub NotHole : Item → Type 0
+NotHole i = (A : ℕ) → i ≡ nonTerminal A → ⊥
+
+-- an item that is no label has no operands
+unfoldable pub Bare : Item → Forest Item → Type 0
+Bare (the l) ps = Unit {0}
+Bare (nonTerminal A) ps = ps ≡ none
+Bare (anyLiteral s) ps = ps ≡ none
+Bare (anyArgument s) ps = ps ≡ none
+
+pub any-bare : {i : Item} {l : Label} {ps : Forest Item} → AnyLeaf i l → Bare i ps → ps ≡ none
+unfolding Bare
+any-bare constant b = b
+any-bare variable b = b
+
+-- and it is no non-terminal, nor a label
+pub any-not-hole : {i : Item} {l : Label} → AnyLeaf i l → NotHole i
+any-not-hole constant A e = let z : _≡_ {A = ℕ} 0 1 = cc in omega arith
+any-not-hole variable A e = let z : _≡_ {A = ℕ} 0 1 = cc in omega arith
+
+pub any-not-label : {i : Item} {l : Label} → AnyLeaf i l → (m : Label) → i ≡ the m → ⊥
+any-not-label constant m e = let z : _≡_ {A = ℕ} 0 1 = cc in omega arith
+any-not-label variable m e = let z : _≡_ {A = ℕ} 0 1 = cc in omega arith
+
+-- what a proper form says of its first node
+pub proper-bare : (k : ℕ) (i : Item) (ps qs : Forest Item) → Proper k (tree i ps qs) → Bare i ps
+unfolding Proper Bare
+proper-bare k (the l) ps qs p = tt
+proper-bare k (nonTerminal A) ps qs p = p .1
+proper-bare k (anyLiteral s) ps qs p = p .1
+proper-bare k (anyArgument s) ps qs p = p .1
+
+proper-join : (k : ℕ) (ps qs : Forest Item) → Proper k ps → Proper k qs → Proper k (join ps qs)
+unfolding Proper join
+proper-join k none qs a b = b
+proper-join k (tree (the l) xs ys) qs a b = (a .0, a .1, proper-join k ys qs (a .2) b)
+proper-join k (tree (nonTerminal A) xs ys) qs a b = (a .0, a .1, proper-join k ys qs (a .2) b)
+proper-join k (tree (anyLiteral s) xs ys) qs a b = (a .0, a .1, proper-join k ys qs (a .2) b)
+proper-join k (tree (anyArgument s) xs ys) qs a b = (a .0, a .1, proper-join k ys qs (a .2) b)
+
+-- and of what follows the first node
+pub proper-on : (k : ℕ) (i : Item) (ps qs : Forest Item) → Proper k (tree i ps qs) → Proper k (join ps qs)
+unfolding Proper join
+proper-on k (the l) ps qs p = proper-join k ps qs (p .1) (p .2)
+proper-on k (nonTerminal A) ps qs p = rw (p .1) (p .2)
+proper-on k (anyLiteral s) ps qs p = rw (p .1) (p .2)
+proper-on k (anyArgument s) ps qs p = rw (p .1) (p .2)
+
+-- the kind of a label is none of those of the other items
+pub label-kind : (l : Label) → codeOf l % 16 < 5
+label-kind (literal s v w) = omega arith
+label-kind (name s k) = omega arith
+label-kind (operator o i j) = omega arith
+label-kind (defined k) = omega arith
+label-kind (function k) = omega arith
+
+-- the same code and value
+same-alike : (k : ℕ) (i : Item) (ps qs : Forest Item) (m : Label) → NotHole i → Proper k (tree i ps qs) → Plain m → itemCode i ≡ codeOf m
+    → itemValue i ≡ valueOf m → Alike i m
+unfolding Proper
+same-alike k (the l) ps qs m n p q c v = labels (same-told l m (p .0) q c v)
+same-alike k (nonTerminal A) ps qs m n p q c v = absurd (n A refl)
+same-alike k (anyLiteral s) ps qs m n p q c v = absurd (omega (arith, label-kind m, c))
+same-alike k (anyArgument s) ps qs m n p q c v = absurd (omega (arith, label-kind m, c))
+
+-- the sort that the codes of `(Constant σ)` and of a literal tell
+sort-told : (s t w : ℕ) → t < 128 → (6 + 16 * s) / 16 ≡ (0 + 16 * (t + 128 * w)) / 16 % 128 → t ≡ s
+sort-told s t w q e =
+    let left : (6 + 16 * s) / 16 ≡ s = omega arith in
+    let right : (0 + 16 * (t + 128 * w)) / 16 ≡ t + 128 * w = omega arith in
+    let low : (t + 128 * w) % 128 ≡ t = omega arith in
+    sym low ∙ ap (λ (n : ℕ). n % 128) (sym right) ∙ sym e ∙ left
+
+-- `(Constant σ)`, held against a literal
+literal-alike : (i : Item) (m : Label) → Plain m → literalFits (itemCode i) (codeOf m) ≡ true → Alike i m
+unfolding literalFits
+literal-alike i m q w =
+    let t = and-true _ _ w in
+    let kinds = both-equal _ _ _ _ (t .0) in
+    of i m q (kinds .0) (kinds .1) (eqb-true _ _ (t .1))
+  where
+    of : (i : Item) (m : Label) → Plain m → itemCode i % 16 ≡ anyLiteralKind → codeOf m % 16 ≡ literalKind → itemCode i / 16 ≡ codeOf m / 16 % 128 → Alike i m
+    of (the l) m q k h e = absurd (omega (arith, label-kind l, k))
+    of (nonTerminal A) m q k h e = absurd (omega (arith, k))
+    of (anyArgument s) m q k h e = absurd (omega (arith, k))
+    of (anyLiteral s) (literal t v w) q k h e = rw (sort-told s t w q e) (any constant)
+    of (anyLiteral s) (name t j) q k h e = absurd (omega (arith, h))
+    of (anyLiteral s) (operator o a b) q k h e = absurd (omega (arith, h))
+    of (anyLiteral s) (defined j) q k h e = absurd (omega (arith, h))
+    of (anyLiteral s) (function j) q k h e = absurd (omega (arith, h))
+
+-- `(Variable σ)`, held against a name
+argument-alike : (i : Item) (m : Label) → argumentFits (itemCode i) (codeOf m) ≡ true → Alike i m
+unfolding argumentFits
+argument-alike i m w =
+    let t = and-true _ _ w in
+    let kinds = both-equal _ _ _ _ (t .0) in
+    of i m (kinds .0) (kinds .1) (eqb-true _ _ (t .1))
+  where
+    of : (i : Item) (m : Label) → itemCode i % 16 ≡ anyArgumentKind → codeOf m % 16 ≡ nameKind → itemCode i / 16 ≡ codeOf m / 16 → Alike i m
+    of (the l) m k h e = absurd (omega (arith, label-kind l, k))
+    of (nonTerminal A) m k h e = absurd (omega (arith, k))
+    of (anyLiteral s) m k h e = absurd (omega (arith, k))
+    of (anyArgument s) (name t j) k h e = let z : t ≡ s = omega (arith, e) in rw z (any variable)
+    of (anyArgument s) (literal t v w) k h e = absurd (omega (arith, h))
+    of (anyArgument s) (operator o a b) k h e = absurd (omega (arith, h))
+    of (anyArgument s) (defined j) k h e = absurd (omega (arith, h))
+    of (anyArgument s) (function j) k h e = absurd (omega (arith, h))
+
+-- the tests of the codes and values of an item and a label that are alike
+literal-passes : (s w : ℕ) → s < 128 → literalFits (6 + 16 * s) (0 + 16 * (s + 128 * w)) ≡ true
+unfolding literalFits
+literal-passes s w q =
+    let kind : (6 + 16 * s) % 16 ≡ 6 = omega arith in
+    let found : (0 + 16 * (s + 128 * w)) % 16 ≡ 0 = omega arith in
+    let right : (0 + 16 * (s + 128 * w)) / 16 ≡ s + 128 * w = omega arith in
+    let low : (s + 128 * w) % 128 ≡ s = omega arith in
+    let sorts : (6 + 16 * s) / 16 ≡ (0 + 16 * (s + 128 * w)) / 16 % 128 = rw (right, low) (omega arith) in
+    and-both (equal-both _ _ _ _ kind found) (eq-eqb _ _ sorts)
+
+argument-passes : (s : ℕ) → argumentFits (7 + 16 * s) (1 + 16 * s) ≡ true
+unfolding argumentFits
+argument-passes s =
+    let kind : (7 + 16 * s) % 16 ≡ 7 = omega arith in
+    let found : (1 + 16 * s) % 16 ≡ 1 = omega arith in
+    let sorts : (7 + 16 * s) / 16 ≡ (1 + 16 * s) / 16 = omega arith in
+    and-both (equal-both _ _ _ _ kind found) (eq-eqb _ _ sorts)
+
+alike-numbers : (i : Item) (m : Label) → Plain m → Alike i m
+    → eqb (itemCode i) (codeOf m) && eqb (itemValue i) (valueOf m) || literalFits (itemCode i) (codeOf m) || argumentFits (itemCode i) (codeOf m) ≡ true
+alike-numbers i m q (labels {l} e) = let n = same-numbers l m e in rw (equal-both (codeOf l) (codeOf m) (valueOf l) (valueOf m) (n .0) (n .1))
+alike-numbers i m q (any (constant {s} {v} {w})) = rw (literal-passes s w q, or-yes)
+alike-numbers i m q (any (variable {s} {k})) = rw (argument-passes s, or-yes)
+
+module _ {forms : List ℕ} {p : ℕ} {i : Item} {ps : Forest Item} (x : ItemSays forms p i ps) {body : List ℕ} {j : ℕ} {m : Label} {ts : Terms}
+    (y : Says body j m ts) (plain : Plain m) where
+  abbrev same : Bool
+  same = eqb (codeAt forms p) (codeAt body j) && eqb (valueAt forms p) (valueAt body j)
+
+  abbrev literal? : Bool
+  literal? = literalFits (codeAt forms p) (codeAt body j)
+
+  abbrev argument? : Bool
+  argument? = argumentFits (codeAt forms p) (codeAt body j)
+
+  abbrev operands? : Bool
+  operands? = eqb (operandsAt forms p) (operandsAt body j)
+
+  -- the test passes only for nodes that are alike
+  pub alike-sound : (k : ℕ) (qs : Forest Item) → NotHole i → Proper k (tree i ps qs) → alike forms p body j ≡ true → Alike i m × (count ts ≡ count ps)
+  unfolding alike
+  alike-sound k qs n pr w =
+      let t = and-true operands? (same || literal? || argument?) w in
+      let counts : operandsAt forms p ≡ operandsAt body j = eqb-true _ _ (t .0) in (
+        ⊎-elim
+            (λ e. ⊎-elim
+            (λ s.
+            let both : (codeAt forms p ≡ codeAt body j) × (valueAt forms p ≡ valueAt body j) = both-equal _ _ _ _ s in
+            same-alike k i ps qs m n pr plain (sym (x .code) ∙ both .0 ∙ y .code) (sym (x .value) ∙ both .1 ∙ y .value))
+            (λ s. literal-alike i m plain (rw (x .code, y .code) at s))
+            (or-true same literal? e))
+            (λ e. argument-alike i m (rw (x .code, y .code) at e))
+            (or-true (same || literal?) argument? (t .1)),
+        sym (y .operands) ∙ sym counts ∙ x .operands,
+      )
+
+  -- and it passes for each of them
+  pub alike-complete : Alike i m → count ts ≡ count ps → alike forms p body j ≡ true
+  unfolding alike
+  alike-complete a c = and-both (eq-eqb _ _ (x .operands ∙ sym c ∙ sym (y .operands))) (rw (x .code, x .value, y .code, y .value) (alike-numbers i m plain a))

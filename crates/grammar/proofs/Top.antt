@@ -1,0 +1,119 @@
+-- The check of a whole body.
+use mathlib.Core.Path.{_≡_, refl, sym, ap, _∙_, subst}
+use Prim.Native.Nat.{ℕ, zero, suc, _+_, _-_, _*_, _/_, _<_, _≤_}
+use native.Mathlib.Nat.{zero-add}
+use native.Mathlib.Omega.{arith}
+use borrow.Author.Tests.{not-true, not-false}
+use mathlib.Core.Bool.{Bool, true, false, not, true≢false}
+use mathlib.Core.List.{List, [], _++_}
+use lib.ListN.{length, getD, replicate, take, drop, length-replicate, length-take}
+use lib.Seq.{sets, sets-eq}
+use Rattle.forest.specs.Forest.{none, tree, count, size, from, first}
+use Rattle.forest.proofs.Laws.{count-size, first-all, count-zero}
+use Rattle.terms.specs.Labels.{Terms}
+use Rattle.grammar.specs.Derivation.{nonTerminal, Rule, Derives, Simple}
+use Rattle.grammar.specs.Columns.{has}
+use Rattle.grammar.specs.Steps.{ExactAt, DerivesAt, Asks, AllExact, EmitPre, EmitPost, ShowPre, ShowPost, Shows}
+use Rattle.grammar.specs.Answer.{start, listOf, listSize, unused, DerivePre, DerivePost}
+use Rattle.grammar.proofs.Sweep.{body-size}
+
+-- for one tree, to derive the first tree is to derive it
+to-at : (G : List Rule) (A : ℕ) (F : Terms) → count F ≡ 1 → (ds : List ℕ) → Derives G (tree (nonTerminal A) none none) F ds → DerivesAt G A F
+unfolding DerivesAt count
+to-at G A none c ds d = absurd (omega arith)
+to-at G A (tree s ts us) c ds d = (ds, subst (λ (x : Terms). Derives G (tree (nonTerminal A) none none) (tree s ts x) ds) (count-zero us (omega arith)) d)
+
+first-whole : (F : Terms) → count F ≡ 1 → first 1 F ≡ F
+first-whole F c = ap (λ (k : ℕ). first k F) (sym c) ∙ first-all F
+
+module _ {rules forms body masks₀ masks shown : List ℕ} (len : length masks ≡ length masks₀) (ex : AllExact rules forms body masks) {m : ℕ}
+    (em : m ≡ getD masks 0 0) {b : Bool} (eb : b ≡ has m 0) where
+  abbrev pub some : (p : ShowPre rules forms body masks₀ shown) → 0 < size (p .given .F)
+  some p = omega (arith, p .one, count-size (p .given .F))
+
+  first-mask : (p : ShowPre rules forms body masks₀ shown) → ExactAt (p .given .G) (p .given .F) m
+  unfolding from
+  first-mask p = rw em (ex .exact (p .given) 0 (some p))
+
+  pub show-no : not b ≡ true → (p : ShowPre rules forms body masks₀ shown) → ShowPost rules forms body masks₀ shown p shown false
+  show-no n p = record {
+    yes! = λ t. absurd (true≢false (sym t));
+    no! = λ t. (
+      (λ ds d. true≢false (sym (first-mask p .complete 0 (omega arith) (to-at (p .given .G) 0 (p .given .F) (p .one) ds d)) ∙ sym eb ∙ not-true b n)),
+      refl,
+    );
+  }
+
+  module _ (y : not b ≡ false) where
+    abbrev pub emit-asks : ShowPre rules forms body masks₀ shown → Asks rules forms body masks 0
+    emit-asks p = record { given = p .given; inside = some p; long = len ∙ p .long; exact = λ j l h. ex .exact (p .given) j h }
+
+    pub emit-pre : ShowPre rules forms body masks₀ shown → EmitPre rules forms body masks 0 0 shown 0
+    unfolding from
+    emit-pre p = record {
+      asks = emit-asks p;
+      low = omega arith;
+      derives = first-mask p .sound 0 (omega arith) (sym eb ∙ not-false b y);
+      room = omega (arith, p .room, ap size (first-whole (p .given .F) (p .one)));
+    }
+
+    pub show-yes : {shown' : List ℕ} {w : ℕ}
+        → ((e : EmitPre rules forms body masks 0 0 shown 0) → EmitPost rules forms body masks 0 0 shown 0 e shown' w)
+        → (p : ShowPre rules forms body masks₀ shown) → ShowPost rules forms body masks₀ shown p shown' true
+    unfolding from emit-pre
+    show-yes post p =
+        let x = post (emit-pre p) in
+        let whole = first-whole (p .given .F) (p .one) in
+        record {
+          yes! = λ t. (
+            x .ds,
+            subst (λ (F : Terms). Simple (p .given .G) [] start F (x .ds)) whole (x .derivation),
+            x .wrote,
+            subst (λ (F : Terms). length (x .ds) ≤ 16 * size F) whole (x .few),
+          );
+          no! = λ t. absurd (true≢false t);
+        }
+
+drop-replicate : (k n v : ℕ) → drop k (replicate n v) ≡ replicate (n - k) v
+drop-replicate zero n v = let e : n ≡ n - 0 = omega arith in ap (λ (x : ℕ). replicate x v) e
+drop-replicate (suc k) zero v = let e : 0 ≡ 0 - suc k = omega arith in ap (λ (x : ℕ). replicate x v) e
+drop-replicate (suc k) (suc n) v = let e : n - k ≡ suc n - suc k = omega arith in drop-replicate k n v ∙ ap (λ (x : ℕ). replicate x v) e
+
+sets-unused : (ds : List ℕ) (n : ℕ) → length ds ≤ n → sets (replicate n unused) 0 ds ≡ ds ++ replicate (n - length ds) unused
+sets-unused ds n h =
+    sets-eq ds (replicate n unused) 0 (omega (arith, length-replicate {A = ℕ} n unused))
+    ∙ ap (λ (k : ℕ). ds ++ drop k (replicate n unused)) (zero-add (length ds))
+    ∙ ap (λ (x : List ℕ). ds ++ x) (drop-replicate (length ds) n unused)
+
+module _ {rules forms body area : List ℕ} {k n : ℕ} (en : n ≡ length body / 4) where
+  pub masks-fit : DerivePre rules forms body k area → n ≤ 256
+  masks-fit p = omega (arith, en, body-size (p .given), p .fits)
+
+  module _ (ms : List ℕ) (lm : length ms ≡ 256) {blank : List ℕ} (bl : blank ≡ replicate listSize unused) where
+    abbrev pub show-pre : DerivePre rules forms body k area → ShowPre rules forms body (take n ms) blank
+    show-pre p = record {
+      given = p .given;
+      one = p .one;
+      long = omega (arith, length-take n ms, lm, en, body-size (p .given), p .fits);
+      room = omega (arith, ap length bl, length-replicate {A = ℕ} listSize unused, p .fits);
+    }
+
+    module _ {list : List ℕ} {b : Bool} (post : Shows rules forms body (take n ms) blank list b) where
+      -- the answer is no, and the area is as it was
+      pub derive-no : not b ≡ true → (p : DerivePre rules forms body k area) → DerivePost rules forms body k area p area false
+      derive-no e p = record {
+        yes! = λ t. absurd (true≢false (sym t));
+        no! = λ t. record { none-derives = post (show-pre p) .no! (not-true b e) .0; unchanged = refl };
+      }
+
+      -- the answer is yes, and the list was copied to its place
+      pub derive-yes : not b ≡ false → {area' : List ℕ} → area' ≡ sets area (listSize * k) list → (p : DerivePre rules forms body k area)
+          → DerivePost rules forms body k area p area' true
+      derive-yes e w p =
+          let x = post (show-pre p) .yes! (not-false b e) in
+          let few : length (x .0) ≤ listSize = omega (arith, x .3, p .fits) in
+          let is : list ≡ listOf (x .0) = x .2 ∙ ap (λ (l : List ℕ). sets l 0 (x .0)) bl ∙ sets-unused (x .0) listSize few in
+          record {
+            yes! = λ t. record { ds = x .0; derivation = x .1; few = few; shown = w ∙ ap (sets area (listSize * k)) is };
+            no! = λ t. absurd (true≢false t);
+          }

@@ -1,0 +1,256 @@
+-- The writing of what the non-terminals of a rule derive: the walk of the rule over the body once more, with the list that is written.
+use mathlib.Core.Path.{_≡_, refl, sym, ap, _∙_, subst}
+use Prim.Native.Nat.{ℕ, suc, _+_, _-_, _*_, _<_, _≤_}
+use native.Mathlib.Nat.{add-zero}
+use native.Mathlib.Omega.{arith}
+use mathlib.Core.Bool.{true}
+use mathlib.Core.List.{List, [], _++_, append-assoc, append-nil}
+use lib.ListN.{length, getD, length-append}
+use lib.Seq.{sets, length-sets}
+use Rattle.forest.specs.Forest.{Forest, none, tree, count, size, join, from, first}
+use Rattle.terms.specs.Labels.{Label, Terms}
+use Rattle.terms.specs.Nodes.{codeAt, sizeAt, valueAt}
+use Rattle.forest.proofs.Laws.{Tree, size-join, count-size, count-join, first-join, from-one, from-over, size-zero}
+use Rattle.grammar.specs.Derivation.{Item, nonTerminal, Rule, formOf, Proper, Simple, s-done}
+use Rattle.grammar.specs.Tables.{nonTerminalKind}
+use Rattle.grammar.specs.Columns.{startAt, has}
+use Rattle.grammar.specs.Steps.{Asks, AsksNoChain, Fits, DerivesAt, EmitPre, EmitPost, SpreadPre, SpreadPost}
+use Rattle.grammar.proofs.Meta.{fits-hole-to, fits-node-to}
+use Rattle.grammar.proofs.Simple.{simples, walk-hole}
+use Rattle.grammar.proofs.Splits.{over-first}
+use Rattle.grammar.proofs.Likeness.{proper-bare}
+use Rattle.grammar.proofs.Walk.{At, end, end-is, at-start, step-hole, step-alike, HoleAt, hole-view, hole-late, hole-low, not-hole, rule-tree, body-tree, in-body, node-says, Room, room}
+use Rattle.grammar.proofs.Trail.{sets-append}
+
+size-first : {l : Item} {x qs : Forest Item} {s : Label} {ts us : Terms} (P : Forest Item) (B : Terms) → P ≡ tree l x qs → B ≡ tree s ts us
+    → size (first (count P) B) ≡ suc (size ts + size (first (count qs) us))
+unfolding first count size
+size-first P B eP eF = rw (eP, eF)
+
+pub size-one : {s : Label} {ts us : Terms} (B : Terms) → B ≡ tree s ts us → size (first 1 B) ≡ suc (size ts)
+unfolding first size
+size-one {ts = ts} B eF = ap (λ (x : Terms). size (first 1 x)) eF ∙ ap suc (add-zero (size ts))
+
+module _ {rules forms body masks : List ℕ} {i r : ℕ} {shown₀ : List ℕ} {at₀ : ℕ} (e : SpreadPre rules forms body masks i r shown₀ at₀) where
+  abbrev pub q : AsksNoChain rules forms body masks i r
+  q = e .rule-asks
+
+  abbrev pub G : List Rule
+  G = q .asks .given .G
+
+  abbrev pub F : Terms
+  F = q .asks .given .F
+
+  abbrev pub P : Forest Item
+  P = formOf G r
+
+  abbrev pub D : Forest Item → Terms → List ℕ → Type 0
+  D = Simple G []
+
+  pub record Track (shown : List ℕ) (p j w : ℕ) : Type 0 where
+    pub here : At q p j
+    pub ws : List ℕ
+    pub wrote : shown ≡ sets shown₀ at₀ ws
+    pub next : w ≡ at₀ + length ws
+    pub few : length ws + 16 ≤ 16 * (j - i) + 16 * (1 - (j - i))
+    pub span : j + size (first (count (here .left)) (from F j)) ≡ i + size (first 1 (from F i))
+    pub back : (es : List ℕ) → D (here .left) (first (count (here .left)) (from F j)) es → D P (first 1 (from F i)) (ws ++ es)
+
+  pub track-start : Track shown₀ (startAt rules r) i at₀
+  unfolding at-start
+  track-start = record {
+    here = at-start q;
+    ws = [];
+    wrote = refl;
+    next = sym (add-zero at₀);
+    few = omega arith;
+    span = ap (λ (x : ℕ). i + size (first x (from F i))) (q .asks .given .admitted .single r (q .is-rule));
+    back = λ es d. rw (q .asks .given .admitted .single r (q .is-rule)) at d;
+  }
+
+  pub track-end : {shown : List ℕ} {p j w : ℕ} → Track shown p j w → end q ≤ p → SpreadPost rules forms body masks i r shown₀ at₀ e shown w
+  unfolding first count size
+  track-end {j = j} t h =
+      let e0 : t .here .left ≡ none = size-zero (t .here .left) (omega (arith, t .here .ends)) in
+      let d : D P (first 1 (from F i)) (t .ws ++ []) = t .back [] (rw e0 s-done) in
+      let z : size (first (count (t .here .left)) (from F j)) ≡ 0 = rw e0 in
+      record {
+        ds = t .ws;
+        derivation = rw append-nil at d;
+        wrote = t .wrote;
+        next = t .next;
+        few = omega (arith, t .few, t .span, z, some);
+      }
+    where
+      some : 0 < size (first 1 (from F i))
+      some =
+          let b = body-tree q (startAt rules r) i (at-start q) (omega (arith, count-size P, q .asks .given .admitted .single r (q .is-rule))) in
+          omega (arith, size-one (from F i) (b .is))
+
+  module _ {shown : List ℕ} {p j w : ℕ} (t : Track shown p j w) (h : p < end q) where
+    pub same-length : length shown ≡ length shown₀
+    same-length = ap length (t .wrote) ∙ length-sets shown₀ at₀ (t .ws)
+
+    fit : Fits G (t .here .left) (from F j)
+    fit = t .here .to (e .fits)
+
+    abbrev tree-here : Tree (from F j)
+    tree-here = body-tree q p j (t .here) h
+
+    abbrev view : codeAt forms p ≡ nonTerminalKind → HoleAt q p j (t .here) h
+    view k = hole-view q p j (t .here) h k
+
+    pub hole-after : codeAt forms p ≡ nonTerminalKind → i < j
+    hole-after k = hole-late q p j (t .here) h k
+
+    derived : (k : codeAt forms p ≡ nonTerminalKind) → DerivesAt G (view k .A) (from F j)
+    derived k = let v = view k in fits-hole-to G (v .A) (v .qs) (from F j) (rw (v .is) at fit)
+
+    -- what a call for a non-terminal asks
+    abbrev pub hole-asks : codeAt forms p ≡ nonTerminalKind → Asks rules forms body masks j
+    hole-asks k = record {
+      given = q .asks .given;
+      inside = in-body q p j (t .here) h;
+      long = q .asks .long;
+      exact = λ n l l2. q .asks .exact n (omega (arith, t .here .past)) l2;
+    }
+
+    pub hole-pre : codeAt forms p ≡ nonTerminalKind → EmitPre rules forms body masks j (valueAt forms p) shown w
+    hole-pre k =
+        let v = view k in
+        let s1 = size-first (t .here .left) (from F j) (v .is) (tree-here .is) in
+        let s2 = size-one (from F j) (tree-here .is) in
+        record {
+          asks = hole-asks k;
+          low = hole-low q p j (t .here) h k;
+          derives = rw (v .value) (derived k);
+          room = omega (arith, e .room, t .few, t .span, t .next, same-length, hole-after k);
+        }
+
+    pub track-hole : (k : codeAt forms p ≡ nonTerminalKind) (shown' : List ℕ) (w' : ℕ)
+        → EmitPost rules forms body masks j (valueAt forms p) shown w (hole-pre k) shown' w' → Track shown' (p + 1) (j + sizeAt body j) w'
+    unfolding join hole-pre first step-hole
+    track-hole k shown' w' x =
+        let v = view k in
+        let b = tree-here in
+        let size-b : sizeAt body j ≡ suc (size (b .ops)) = node-says q p j (t .here) h (b .l) (b .ops) (b .rest) (b .is) .size in
+        let eF : from F (j + sizeAt body j) ≡ b .rest = ap (λ (n : ℕ). from F (j + n)) size-b ∙ from-over F j (b .l) (b .ops) (b .rest) (b .is) in
+        let y : has (getD masks j 0) (valueAt forms p) ≡ true =
+        ap (has (getD masks j 0)) (v .value)
+        ∙ q .asks .exact j (hole-after k) (in-body q p j (t .here) h) .complete (v .A) (v .low) (derived k) in
+        let d1 : D (tree (nonTerminal (v .A)) none none) (tree (b .l) (b .ops) none) (x .ds) = rw (v .value, b .is) at (x .derivation) in
+        let s1 = size-first (t .here .left) (from F j) (v .is) (b .is) in
+        let s2 = size-one (from F j) (b .is) in
+        record {
+          here = step-hole q p j (t .here) h k y;
+          ws = t .ws ++ x .ds;
+          wrote =
+              x .wrote
+              ∙ ap (λ (l : List ℕ). sets l w (x .ds)) (t .wrote)
+              ∙ ap (λ (n : ℕ). sets (sets shown₀ at₀ (t .ws)) n (x .ds)) (t .next)
+              ∙ sym (sets-append shown₀ at₀ (t .ws) (x .ds));
+          next = omega (arith, x .next, t .next, length-append (t .ws) (x .ds));
+          few = omega (arith, t .few, x .few, size-b, s2, hole-after k, length-append (t .ws) (x .ds));
+          span = rw eF (omega (arith, t .span, s1, size-b));
+          back = λ es d.
+              let d2 : D (v .qs) (first (count (v .qs)) (b .rest)) es = rw eF at d in
+              let d3 = walk-hole G (v .A) (v .qs) (b .l) (b .ops) (b .rest) (x .ds) es d1 d2 in
+              rw append-assoc (t .back (x .ds ++ es) (rw (v .is, b .is) d3));
+        }
+
+    -- a node that is no non-terminal: nothing is written
+    pub track-node : (codeAt forms p ≡ nonTerminalKind → ⊥) → Track shown (p + 1) (j + 1) w
+    unfolding step-alike
+    track-node k =
+        let l = rule-tree q p j (t .here) h in
+        let b = tree-here in
+        let n = not-hole q p j (t .here) h k in
+        let f = fits-node-to G (l .l) (l .ops) (l .rest) (b .l) (b .ops) (b .rest) n (rw (l .is, b .is) at fit) in
+        let eF1 = from-one F j (b .l) (b .ops) (b .rest) (b .is) in
+        let s1 = size-first (t .here .left) (from F j) (l .is) (b .is) in
+        let s2 : size (first (count (join (l .ops) (l .rest))) (join (b .ops) (b .rest))) ≡ size (b .ops) + size (first (count (l .rest)) (b .rest)) =
+        rw (count-join, ← f .1, first-join) (size-join (b .ops) (first (count (l .rest)) (b .rest))) in
+        let bare = proper-bare 16 (l .l) (l .ops) (l .rest) (subst (Proper 16) (l .is) (t .here .prop)) in
+        record {
+          here = step-alike q p j (t .here) h (l .l) (l .ops) (l .rest) (b .l) (b .ops) (b .rest) (l .is) (b .is) n (f .0) (f .1);
+          ws = t .ws;
+          wrote = t .wrote;
+          next = t .next;
+          few = omega (arith, t .few, t .here .past);
+          span = rw eF1 (omega (arith, t .span, s1, s2));
+          back = λ es d.
+              t .back es
+              (rw (l .is, b .is) (over-first (simples G) (l .l) (b .l) (l .ops) (l .rest) (b .ops) (b .rest) es (f .0) bare (f .1) (rw eF1 at d)));
+        }
+
+-- the loop's invariant
+pub record Inv (rules forms body masks : List ℕ) (i r : ℕ) (shown₀ : List ℕ) (at₀ stop : ℕ) (shown : List ℕ) (p j w : ℕ) : Type 0 where
+  pub pre : SpreadPre rules forms body masks i r shown₀ at₀
+  pub stops : (e : SpreadPre rules forms body masks i r shown₀ at₀) → stop ≡ end (e .rule-asks)
+  pub track : (e : SpreadPre rules forms body masks i r shown₀ at₀) → Track e shown p j w
+  pub same-long : length shown ≡ length shown₀
+
+module _ {rules forms body masks : List ℕ} {i r : ℕ} {shown₀ : List ℕ} {at₀ : ℕ} where
+  pub spread-start : SpreadPre rules forms body masks i r shown₀ at₀ → (p n : ℕ) → p ≡ startAt rules r → n ≡ sizeAt forms p
+      → Inv rules forms body masks i r shown₀ at₀ (p + n) shown₀ p i at₀
+  spread-start e p n ep en = record {
+    pre = e;
+    stops = λ e2. omega (arith, end-is (e2 .rule-asks), en ∙ ap (sizeAt forms) ep);
+    track = λ e2. subst (λ (x : ℕ). Track e2 shown₀ x i at₀) (sym ep) (track-start e2);
+    same-long = refl;
+  }
+
+  module _ {stop : ℕ} {shown : List ℕ} {p j w : ℕ} (v : Inv rules forms body masks i r shown₀ at₀ stop shown p j w) where
+    pub spread-end : stop ≤ p → (e : SpreadPre rules forms body masks i r shown₀ at₀) → SpreadPost rules forms body masks i r shown₀ at₀ e shown w
+    spread-end h e = track-end e (v .track e) (omega (arith, v .stops e))
+
+    module _ (h : p < stop) where
+      pub within : (e : SpreadPre rules forms body masks i r shown₀ at₀) → p < end (e .rule-asks)
+      within e = omega (arith, v .stops e)
+
+      space : Room (v .pre .rule-asks) p j (v .track (v .pre) .here) (within (v .pre))
+      space = room (v .pre .rule-asks) p j (v .track (v .pre) .here) (within (v .pre))
+
+      pub spread-place : p + 1 ≤ length forms
+      spread-place = omega (arith, space .in-forms)
+
+      pub spread-here : j + 1 ≤ length body
+      spread-here = omega (arith, space .in-body)
+
+      pub spread-over : {n : ℕ} → n ≡ sizeAt body j → j + n ≤ length body
+      spread-over en = omega (arith, en, space .over)
+
+      module _ {code : ℕ} (ec : code ≡ codeAt forms p) where
+        pub spread-node : (code ≡ nonTerminalKind → ⊥) → Inv rules forms body masks i r shown₀ at₀ stop shown (p + 1) (j + 1) w
+        spread-node k =
+            record { pre = v .pre; stops = v .stops; track = λ e. track-node e (v .track e) (within e) (λ x. k (ec ∙ x)); same-long = v .same-long }
+
+        module _ (k : code ≡ nonTerminalKind) where
+          pub spread-after : (i < j) × (j < length body)
+          spread-after = (hole-after (v .pre) (v .track (v .pre)) (within (v .pre)) (sym ec ∙ k), omega (arith, space .in-body))
+
+          module _ {x : ℕ} (ex : x ≡ valueAt forms p) where
+            asked : (e : SpreadPre rules forms body masks i r shown₀ at₀) → EmitPre rules forms body masks j (valueAt forms p) shown w
+            asked e = hole-pre e (v .track e) (within e) (sym ec ∙ k)
+
+            pub spread-asks : EmitPre rules forms body masks j x shown w
+            spread-asks = rw ex (asked (v .pre))
+
+            Gives : (shown' : List ℕ) (w' x : ℕ) → Type 0
+            Gives shown' w' x = (e : EmitPre rules forms body masks j x shown w) → EmitPost rules forms body masks j x shown w e shown' w'
+
+            pub spread-hole : {shown' : List ℕ} {w' : ℕ}
+                → ((e : EmitPre rules forms body masks j x shown w) → EmitPost rules forms body masks j x shown w e shown' w') → {n : ℕ}
+                → n ≡ sizeAt body j → length shown' ≡ length shown
+                → Inv rules forms body masks i r shown₀ at₀ stop shown' (p + 1) (j + n) w'
+            unfolding Gives asked
+            spread-hole {shown'} {w'} post {n} en len =
+                let g : Gives shown' w' (valueAt forms p) = subst (Gives shown' w') ex post in
+                record {
+                  pre = v .pre;
+                  stops = v .stops;
+                  track = λ e.
+                      subst (λ (y : ℕ). Track e shown' (p + 1) (j + y) w') (sym en)
+                      (track-hole e (v .track e) (within e) (sym ec ∙ k) shown' w' (g (asked e)));
+                  same-long = len ∙ v .same-long;
+                }

@@ -1,0 +1,218 @@
+-- Following the choices at a place: what has been written, and what is left.
+use mathlib.Core.Path.{_≡_, refl, ap, _∙_, subst}
+use mathlib.Core.Path as path
+use Prim.Native.Nat.{ℕ, suc, _+_, _-_, _<_, _≤_}
+use native.Mathlib.Nat.{add-zero}
+use native.Mathlib.Omega.{arith}
+use mathlib.Core.List.{List, [], _∷_, _++_, append-assoc}
+use lib.ListN.{length, getD, set, length-append, length-set}
+use lib.Seq.{sets, length-sets}
+use Rattle.forest.specs.Forest.{Forest, none, tree, from, first}
+use Rattle.terms.specs.Labels.{Terms}
+use Rattle.terms.specs.Nodes.{codeAt, valueAt}
+use Rattle.grammar.specs.Derivation.{Item, nonTerminal, Rule, headOf, formOf, Fresh, Simple}
+use Rattle.grammar.specs.Tables.{nonTerminalKind}
+use Rattle.grammar.specs.Columns.{startAt}
+use Rattle.grammar.specs.Steps.{Chain, stop, more, Fits, FollowPre, FollowPost}
+use Rattle.grammar.proofs.Simple.{use-one, no-chain-any}
+use Rattle.grammar.proofs.Uses.{chain-view, no-chain-view}
+use Rattle.grammar.proofs.Closed.{here, first-one}
+
+pub sets-append : (l : List ℕ) (i : ℕ) (vs ws : List ℕ) → sets l i (vs ++ ws) ≡ sets (sets l i vs) (i + length vs) ws
+sets-append l i [] ws = ap (λ (k : ℕ). sets l k ws) (path.sym (add-zero i))
+sets-append l i (a ∷ vs) ws =
+    let e : suc i + length vs ≡ i + suc (length vs) = omega arith in
+    sets-append (set l i a) (suc i) vs ws ∙ ap (λ (k : ℕ). sets (sets (set l i a) (suc i) vs) k ws) e
+
+module _ {rules forms chosen : List ℕ} {a : ℕ} {shown₀ : List ℕ} {at : ℕ} (f : FollowPre rules forms chosen a shown₀ at) where
+  abbrev pub G : List Rule
+  G = f .asks .given .G
+
+  abbrev pub T : Terms
+  T = from (f .asks .given .F) (f .i)
+
+  abbrev pub Follows : ℕ → ℕ → Type 0
+  Follows = Chain G T (f .s) chosen
+
+  abbrev pub T1 : Terms
+  T1 = first 1 T
+
+  abbrev pub D : Forest Item → Terms → List ℕ → Type 0
+  D = Simple G []
+
+  -- each of the list has more rules to go than k
+  pub data Above (k : ℕ) : List ℕ → Type 0 where
+    no-one : Above k []
+    and-one : {x : ℕ} {xs : List ℕ} (n : ℕ) → Follows x n → k < n → Above k xs → Above k (x ∷ xs)
+
+  above-less : (k j : ℕ) → j < k → {xs : List ℕ} → Above k xs → Above j xs
+  above-less k j l no-one = no-one
+  above-less k j l (and-one n c h r) = and-one n c (omega arith) (above-less k j l r)
+
+  chain-one : {x n k : ℕ} → Follows x n → Follows x k → n ≡ k
+  chain-one (stop y! lt hd np fi) (stop y2 lt2 hd2 np2 fi2) = refl
+  chain-one (stop y! lt hd np fi) (more B y2 lt2 hd2 is2 c2) = absurd (np B none none is2)
+  chain-one (more B y! lt hd is c) (stop y2 lt2 hd2 np2 fi2) = absurd (np2 B none none is)
+  chain-one (more {k = n} B y! lt hd is c) (more {k = k} B2 y2 lt2 hd2 is2 c2) =
+      let e : B2 ≡ B = cc in
+      ap suc (chain-one c (subst (λ (x : ℕ). Follows x k) e c2))
+
+  fresh : {b k : ℕ} → Follows b k → {xs : List ℕ} → Above k xs → Fresh b xs
+  unfolding Fresh
+  fresh c no-one = tt
+  fresh {b} {k} c (and-one {x = x} n c2 h r) =
+      ((λ e. let q : k ≡ n = chain-one c (subst (λ (z : ℕ). Follows z n) (path.sym e) c2) in omega arith), fresh c r)
+
+  pub record Trail (shown : List ℕ) (b w : ℕ) : Type 0 where
+    pub ws : List ℕ
+    pub k : ℕ
+    pub wrote : shown ≡ sets shown₀ at ws
+    pub next : w ≡ at + length ws
+    pub low : b < 16
+    pub chain : Follows b k
+    pub left : length ws + k ≤ f .k
+    pub seen : List ℕ
+    pub above : Above k seen
+    pub back : (es : List ℕ) → Simple G seen (tree (nonTerminal b) none none) T1 es → D (tree (nonTerminal a) none none) T1 (ws ++ es)
+
+  pub trail-start : Trail shown₀ a at
+  trail-start = record {
+    ws = [];
+    k = f .k;
+    wrote = refl;
+    next = path.sym (add-zero at);
+    low = f .low;
+    chain = f .chain;
+    left = omega arith;
+    seen = [];
+    above = no-one;
+    back = λ es d. d;
+  }
+
+  -- the rule chosen for a member
+  chosen-rule : {b k : ℕ} → Follows b k → getD chosen b 0 < length G
+  chosen-rule (stop y! lt hd np fi) = lt
+  chosen-rule (more B y! lt hd is c) = lt
+
+  chosen-head : {b k : ℕ} → Follows b k → headOf G (getD chosen b 0) ≡ b
+  chosen-head (stop y! lt hd np fi) = hd
+  chosen-head (more B y! lt hd is c) = hd
+
+  chosen-pos : {b k : ℕ} → Follows b k → 0 < k
+  chosen-pos (stop y! lt hd np fi) = omega arith
+  chosen-pos (more B y! lt hd is c) = omega arith
+
+  pub trail-room : {shown : List ℕ} {b w : ℕ} → Trail shown b w → w < length shown
+  trail-room t = omega (arith, f .room, t .left, t .next, ap length (t .wrote), length-sets shown₀ at (t .ws), chosen-pos (t .chain))
+
+  pub trail-few : {shown : List ℕ} {b w : ℕ} → Trail shown b w → getD chosen b 0 < 128
+  trail-few t = omega (arith, chosen-rule (t .chain), f .asks .given .admitted .few)
+
+  -- one rule more in front of what derives its right side
+  one-more : {b k : ℕ} → Follows b k → (seen : List ℕ) → Above k seen → (es : List ℕ)
+      → Simple G (b ∷ seen) (formOf G (getD chosen b 0)) T1 es → Simple G seen (tree (nonTerminal b) none none) T1 (getD chosen b 0 ∷ es)
+  one-more {b} c seen ab es d =
+      let h = here (f .asks) in
+      let e = first-one (f .asks) in
+      let r = getD chosen b 0 in
+      let S = Simple G in
+      let d2 : S (b ∷ seen) (formOf G r) (tree (h .l) (h .ops) none) es = rw e at d in
+      let hd = chosen-head c in
+      let d3 : S (headOf G r ∷ seen) (formOf G r) (tree (h .l) (h .ops) none) es =
+      subst (λ (x : ℕ). S (x ∷ seen) (formOf G r) (tree (h .l) (h .ops) none) es) (path.sym hd) d2 in
+      let fr : Fresh (headOf G r) seen = subst (λ (x : ℕ). Fresh x seen) (path.sym hd) (fresh c ab) in
+      let u = use-one G seen r (h .l) (h .ops) es (chosen-rule c) fr d3 in
+      rw e (subst (λ (x : ℕ). S seen (tree (nonTerminal x) none none) (tree (h .l) (h .ops) none) (r ∷ es)) hd u)
+
+  back-more : (shown : List ℕ) (b w : ℕ) (t : Trail shown b w) (es : List ℕ) → Simple G (b ∷ t .seen) (formOf G (getD chosen b 0)) T1 es
+      → D (tree (nonTerminal a) none none) T1 ((t .ws ++ (getD chosen b 0 ∷ [])) ++ es)
+  back-more shown b w t es d = rw append-assoc (t .back (getD chosen b 0 ∷ es) (one-more (t .chain) (t .seen) (t .above) es d))
+
+  wrote-more : (shown : List ℕ) (b w : ℕ) (t : Trail shown b w) → set shown w (getD chosen b 0) ≡ sets shown₀ at (t .ws ++ (getD chosen b 0 ∷ []))
+  wrote-more shown b w t =
+      ap (λ (x : List ℕ). set x w (getD chosen b 0)) (t .wrote)
+      ∙ ap (λ (x : ℕ). set (sets shown₀ at (t .ws)) x (getD chosen b 0)) (t .next)
+      ∙ path.sym (sets-append shown₀ at (t .ws) (getD chosen b 0 ∷ []))
+
+  pub trail-more : (shown : List ℕ) (b w : ℕ) → Trail shown b w → codeAt forms (startAt rules (getD chosen b 0)) ≡ nonTerminalKind
+      → Trail (set shown w (getD chosen b 0)) (valueAt forms (startAt rules (getD chosen b 0))) (w + 1)
+  trail-more shown b w t k1 = go (t .k) (t .chain) (t .left) (t .above)
+    where
+      r : ℕ
+      r = getD chosen b 0
+
+      go : (k : ℕ) → Follows b k → length (t .ws) + k ≤ f .k → Above k (t .seen)
+          → Trail (set shown w (getD chosen b 0)) (valueAt forms (startAt rules (getD chosen b 0))) (w + 1)
+      go k (stop y! lt hd np fi) l ab = let v = chain-view (f .asks) (getD chosen b 0) lt k1 in absurd (np (v .B) none none (v .is))
+      go (suc k) (more B y! lt hd is c) l ab =
+          let v = chain-view (f .asks) (getD chosen b 0) lt k1 in
+          let eB : B ≡ v .B = cc (v .is) in
+          let eb : B ≡ valueAt forms (startAt rules (getD chosen b 0)) = eB ∙ path.sym (v .value) in
+          record {
+            ws = t .ws ++ (getD chosen b 0 ∷ []);
+            k = k;
+            wrote = wrote-more shown b w t;
+            next = omega (arith, t .next, length-append (t .ws) (getD chosen b 0 ∷ []));
+            low = omega (arith, v .low, v .value);
+            chain = subst (λ (x : ℕ). Follows x k) eb c;
+            left = omega (arith, l, length-append (t .ws) (getD chosen b 0 ∷ []));
+            seen = b ∷ t .seen;
+            above = and-one (suc k) (more B y! lt hd is c) (omega arith) (above-less (suc k) k (omega arith) ab);
+            back = λ es d.
+                back-more shown b w t es
+                (subst (λ (x : Forest Item). Simple G (b ∷ t .seen) x T1 es)
+                (ap (λ (x : ℕ). tree (nonTerminal x) none none) (path.sym eb) ∙ path.sym is) d);
+          }
+
+  pub trail-end : (shown : List ℕ) (b w : ℕ) → Trail shown b w → (codeAt forms (startAt rules (getD chosen b 0)) ≡ nonTerminalKind → ⊥)
+      → FollowPost rules forms chosen a shown₀ at f (set shown w (getD chosen b 0)) (w + 1) (getD chosen b 0)
+  trail-end shown b w t k1 = record {
+    ws = t .ws ++ (getD chosen b 0 ∷ []);
+    wrote = wrote-more shown b w t;
+    next = omega (arith, t .next, length-append (t .ws) (getD chosen b 0 ∷ []));
+    few = omega (arith, t .left, chosen-pos (t .chain), length-append (t .ws) (getD chosen b 0 ∷ []));
+    is-rule = chosen-rule (t .chain);
+    no-chain = no-chain-view (f .asks) (getD chosen b 0) (chosen-rule (t .chain)) k1;
+    fits = fits-end (t .chain);
+    back = λ es d. back-more shown b w t es (no-chain-any G (b ∷ t .seen) (no-chain-view (f .asks) (getD chosen b 0) (chosen-rule (t .chain)) k1) d);
+  }
+    where
+      fits-end : {k : ℕ} → Follows b k → Fits G (formOf G (getD chosen b 0)) T
+      fits-end (stop y! lt hd np fi) = fi
+      fits-end (more B y! lt hd is c) = absurd (no-chain-view (f .asks) (getD chosen b 0) lt k1 B none none is)
+
+-- the loop's invariant, with what the indices need as plain numbers
+pub record Inv (rules forms chosen : List ℕ) (a : ℕ) (shown₀ : List ℕ) (at : ℕ) (shown : List ℕ) (b w : ℕ) : Type 0 where
+  pub pre : FollowPre rules forms chosen a shown₀ at
+  pub trail : (f : FollowPre rules forms chosen a shown₀ at) → Trail f shown b w
+  pub same-length : length shown ≡ length shown₀
+  pub sixteen : length chosen ≡ 16
+  pub low : b < 16
+  pub room : w < length shown
+  pub few : getD chosen b 0 < 128
+
+module _ {rules forms chosen : List ℕ} {a : ℕ} {shown₀ : List ℕ} {at : ℕ} where
+  inv-of : {shown : List ℕ} {b w : ℕ} → FollowPre rules forms chosen a shown₀ at
+      → ((f : FollowPre rules forms chosen a shown₀ at) → Trail f shown b w) → length shown ≡ length shown₀
+      → Inv rules forms chosen a shown₀ at shown b w
+  inv-of p t l = record { pre = p; trail = t; same-length = l; sixteen = p .sixteen; low = t p .low; room = trail-room p (t p); few = trail-few p (t p) }
+
+  pub inv-start : FollowPre rules forms chosen a shown₀ at → Inv rules forms chosen a shown₀ at shown₀ a at
+  inv-start p = inv-of p (λ f. trail-start f) refl
+
+  module _ {shown : List ℕ} {b w : ℕ} (v : Inv rules forms chosen a shown₀ at shown b w) {start code : ℕ}
+      (es : start ≡ startAt rules (getD chosen b 0)) (ec : code ≡ codeAt forms start) where
+    code-is : code ≡ codeAt forms (startAt rules (getD chosen b 0))
+    code-is = ec ∙ ap (codeAt forms) es
+
+    pub turn-more : code ≡ nonTerminalKind → {x : ℕ} → x ≡ valueAt forms start → Inv rules forms chosen a shown₀ at (set shown w (getD chosen b 0)) x (w + 1)
+    turn-more k {x} ex =
+        inv-of (v .pre)
+        (λ f.
+        subst (λ (y : ℕ). Trail f (set shown w (getD chosen b 0)) y (w + 1)) (path.sym (ex ∙ ap (valueAt forms) es))
+        (trail-more f shown b w (v .trail f) (path.sym code-is ∙ k)))
+        (length-set shown w (getD chosen b 0) ∙ v .same-length)
+
+    pub turn-end : (code ≡ nonTerminalKind → ⊥) → (f : FollowPre rules forms chosen a shown₀ at)
+        → FollowPost rules forms chosen a shown₀ at f (set shown w (getD chosen b 0)) (w + 1) (getD chosen b 0)
+    turn-end k f = trail-end f shown b w (v .trail f) (λ e. k (code-is ∙ e))

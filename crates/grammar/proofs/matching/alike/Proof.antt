@@ -1,0 +1,46 @@
+use Rattle.grammar.specs.Columns.{alike}
+use borrow.Author.Needs.{needs}
+use Rattle.grammar.proofs.matching.alike.Statement.{statement}
+use Rattle.grammar.proofs.matching.alike.Tie as tie
+
+code-at-requires : tie.Need-code-at-requires
+code-at-requires c κs = search needs
+
+code-at-requires-2 : tie.Need-code-at-requires-2
+code-at-requires-2 c κs = search needs
+
+value-at-requires : tie.Need-value-at-requires
+value-at-requires c κs = search needs
+
+value-at-requires-2 : tie.Need-value-at-requires-2
+value-at-requires-2 c κs = search needs
+
+literal-fits-requires : tie.Need-literal-fits-requires
+literal-fits-requires c κs = search needs
+
+argument-fits-requires : tie.Need-argument-fits-requires
+argument-fits-requires c κs = search needs
+
+operands-at-requires : tie.Need-operands-at-requires
+operands-at-requires c κs = search needs
+
+operands-at-requires-2 : tie.Need-operands-at-requires-2
+operands-at-requires-2 c κs = search needs
+
+returns : tie.Need-returns
+unfolding alike
+returns c = cc
+
+pub alike-spec : {M : Type 1} → statement M
+alike-spec =
+    tie.close
+    (tie.spec
+    code-at-requires
+    code-at-requires-2
+    value-at-requires
+    value-at-requires-2
+    literal-fits-requires
+    argument-fits-requires
+    operands-at-requires
+    operands-at-requires-2
+    returns)

@@ -1,0 +1,11 @@
+use Rattle.grammar.specs.Columns.{argumentFits}
+use mathlib.Core.Path.{refl}
+use Rattle.grammar.proofs.matching.argument_fits.Statement.{statement}
+use Rattle.grammar.proofs.matching.argument_fits.Tie as tie
+
+returns : tie.Need-returns
+unfolding argumentFits
+returns c = refl
+
+pub argument-fits-spec : {M : Type 1} → statement M
+argument-fits-spec = tie.close (tie.spec returns)

@@ -1,0 +1,56 @@
+use Rattle.grammar.proofs.Top.{show-no, show-yes, emit-pre}
+use borrow.Author.Needs.{needs}
+use Rattle.grammar.proofs.showing.show.Statement.{statement}
+use Rattle.grammar.proofs.showing.show.Tie as tie
+
+fill-masks-requires : tie.Need-fill-masks-requires
+fill-masks-requires c κs = search needs
+
+mask-at-requires : tie.Need-mask-at-requires
+mask-at-requires c κs = search needs
+
+has-requires : tie.Need-has-requires
+has-requires c κs = search needs
+
+same-length : tie.Need-same-length
+same-length c = search needs
+
+returns : tie.Need-returns
+returns c =
+    show-no (c .before .before .before .before .before .before .fill-masks .kept .1 .1 .1 .0)
+    (c .before .before .before .before .before .before .fill-masks .ensures) (c .before .before .mask-at .ensures) (c .before .has .ensures)
+    (c .if1 .taken)
+
+emit-requires : tie.Need-emit-requires
+emit-requires c κs =
+    emit-pre (c .before .before .before .before .before .before .before .before .fill-masks .kept .1 .1 .1 .0)
+    (c .before .before .before .before .before .before .before .before .fill-masks .ensures) (c .before .before .before .before .mask-at .ensures)
+    (c .before .before .before .has .ensures) (c .before .before .if1 .left)
+    (c .before .before .before .before .before .before .before .before .before .before .before .before .before .before .before .pre)
+
+same-length-2 : tie.Need-same-length-2
+same-length-2 c = search needs
+
+same-length-3 : tie.Need-same-length-3
+same-length-3 c = search needs
+
+returns-2 : tie.Need-returns-2
+returns-2 c =
+    show-yes (c .before .before .before .before .before .before .before .before .before .before .before .fill-masks .kept .1 .1 .1 .0)
+    (c .before .before .before .before .before .before .before .before .before .before .before .fill-masks .ensures)
+    (c .before .before .before .before .before .before .before .mask-at .ensures) (c .before .before .before .before .before .before .has .ensures)
+    (c .before .before .before .before .before .if1 .left) (c .before .before .emit .ensures)
+
+pub show-spec : {M : Type 1} → statement M
+show-spec =
+    tie.close
+    (tie.spec
+    fill-masks-requires
+    mask-at-requires
+    has-requires
+    same-length
+    returns
+    emit-requires
+    same-length-2
+    same-length-3
+    returns-2)

@@ -1,0 +1,90 @@
+-- Grammars, and which rules derive which terms.
+use mathlib.Core.Path.{_≡_}
+use Prim.Native.Nat.{ℕ, zero, suc, _<_, _≤_}
+use mathlib.Core.List.{List, [], _∷_, _++_}
+use lib.ListN.{length}
+use Rattle.forest.specs.Forest.{Forest, count, none, tree}
+use Rattle.terms.specs.Labels.{Label, Terms, literal, name}
+use Rattle.terms.specs.Nodes.{Plain}
+
+-- What stands at a node of a rule. "A rule is `(Constant σ)`, `(Variable σ)` or a binder-free term", in which non-terminals stand.
+pub data Item : Type 0 where
+  -- a label of a term
+  the : (label : Label) → Item
+  -- a non-terminal, by its place in the grammar
+  nonTerminal : (A : ℕ) → Item
+  -- `(Constant σ)`
+  anyLiteral : (sort : ℕ) → Item
+  -- `(Variable σ)`
+  anyArgument : (sort : ℕ) → Item
+
+-- "symbols and literals being compared as written": two labels are the same.
+abbrev pub SameLabel : Label → Label → Type 0
+SameLabel l m = l ≡ m
+
+-- "`(Constant σ)` derives any literal of sort σ; `(Variable σ)` any argument of that function of sort σ."
+pub data AnyLeaf : Item → Label → Type 0 where
+  constant : {s v w : ℕ} → AnyLeaf (anyLiteral s) (literal s v w)
+  variable : {s k : ℕ} → AnyLeaf (anyArgument s) (name s k)
+
+-- A rule of the non-terminal A.
+pub data Rule : Type 0 where
+  rule : (A : ℕ) → (form : Forest Item) → Rule
+
+-- The non-terminal of rule r: "Rules are numbered from 0 through the whole grammar."
+unfoldable pub headOf : List Rule → ℕ → ℕ
+headOf [] r = 0
+headOf (rule A form ∷ G) zero = A
+headOf (rule A form ∷ G) (suc r) = headOf G r
+
+-- The right side of rule r.
+unfoldable pub formOf : List Rule → ℕ → Forest Item
+formOf [] r = none
+formOf (rule A form ∷ G) zero = form
+formOf (rule A form ∷ G) (suc r) = formOf G r
+
+-- The forms P derive the terms T, tree by tree, by the rules ds, leftmost first. "A non-terminal derives a term if one of its rules does: a term rule when the term
+-- equals the rule with each non-terminal replaced, place by place, by a term it derives .. The definition doesn't bound a derivation's length."
+pub data Derives (G : List Rule) : Forest Item → Terms → List ℕ → Type 0 where
+  done : Derives G none none []
+  use-rule : {A : ℕ} {ps : Forest Item} {l : Label} {ts us : Terms} {ds es : List ℕ} (r : ℕ) → r < length G → headOf G r ≡ A
+      → Derives G (formOf G r) (tree l ts none) ds → Derives G ps us es
+      → Derives G (tree (nonTerminal A) none ps) (tree l ts us) (r ∷ (ds ++ es))
+  leaf : {i : Item} {l : Label} {ps : Forest Item} {us : Terms} {es : List ℕ} → AnyLeaf i l
+      → Derives G ps us es → Derives G (tree i none ps) (tree l none us) es
+  same : {l m : Label} {ps qs : Forest Item} {ts us : Terms} {ds es : List ℕ} → SameLabel l m
+      → Derives G ps ts ds → Derives G qs us es
+      → Derives G (tree (the l) ps qs) (tree m ts us) (ds ++ es)
+
+-- A is none of the list.
+unfoldable pub Fresh : ℕ → List ℕ → Type 0
+Fresh A [] = Unit {0}
+Fresh A (B ∷ bs) = (A ≡ B → ⊥) × Fresh A bs
+
+-- The same, where "No non-terminal is used twice at the same place of the body": those of `seen` were used at the place of the first tree.
+pub data Simple (G : List Rule) : List ℕ → Forest Item → Terms → List ℕ → Type 0 where
+  s-done : {seen : List ℕ} → Simple G seen none none []
+  s-rule : {seen : List ℕ} {A : ℕ} {ps : Forest Item} {l : Label} {ts us : Terms} {ds es : List ℕ} (r : ℕ)
+      → r < length G → headOf G r ≡ A → Fresh A seen
+      → Simple G (A ∷ seen) (formOf G r) (tree l ts none) ds → Simple G [] ps us es
+      → Simple G seen (tree (nonTerminal A) none ps) (tree l ts us) (r ∷ (ds ++ es))
+  s-leaf : {seen : List ℕ} {i : Item} {l : Label} {ps : Forest Item} {us : Terms} {es : List ℕ} → AnyLeaf i l
+      → Simple G [] ps us es → Simple G seen (tree i none ps) (tree l none us) es
+  s-same : {seen : List ℕ} {l m : Label} {ps qs : Forest Item} {ts us : Terms} {ds es : List ℕ} → SameLabel l m
+      → Simple G [] ps ts ds → Simple G [] qs us es
+      → Simple G seen (tree (the l) ps qs) (tree m ts us) (ds ++ es)
+
+-- Non-terminals are below k, and neither they nor `(Constant σ)` and `(Variable σ)`, whose sorts are below 128, have operands; labels are told by their numbers.
+unfoldable pub Proper : ℕ → Forest Item → Type 0
+Proper k none = Unit {0}
+Proper k (tree (the l) ps qs) = Plain l × Proper k ps × Proper k qs
+Proper k (tree (nonTerminal A) ps qs) = (A < k) × (ps ≡ none) × Proper k qs
+Proper k (tree (anyLiteral s) ps qs) = (s < 128) × (ps ≡ none) × Proper k qs
+Proper k (tree (anyArgument s) ps qs) = (s < 128) × (ps ≡ none) × Proper k qs
+
+-- The rules that document 01 admits: "16 non-terminals and 128 rules a grammar", each right side one term.
+pub record Admitted (G : List Rule) : Type 0 where
+  pub few : length G ≤ 128
+  pub low : (r : ℕ) → r < length G → headOf G r < 16
+  pub proper : (r : ℕ) → r < length G → Proper 16 (formOf G r)
+  pub single : (r : ℕ) → r < length G → count (formOf G r) ≡ 1

@@ -1,0 +1,65 @@
+-- The grammar and the body as tables of numbers.
+use mathlib.Core.Path.{_≡_}
+use Prim.Native.Nat.{ℕ, suc, _+_, _*_}
+use mathlib.Core.List.{List, [], _∷_}
+use Rattle.forest.specs.Forest.{Forest, Node, count, join, nodesOf, none, size}
+use Rattle.forest.specs.Rows.{rows}
+use Rattle.terms.specs.Labels.{Terms}
+use Rattle.terms.specs.Nodes.{AllPlain, codeOf, nodeTable, valueOf}
+use Rattle.grammar.specs.Derivation.{Admitted, Item, Rule, anyArgument, anyLiteral, nonTerminal, rule, the}
+
+-- The kinds of a rule's nodes in the table, besides those of labels.
+abbrev pub nonTerminalKind : ℕ
+nonTerminalKind = 5
+
+abbrev pub anyLiteralKind : ℕ
+anyLiteralKind = 6
+
+abbrev pub anyArgumentKind : ℕ
+anyArgumentKind = 7
+
+-- The code of a node of a rule: its kind, and with it the sort of `(Constant σ)` or `(Variable σ)`.
+abbrev pub itemCode : Item → ℕ
+itemCode (the l) = codeOf l
+itemCode (nonTerminal A) = nonTerminalKind
+itemCode (anyLiteral s) = anyLiteralKind + 16 * s
+itemCode (anyArgument s) = anyArgumentKind + 16 * s
+
+-- The value of a node of a rule: a label's, or a non-terminal's number.
+abbrev pub itemValue : Item → ℕ
+itemValue (the l) = valueOf l
+itemValue (nonTerminal A) = A
+itemValue (anyLiteral s) = 0
+itemValue (anyArgument s) = 0
+
+-- The row of a node of a rule: its code and value, how many operands it has, and how many nodes its tree has.
+abbrev pub itemRow : Node Item → List ℕ
+itemRow n = itemCode (n .label) ∷ itemValue (n .label) ∷ count (n .operands) ∷ suc (size (n .operands)) ∷ []
+
+-- The table of forms.
+unfoldable pub formTable : Forest Item → List ℕ
+formTable F = rows itemRow (nodesOf F)
+
+-- The right sides of all rules, one after the other.
+unfoldable pub rightSides : List Rule → Forest Item
+rightSides [] = none
+rightSides (rule A form ∷ G) = join form (rightSides G)
+
+-- Two numbers for each rule: the node where its right side starts, and its non-terminal.
+unfoldable pub ruleTable : ℕ → List Rule → List ℕ
+ruleTable start [] = []
+ruleTable start (rule A form ∷ G) = start ∷ A ∷ ruleTable (start + size form) G
+
+-- The three slices hold the rules G, their right sides, and the body F.
+pub record Holds (rules forms body : List ℕ) (G : List Rule) (F : Terms) : Type 0 where
+  pub is-rules : rules ≡ ruleTable 0 G
+  pub is-forms : forms ≡ formTable (rightSides G)
+  pub is-body : body ≡ nodeTable F
+  pub plain : AllPlain F
+
+-- The grammar and the body that the tables hold.
+pub record Given (rules forms body : List ℕ) : Type 0 where
+  pub G : List Rule
+  pub F : Terms
+  pub holds : Holds rules forms body G F
+  pub admitted : Admitted G

@@ -1,0 +1,63 @@
+//! Whether the rules of a grammar derive a body, and by which rules.
+//!
+//! `rules` has two numbers for each rule: the node of `forms` where its right side starts, and its non-terminal.
+//! `forms` and `body` are node tables: the right sides of all rules, and the body.
+ghost use mathlib.Core.Path.{_≡_};
+ghost use Prim.Native.Nat.{_+_, _≤_};
+ghost use lib.ListN.{length, replicate};
+ghost use lib.Seq.{sets};
+ghost use Rattle.grammar.specs.Answer.{Decides, DerivePre, listSize, unused};
+use terms::ROW;
+
+mod filling;
+mod masks;
+mod matching;
+mod rules;
+mod showing;
+
+// How many rule numbers the list of one function has room for.
+const LIST: usize = 4096;
+
+// An entry that no list uses.
+const UNUSED: u16 = 65535;
+
+// A mask for each node of a body.
+fn no_masks() -> [u64; 256]
+    ensures { λ r. ⌜ length r ≡ 256 ⌝ }
+{
+    [0u64; 256]
+}
+
+// A list of one function with every entry unused.
+fn blank() -> [u16; 4096]
+    ensures { λ r. ⌜ r ≡ replicate listSize unused ⌝ }
+{
+    [UNUSED; 4096]
+}
+
+// Copies a list into the area, from `at` on.
+fn copy(list: &[u16], area: &mut [u16], at: usize)
+    requires { ⌜ at + length (now list) ≤ length (now area) ⌝ }
+    ensures { λ _. ⌜ now (area .exit) ≡ sets (now (area .entry)) at (now (list .entry)) ⌝ }
+{
+    let mut i: usize = 0;
+    while i < list.len() {
+        area[at + i] = list[i];
+        i += 1;
+    }
+}
+
+// Whether the start derives the body; if so, function k's list in the area gets a derivation, and its other entries are unused.
+pub fn derive(rules: &[u64], forms: &[u64], body: &[u64], k: usize, area: &mut [u16]) -> bool
+    requires { ⌜ DerivePre (now rules) (now forms) (now body) k (now area) ⌝ }
+    ensures { λ r. ⌜ Decides (now (rules .entry)) (now (forms .entry)) (now (body .entry)) k (now (area .entry)) (now (area .exit)) r ⌝ }
+{
+    let count = body.len() / ROW;
+    let mut masks = no_masks();
+    let mut list = blank();
+    if !showing::show(rules, forms, body, &mut masks[..count], &mut list) {
+        return false;
+    }
+    copy(&list, area, LIST * k);
+    true
+}

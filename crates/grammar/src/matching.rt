@@ -1,0 +1,106 @@
+//! Whether a rule derives the tree at a node of the body, where the masks of the later nodes are known.
+ghost use mathlib.Core.Path.{_≡_};
+ghost use Rattle.grammar.specs.Columns.{alike, argumentFits, literalFits};
+ghost use Rattle.grammar.specs.Steps.{Answers, AsksNoChain, AsksRule, Matched};
+use crate::masks::has;
+use crate::masks::mask_at;
+use crate::rules::start_at;
+use terms::LITERAL;
+use terms::NAME;
+use terms::code_at;
+use terms::operands_at;
+use terms::size_at;
+use terms::value_at;
+
+// The kinds of a rule's nodes, besides those of labels: a non-terminal, `(Constant σ)` and `(Variable σ)`.
+pub const NON_TERMINAL: u64 = 5;
+
+const ANY_LITERAL: u64 = 6;
+
+const ANY_ARGUMENT: u64 = 7;
+
+// A code is a kind, and 16 times what else it says.
+const KINDS: u64 = 16;
+
+// A literal's code says its sort below how it is written.
+const SORTS: u64 = 128;
+
+// Whether a node of a rule is `(Constant σ)`, and one of the body a literal of that sort.
+fn literal_fits(code: u64, found: u64) -> bool
+    ensures { λ r. ⌜ r ≡ literalFits code found ⌝ }
+{
+    (code % KINDS == ANY_LITERAL)
+        & (found % KINDS == LITERAL)
+        & (code / KINDS == found / KINDS % SORTS)
+}
+
+// Whether a node of a rule is `(Variable σ)`, and one of the body a name of that sort.
+fn argument_fits(code: u64, found: u64) -> bool
+    ensures { λ r. ⌜ r ≡ argumentFits code found ⌝ }
+{
+    (code % KINDS == ANY_ARGUMENT) & (found % KINDS == NAME) & (code / KINDS == found / KINDS)
+}
+
+// Whether a node of a rule, which is no non-terminal, and a node of the body are alike.
+fn alike(forms: &[u64], place: usize, body: &[u64], here: usize) -> bool
+    ensures { λ r. ⌜ r ≡ alike (now (forms .entry)) place (now (body .entry)) here ⌝ }
+{
+    let code = code_at(forms, place);
+    let found = code_at(body, here);
+    let same = (code == found) & (value_at(forms, place) == value_at(body, here));
+    let fits = same | literal_fits(code, found) | argument_fits(code, found);
+    (operands_at(forms, place) == operands_at(body, here)) & fits
+}
+
+// Whether a rule that is no chain rule derives the tree at a node of the body, given the masks past it.
+fn matches(
+    rules: &[u64],
+    forms: &[u64],
+    body: &[u64],
+    masks: &[u64],
+    node: usize,
+    rule: usize,
+) -> bool
+    requires { ⌜ AsksNoChain (now rules) (now forms) (now body) (now masks) node rule ⌝ }
+    ensures { λ b. ⌜ Matched (now (rules .entry)) (now (forms .entry)) (now (body .entry)) (now (masks .entry)) node rule b ⌝ }
+{
+    let mut place = start_at(rules, rule);
+    let end = place + size_at(forms, place);
+    let mut here = node;
+    while place < end {
+        if code_at(forms, place) == NON_TERMINAL {
+            if !has(mask_at(masks, here), value_at(forms, place)) {
+                return false;
+            }
+            here += size_at(body, here);
+            place += 1;
+        } else {
+            if !alike(forms, place, body, here) {
+                return false;
+            }
+            here += 1;
+            place += 1;
+        }
+    }
+    true
+}
+
+// Whether a rule can be used at a node, where the non-terminals of `known` are known to derive it.
+pub fn applies(
+    rules: &[u64],
+    forms: &[u64],
+    body: &[u64],
+    masks: &[u64],
+    node: usize,
+    known: u64,
+    rule: usize,
+) -> bool
+    requires { ⌜ AsksRule (now rules) (now forms) (now body) (now masks) node rule ⌝ }
+    ensures { λ b. ⌜ Answers (now (rules .entry)) (now (forms .entry)) (now (body .entry)) (now (masks .entry)) node known rule b ⌝ }
+{
+    let start = start_at(rules, rule);
+    if code_at(forms, start) == NON_TERMINAL {
+        return has(known, value_at(forms, start));
+    }
+    matches(rules, forms, body, masks, node, rule)
+}

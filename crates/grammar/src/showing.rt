@@ -1,0 +1,131 @@
+//! The derivation that is shown: the numbers of the rules used, leftmost first.
+ghost use Rattle.grammar.specs.Steps.{EmitPre, Emits, FollowPre, Follows, ShowPre, Shows, SpreadPre, Spreads};
+use crate::filling::derivers;
+use crate::filling::fill_masks;
+use crate::masks::has;
+use crate::masks::mask_at;
+use crate::matching::NON_TERMINAL;
+use crate::rules::start_at;
+use terms::code_at;
+use terms::size_at;
+use terms::value_at;
+
+// The first non-terminal.
+const START: u64 = 0;
+
+// Where the next rule is written, and the rule that is no chain rule.
+struct Followed {
+    at: usize,
+    rule: usize,
+}
+
+// Writes the chain rules that the choices lead through from a non-terminal, and the rule at their end.
+fn follow(
+    rules: &[u64],
+    forms: &[u64],
+    chosen: &[u64],
+    nonterminal: u64,
+    shown: &mut [u16],
+    at: usize,
+) -> Followed
+    requires { ⌜ FollowPre (now rules) (now forms) (now chosen) nonterminal (now shown) at ⌝ }
+    ensures { λ x. ⌜ Follows (now (rules .entry)) (now (forms .entry)) (now (chosen .entry))
+        nonterminal (now (shown .entry)) at (now (shown .exit)) (x .at) (x .rule) ⌝ }
+{
+    let mut current = nonterminal;
+    let mut next = at;
+    loop {
+        let rule = chosen[current as usize] as usize;
+        shown[next] = rule as u16;
+        next += 1;
+        let start = start_at(rules, rule);
+        if code_at(forms, start) != NON_TERMINAL {
+            return Followed {
+                at: next,
+                rule: rule,
+            };
+        }
+        current = value_at(forms, start);
+    }
+}
+
+// Writes a derivation of the tree at a node from a non-terminal, from `at` on; returns the next free place.
+fn emit(
+    rules: &[u64],
+    forms: &[u64],
+    body: &[u64],
+    masks: &[u64],
+    node: usize,
+    nonterminal: u64,
+    shown: &mut [u16],
+    at: usize,
+) -> usize
+    requires { ⌜ EmitPre (now rules) (now forms) (now body) (now masks) node nonterminal (now shown) at ⌝ }
+    ensures { λ x. ⌜ Emits (now (rules .entry)) (now (forms .entry)) (now (body .entry)) (now (masks .entry)) node
+        nonterminal (now (shown .entry)) at (now (shown .exit)) x ⌝ }
+{
+    let mut chosen = [0u64; 16];
+    derivers(rules, forms, body, masks, node, &mut chosen);
+    let end = follow(rules, forms, &chosen, nonterminal, shown, at);
+    spread(rules, forms, body, masks, node, end.rule, shown, end.at)
+}
+
+// Writes derivations for the non-terminals of a rule, which is no chain rule, at a node.
+fn spread(
+    rules: &[u64],
+    forms: &[u64],
+    body: &[u64],
+    masks: &[u64],
+    node: usize,
+    rule: usize,
+    shown: &mut [u16],
+    at: usize,
+) -> usize
+    requires { ⌜ SpreadPre (now rules) (now forms) (now body) (now masks) node rule (now shown) at ⌝ }
+    ensures { λ x. ⌜ Spreads (now (rules .entry)) (now (forms .entry)) (now (body .entry)) (now (masks .entry))
+        node rule (now (shown .entry)) at (now (shown .exit)) x ⌝ }
+{
+    let mut place = start_at(rules, rule);
+    let end = place + size_at(forms, place);
+    let mut here = node;
+    let mut next = at;
+    while place < end {
+        if code_at(forms, place) == NON_TERMINAL {
+            next = emit(
+                rules,
+                forms,
+                body,
+                masks,
+                here,
+                value_at(forms, place),
+                shown,
+                next,
+            );
+            here += size_at(body, here);
+            place += 1;
+        } else {
+            here += 1;
+            place += 1;
+        }
+    }
+    next
+}
+
+// Whether the start derives the body; a derivation goes to the front of the list.
+pub fn show(
+    rules: &[u64],
+    forms: &[u64],
+    body: &[u64],
+    masks: &mut [u64],
+    shown: &mut [u16],
+) -> bool
+    requires { ⌜ ShowPre (now rules) (now forms) (now body) (now masks) (now shown) ⌝ }
+    ensures { λ r. ⌜ Shows (now (rules .entry)) (now (forms .entry)) (now (body .entry)) (now (masks .entry)) (now (shown .entry)) (now (shown .exit)) r ⌝ }
+{
+    fill_masks(rules, forms, body, masks);
+    if !has(mask_at(masks, 0), START) {
+        return false;
+    }
+    emit(rules, forms, body, masks, 0, START, shown, 0);
+    true
+}

@@ -1,0 +1,15 @@
+pub mod PointLists
+pub mod Parts
+pub mod Fitting
+pub mod Bodies
+pub mod Cursors
+pub mod Sums
+pub mod CostTurns
+pub mod Prices
+pub mod Operators
+pub mod Arguments
+pub mod Operands
+pub mod LabelValues
+pub mod Evaluating
+pub mod Runs
+pub mod PointRuns

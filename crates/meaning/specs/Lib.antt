@@ -1,0 +1,5 @@
+pub mod Tables
+pub mod Budget
+pub mod Points
+pub mod Running
+pub mod Steps

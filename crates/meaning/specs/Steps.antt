@@ -1,0 +1,200 @@
+-- What the functions of this crate ask and give.
+use Prim.Native.Nat.{ℕ, _+_, _*_, _≤_, _<_}
+use mathlib.Core.List.{List, [], _∷_}
+use mathlib.Core.Option.{some}
+use mathlib.Core.Path.{_≡_}
+use lib.ListN.{getD, length, take}
+use lib.Seq.{sets}
+use Rattle.forest.specs.Forest.{count, from, join, size}
+use Rattle.bits.specs.Operators.{operatorSort, operatorValue}
+use Rattle.bits.specs.Sorts.{AllFit, bool}
+use Rattle.terms.specs.Costs.{costOf}
+use Rattle.terms.specs.Labels.{Terms}
+use Rattle.terms.specs.Sorts.{Definition}
+use Rattle.terms.specs.Values.{numbersIn, sortsIn, value, valuesAt}
+use Rattle.terms.specs.declared.Value.{Value}
+use Rattle.meaning.specs.Budget.{Priced, held}
+use Rattle.meaning.specs.Points.{pointAt, pointCount}
+use Rattle.meaning.specs.Running.{runPoints, runTerms}
+use Rattle.meaning.specs.Tables.{CallsKnown, Holds, Stands, mostArguments, mostDefined, mostFunctions}
+use Rattle.meaning.specs.declared.Ran.{Ran}
+
+-- The numbers at the front of `env` are those of the point.
+abbrev pub Names : (env : List ℕ) (point : List Value) → Type 0
+Names env point = take (length point) env ≡ numbersIn point
+
+-- A term that has a value stands at node i, and costs no more than `left`.
+pub record Evaluable (nodes bodies env : List ℕ) (i left : ℕ) : Type 0 where
+  pub defs : List Definition
+  pub funs : List Definition
+  pub holds : Holds nodes bodies defs funs
+  pub point : List Value
+  pub names : Names env point
+  pub fits : AllFit (sortsIn point) (numbersIn point)
+  pub t : Terms
+  pub stands : Stands (holds .all) i t
+  pub v : Value
+  pub has : valuesAt defs funs point t ≡ some (v ∷ [])
+  pub cost : costOf defs funs t ≤ left
+
+-- The value of the term.
+abbrev pub Evaluated : (nodes bodies env : List ℕ) (i left : ℕ) (r : Value) → Type 0
+Evaluated nodes bodies env i left r = (e : Evaluable nodes bodies env i left) → r ≡ e .v
+
+-- At most 8 operands that have values stand from node i up to node `stop`, and cost no more than `left`.
+pub record OperandsEvaluable (nodes bodies env : List ℕ) (i stop left : ℕ) : Type 0 where
+  pub defs : List Definition
+  pub funs : List Definition
+  pub holds : Holds nodes bodies defs funs
+  pub point : List Value
+  pub names : Names env point
+  pub fits : AllFit (sortsIn point) (numbersIn point)
+  pub ops : Terms
+  pub rest : Terms
+  pub at : from (holds .all) i ≡ join ops rest
+  pub ends : stop ≡ i + size ops
+  pub few : count ops ≤ mostArguments
+  pub vs : List Value
+  pub has : valuesAt defs funs point ops ≡ some vs
+  pub cost : costOf defs funs ops ≤ left
+
+-- The numbers of the operands at the front of the eight, and the sorts of the first two.
+pub record OperandsAre (args after : List ℕ) (one two : ℕ) (vs : List Value) : Type 0 where
+  pub numbers : after ≡ sets args 0 (numbersIn vs)
+  pub sort-one : one ≡ getD (sortsIn vs) 0 0
+  pub sort-two : two ≡ getD (sortsIn vs) 1 0
+
+abbrev pub OperandsEvaluated : (nodes bodies env : List ℕ) (i stop left : ℕ) (args after : List ℕ) (one two : ℕ) → Type 0
+OperandsEvaluated nodes bodies env i stop left args after one two = (e : OperandsEvaluable nodes bodies env i stop left) → OperandsAre args after one two (e .vs)
+
+-- Operands of values that operator o gives a value: the sorts of the first two and the numbers of the first three; what is not there is 0.
+pub record OperatorReady (o v one two a b c : ℕ) : Type 0 where
+  pub i : ℕ
+  pub j : ℕ
+  pub v-is : v ≡ 64 * i + j
+  pub small : j < 64
+  pub vs : List Value
+  pub fit : AllFit (sortsIn vs) (numbersIn vs)
+  pub sort : ℕ
+  pub sorted : operatorSort o i j (sortsIn vs) ≡ some sort
+  pub sort-one : one ≡ getD (sortsIn vs) 0 0
+  pub sort-two : two ≡ getD (sortsIn vs) 1 0
+  pub is-one : a ≡ getD (numbersIn vs) 0 0
+  pub is-two : b ≡ getD (numbersIn vs) 1 0
+  pub is-three : c ≡ getD (numbersIn vs) 2 0
+
+-- The value that it gives them.
+abbrev pub OperatorGave : (o v one two a b c : ℕ) (r : Value) → Type 0
+OperatorGave o v one two a b c r =
+    (e : OperatorReady o v one two a b c) → r ≡ value (e .sort) (operatorValue o (e .i) (e .j) (sortsIn (e .vs)) (numbersIn (e .vs)))
+
+-- A term stands at node i, and the costs of the bodies that it calls are known.
+pub record Costing (nodes bodies costs : List ℕ) (i : ℕ) : Type 0 where
+  pub defs : List Definition
+  pub funs : List Definition
+  pub holds : Holds nodes bodies defs funs
+  pub priced : Priced costs defs funs
+  pub t : Terms
+  pub stands : Stands (holds .all) i t
+  pub calls : CallsKnown (length defs) (length funs) t
+
+-- What is held of its cost.
+abbrev pub Cost : (nodes bodies costs : List ℕ) (i r : ℕ) → Type 0
+Cost nodes bodies costs i r = (e : Costing nodes bodies costs i) → r ≡ held (costOf (e .defs) (e .funs) (e .t))
+
+-- A term stands at node i, the costs of the bodies that it calls are known, and it has this cost.
+pub record Priceable (nodes bodies costs : List ℕ) (i price : ℕ) : Type 0 where
+  pub costing : Costing nodes bodies costs i
+  pub is : price ≡ costOf (costing .defs) (costing .funs) (costing .t)
+
+-- The list `after` has what is held of the first k prices from place `base` on, and before that what the list `costs` has.
+pub record FilledTo (costs after : List ℕ) (base k : ℕ) (price : ℕ → ℕ) : Type 0 where
+  pub kept : (j : ℕ) → j < base → getD after j 0 ≡ getD costs j 0
+  pub filled : (j : ℕ) → j < k → getD after (base + j) 0 ≡ held (price j)
+  pub as-long : length after ≡ length costs
+
+-- Bodies whose nodes stand from place `base` on, `count` of them; the cost of each can be told once those of the bodies before it are filled in.
+pub record Filling (nodes bodies costs : List ℕ) (base count : ℕ) : Type 0 where
+  pub long : length costs ≡ mostDefined + mostFunctions
+  pub room : base + count ≤ mostDefined + mostFunctions
+  pub price : ℕ → ℕ
+  pub bodies-at : (k : ℕ) → k < count → (after : List ℕ) → FilledTo costs after base k price → Priceable nodes bodies after (getD bodies (base + k) 0) (price k)
+
+-- Their costs, filled in.
+abbrev pub FilledIn : (nodes bodies costs after : List ℕ) (base count : ℕ) → Type 0
+FilledIn nodes bodies costs after base count = (e : Filling nodes bodies costs base count) → FilledTo costs after base count (e .price)
+
+-- The terms stand at the nodes that the list has.
+unfoldable pub TermsAt : (all : Terms) → (places : List ℕ) → List Terms → Type 0
+TermsAt all [] [] = Unit {0}
+TermsAt all [] (t ∷ ts) = ⊥
+TermsAt all (i ∷ places) [] = ⊥
+TermsAt all (i ∷ places) (t ∷ ts) = Stands all i t × TermsAt all places ts
+
+-- The term has one value at the point, and it is a Bool.
+pub record HasTruth (defs funs : List Definition) (point : List Value) (t : Terms) : Type 0 where
+  pub v : Value
+  pub is : valuesAt defs funs point t ≡ some (v ∷ [])
+  pub truth : v .sort ≡ bool
+
+-- Each of the terms has one value at the point, a Bool.
+unfoldable pub AllValued : (defs funs : List Definition) → (point : List Value) → List Terms → Type 0
+AllValued defs funs point [] = Unit {0}
+AllValued defs funs point (t ∷ ts) = HasTruth defs funs point t × AllValued defs funs point ts
+
+-- Terms that can be run one after the other at a point.
+pub record Runnable (nodes bodies costs places env : List ℕ) : Type 0 where
+  pub defs : List Definition
+  pub funs : List Definition
+  pub holds : Holds nodes bodies defs funs
+  pub priced : Priced costs defs funs
+  pub point : List Value
+  pub names : Names env point
+  pub fits : AllFit (sortsIn point) (numbersIn point)
+  pub terms : List Terms
+  pub terms-at : TermsAt (holds .all) places terms
+  pub valued : AllValued defs funs point terms
+
+-- What running them finds.
+abbrev pub TermsRan : (nodes bodies costs places env : List ℕ) (p left : ℕ) (r : Ran) → Type 0
+TermsRan nodes bodies costs places env p left r =
+    (e : Runnable nodes bodies costs places env) → r ≡ runTerms (e .defs) (e .funs) (e .point) (e .terms) p 0 left
+
+-- Terms that can be run at every point of a list.
+pub record PointsRunnable (nodes bodies costs places sorts numbers : List ℕ) : Type 0 where
+  pub defs : List Definition
+  pub funs : List Definition
+  pub holds : Holds nodes bodies defs funs
+  pub priced : Priced costs defs funs
+  pub terms : List Terms
+  pub terms-at : TermsAt (holds .all) places terms
+  pub whole : pointCount (length sorts) (length numbers) * length sorts ≡ length numbers
+  pub fits : (p : ℕ) → p < pointCount (length sorts) (length numbers) → AllFit sorts (numbersIn (pointAt sorts numbers p))
+  pub valued : (p : ℕ) → p < pointCount (length sorts) (length numbers) → AllValued defs funs (pointAt sorts numbers p) terms
+
+-- What running them finds.
+abbrev pub PointsRan : (nodes bodies costs places sorts numbers : List ℕ) (budget : ℕ) (r : Ran) → Type 0
+PointsRan nodes bodies costs places sorts numbers budget r =
+    (e : PointsRunnable nodes bodies costs places sorts numbers)
+    → r ≡ runPoints (e .defs) (e .funs) sorts numbers (e .terms) (pointCount (length sorts) (length numbers)) 0 budget
+
+-- Tables that hold functions whose bodies' costs are to be filled in.
+pub record Pricing (nodes bodies : List ℕ) (definedCount functionCount : ℕ) : Type 0 where
+  pub defs : List Definition
+  pub funs : List Definition
+  pub holds : Holds nodes bodies defs funs
+  pub defined-are : definedCount ≡ length defs
+  pub functions-are : functionCount ≡ length funs
+
+-- The costs, filled in.
+abbrev pub Prices : (nodes bodies : List ℕ) (definedCount functionCount : ℕ) (costs : List ℕ) → Type 0
+Prices nodes bodies definedCount functionCount costs = (e : Pricing nodes bodies definedCount functionCount) → Priced costs (e .defs) (e .funs)
+
+-- Each of the sorts is `Bool` or a width to 64.
+pub record SortsSmall (sorts : List ℕ) : Type 0 where
+  pub small : (i : ℕ) → getD sorts i 0 ≤ 64
+
+-- The same, and there is a variable where there is a number.
+pub record VariableSorts (sorts numbers : List ℕ) : Type 0 where
+  pub small : (i : ℕ) → getD sorts i 0 ≤ 64
+  pub some-variable : 0 < length numbers → 0 < length sorts

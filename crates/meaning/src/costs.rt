@@ -1,0 +1,91 @@
+//! Costs, held as 64-bit numbers that are exact against every budget.
+use terms::DEFINED;
+use terms::FUNCTION;
+use terms::code_at;
+use terms::size_at;
+use terms::value_at;
+ghost use mathlib.Core.Path.{_≡_};
+ghost use Prim.Native.Nat.{_+_, _-_, _^_, min};
+ghost use lib.ListN.{getD};
+ghost use Rattle.meaning.specs.Steps.{Cost, Costing, FilledIn, Filling, Prices, Pricing};
+ghost use Rattle.meaning.specs.Tables.{bodyPlace};
+
+// How many `define-fun`s there may be; the bodies of synthesized functions have their places behind these.
+pub const MOST_DEFINED: usize = 32;
+
+// A place that no body has.
+pub const NO_PLACE: usize = 40;
+
+// a + b, or 2^64 - 1 where that is less.
+fn saturating(a: u64, b: u64) -> u64
+    ensures { λ r. ⌜ r ≡ min (a + b) (2 ^ 64 - 1) ⌝ }
+{
+    if b <= u64::MAX - a { a + b } else { u64::MAX }
+}
+
+// Number `i` of a list, 0 past its end.
+pub fn number_in(list: &[u64], i: usize) -> u64
+    ensures { λ r. ⌜ r ≡ getD (now (list .entry)) i 0 ⌝ }
+{
+    if i < list.len() {
+        return list[i];
+    }
+    0
+}
+
+// The place of the body of the function that a label applies; `NO_PLACE` for a label that applies none.
+pub fn body_place(code: u64, value: u64) -> usize
+    ensures { λ r. ⌜ r ≡ bodyPlace code value ⌝ }
+{
+    let kind = code % 16;
+    if (kind == DEFINED) & (value < 32) {
+        return value as usize;
+    }
+    if (kind == FUNCTION) & (value < 8) {
+        return MOST_DEFINED + value as usize;
+    }
+    NO_PLACE
+}
+
+// What is held of the cost of the term at node `i`: its nodes, and the bodies that they apply.
+pub fn cost_at(nodes: &[u64], bodies: &[u64], costs: &[u64], i: usize) -> u64
+    requires { ⌜ Costing (now nodes) (now bodies) (now costs) i ⌝ }
+    ensures { λ r. ⌜ Cost (now (nodes .entry)) (now (bodies .entry)) (now (costs .entry)) i r ⌝ }
+{
+    let size = size_at(nodes, i);
+    let stop = i + size;
+    let mut sum = (size - 1) as u64;
+    let mut j = i;
+    while j < stop {
+        let place = body_place(code_at(nodes, j), value_at(nodes, j));
+        if place < NO_PLACE {
+            sum = saturating(saturating(sum, number_in(costs, place)), 1);
+        }
+        j += 1;
+    }
+    sum
+}
+
+// Fills in what is held of the costs of the bodies from place `base` on, `count` of them.
+fn fill_from(nodes: &[u64], bodies: &[u64], costs: &mut [u64; 40], base: usize, count: usize)
+    requires { ⌜ Filling (now nodes) (now bodies) (now costs) base count ⌝ }
+    ensures { λ r. ⌜ FilledIn (now (nodes .entry)) (now (bodies .entry)) (now (costs .entry)) (now (costs .exit)) base count ⌝ }
+{
+    let mut k = 0;
+    while k < count {
+        let cost = cost_at(nodes, bodies, costs, number_in(bodies, base + k) as usize);
+        costs[base + k] = cost;
+        k += 1;
+    }
+}
+
+// What is held of the costs of all bodies: of the `define-fun`s in their order, then of the synthesized functions.
+pub fn body_costs(nodes: &[u64], bodies: &[u64], defined: usize, functions: usize) -> [u64; 40]
+    requires { ⌜ Pricing (now nodes) (now bodies) defined functions ⌝ }
+    ensures { λ r. ⌜ Prices (now (nodes .entry)) (now (bodies .entry)) defined functions r ⌝ }
+{
+    let mut costs = [0u64; 40];
+    fill_from(nodes, bodies, &mut costs, 0, defined);
+    fill_from(nodes, bodies, &mut costs, MOST_DEFINED, functions);
+    costs
+}

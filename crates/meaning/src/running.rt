@@ -1,0 +1,93 @@
+//! The run over points and terms in order, within a budget.
+use crate::Ran;
+use crate::costs::cost_at;
+use crate::evaluator::eval_term;
+use crate::points::point_count;
+ghost use mathlib.Core.Path.{_≡_};
+ghost use mathlib.Core.Bool.{Bool};
+ghost use lib.ListN.{length};
+ghost use Rattle.meaning.specs.Running.{allPassed, leftOf};
+ghost use Rattle.meaning.specs.Steps.{PointsRan, PointsRunnable, Runnable, TermsRan};
+
+// What is left of the budget.
+pub fn left_of(ran: Ran) -> u64
+    ensures { λ r. ⌜ r ≡ leftOf ran ⌝ }
+{
+    match ran {
+        Ran::Passed(left) => left,
+        Ran::False(_, _, left) => left,
+        Ran::Ended(_, _, left) => left,
+    }
+}
+
+// Whether all terms were true.
+pub fn all_passed(ran: Ran) -> bool
+    ensures { λ r. ⌜ r ≡ allPassed ran ⌝ }
+{
+    match ran {
+        Ran::Passed(_) => true,
+        Ran::False(_, _, _) => false,
+        Ran::Ended(_, _, _) => false,
+    }
+}
+
+// Runs the terms that begin at the nodes of `places`, one after the other, at point `p`, whose values `env` has.
+pub fn run_terms(
+    nodes: &[u64],
+    bodies: &[u64],
+    costs: &[u64],
+    places: &[u64],
+    env: &[u64],
+    p: usize,
+    budget: u64,
+) -> Ran
+    requires { ⌜ Runnable (now nodes) (now bodies) (now costs) (now places) (now env) ⌝ }
+    ensures { λ r. ⌜ TermsRan (now (nodes .entry)) (now (bodies .entry)) (now (costs .entry)) (now (places .entry)) (now (env .entry)) p budget r ⌝ }
+{
+    let mut left = budget;
+    let mut k = 0;
+    while k < places.len() {
+        let i = places[k] as usize;
+        let cost = cost_at(nodes, bodies, costs, i);
+        if left <= cost {
+            return Ran::Ended(p, k, left);
+        }
+        let v = eval_term(nodes, bodies, env, i, left);
+        left = left - cost - 1;
+        if v.number != 1 {
+            return Ran::False(p, k, left);
+        }
+        k += 1;
+    }
+    Ran::Passed(left)
+}
+
+// Runs the terms at each point of a list that is whole points, where the variables have these sorts.
+pub fn run_points(
+    nodes: &[u64],
+    bodies: &[u64],
+    costs: &[u64],
+    places: &[u64],
+    sorts: &[u64],
+    numbers: &[u64],
+    budget: u64,
+) -> Ran
+    requires { ⌜ PointsRunnable (now nodes) (now bodies) (now costs) (now places) (now sorts) (now numbers) ⌝ }
+    ensures { λ r. ⌜ PointsRan (now (nodes .entry)) (now (bodies .entry)) (now (costs .entry)) (now (places .entry)) (now (sorts .entry)) (now (numbers .entry)) budget r ⌝ }
+{
+    let width = sorts.len();
+    let count = point_count(width, numbers.len());
+    let mut left = budget;
+    let mut p = 0;
+    while p < count {
+        let start = p * width;
+        let end = start + width;
+        let ran = run_terms(nodes, bodies, costs, places, &numbers[start..end], p, left);
+        if !all_passed(ran) {
+            return ran;
+        }
+        left = left_of(ran);
+        p += 1;
+    }
+    Ran::Passed(left)
+}

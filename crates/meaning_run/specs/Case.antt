@@ -1,0 +1,62 @@
+-- A small case: a `define-fun`, a synthesized function, two constraints and two points, all of 8 bits.
+use Prim.Native.Nat.{ℕ}
+use mathlib.Core.List.{List, [], _∷_}
+use Rattle.forest.specs.Forest.{none, tree}
+use Rattle.terms.specs.Labels.{Terms, defined, function, literal, name, operator}
+use Rattle.terms.specs.Sorts.{Definition}
+use Rattle.meaning.specs.declared.Ran.{Ran}
+use Rattle.meaning.specs.declared.Ran.the-variants.{Ended, False, Passed}
+
+-- The name x, and the terms that follow it.
+abbrev pub x : Terms → Terms
+x rest = tree (name 8 0) none rest
+
+-- "`d0` = (bvadd x x)"
+abbrev pub d0 : Definition
+d0 = record { signature = record { arguments = 8 ∷ []; result = 8 }; body = tree (operator 13 0 0) (x (x none)) none }
+
+-- The function f0, whose body applies d0 twice.
+abbrev pub f0 : Definition
+f0 = record { signature = record { arguments = 8 ∷ []; result = 8 }; body = tree (defined 0) (tree (defined 0) (x none) none) none }
+
+-- (= (f0 x) (bvshl x #x02))
+abbrev pub shifted : Terms
+shifted = tree (operator 5 0 0) (tree (function 0) (x none) (tree (operator 18 0 0) (x (tree (literal 8 2 0) none none)) none)) none
+
+-- (bvult (f0 x) #x80)
+abbrev pub small : Terms
+small = tree (operator 20 0 0) (tree (function 0) (x none) (tree (literal 8 128 0) none none)) none
+
+-- The terms of the case, one after the other.
+abbrev pub all : Terms
+all =
+    tree (operator 13 0 0) (x (x none))
+    (tree (defined 0) (tree (defined 0) (x none) none)
+    (tree (operator 5 0 0) (tree (function 0) (x none) (tree (operator 18 0 0) (x (tree (literal 8 2 0) none none)) none))
+    (tree (operator 20 0 0) (tree (function 0) (x none) (tree (literal 8 128 0) none none)) none)))
+
+-- The definitions and the constraints.
+abbrev pub defs : List Definition
+defs = d0 ∷ []
+
+abbrev pub funs : List Definition
+funs = f0 ∷ []
+
+abbrev pub constraints : List Terms
+constraints = shifted ∷ small ∷ []
+
+-- The nodes at which the constraints begin, the sorts of the variables, and the points x = 3 and x = 33.
+abbrev pub places : List ℕ
+places = 6 ∷ 12 ∷ []
+
+abbrev pub sorts : List ℕ
+sorts = 8 ∷ []
+
+abbrev pub numbers : List ℕ
+numbers = 3 ∷ 33 ∷ []
+
+-- The number of the answer that a run leads to: "0 accepted", "14 constraint false", "15 budget ended".
+abbrev pub answerOf : Ran → ℕ
+answerOf (Passed left) = 0
+answerOf (False p k left) = 14
+answerOf (Ended p k left) = 15

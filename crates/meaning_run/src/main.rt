@@ -1,0 +1,163 @@
+//! Runs a small case: its costs, a value, and the run over its points with different budgets.
+use meaning::Ran;
+use meaning::costs::body_costs;
+use meaning::costs::cost_at;
+use meaning::evaluator::eval_term;
+use meaning::running::left_of;
+use meaning::running::run_points;
+ghost use mathlib.Core.Path.{_≡_};
+ghost use lib.ListN.{getD, replicate, set};
+ghost use Rattle.terms.specs.Costs.{costOf};
+ghost use Rattle.terms.specs.Nodes.{nodeTable};
+ghost use Rattle.meaning.specs.Budget.{Priced, held};
+ghost use Rattle.meaning.specs.Running.{runPoints};
+ghost use Rattle.meaning_run.specs.Case.{all, answerOf, constraints, defs, funs, numbers, shifted, sorts};
+
+// The node table of the case: the bodies of d0 and f0, and the two constraints.
+fn nodes() -> [u64; 64]
+    ensures { λ r. ⌜ r ≡ nodeTable all ⌝ }
+{
+    [
+        210,
+        0,
+        2,
+        3,
+        129,
+        0,
+        0,
+        1,
+        129,
+        0,
+        0,
+        1,
+        3,
+        0,
+        1,
+        3,
+        3,
+        0,
+        1,
+        2,
+        129,
+        0,
+        0,
+        1,
+        82,
+        0,
+        2,
+        6,
+        4,
+        0,
+        1,
+        2,
+        129,
+        0,
+        0,
+        1,
+        290,
+        0,
+        2,
+        3,
+        129,
+        0,
+        0,
+        1,
+        128,
+        2,
+        0,
+        1,
+        322,
+        0,
+        2,
+        4,
+        4,
+        0,
+        1,
+        2,
+        129,
+        0,
+        0,
+        1,
+        128,
+        128,
+        0,
+        1,
+    ]
+}
+
+// The nodes at which the bodies begin: d0's is node 0, f0's is node 3.
+fn bodies() -> [u64; 40]
+    ensures { λ r. ⌜ r ≡ set (replicate 40 0) 32 3 ⌝ }
+{
+    let mut bodies = [0u64; 40];
+    bodies[32] = 3;
+    bodies
+}
+
+// What is held of the costs of the bodies.
+fn prices() -> [u64; 40]
+    ensures { λ r. ⌜ Priced r defs funs ⌝ }
+{
+    let nodes = nodes();
+    let bodies = bodies();
+    body_costs(&nodes, &bodies, 1, 1)
+}
+
+// What is held of the cost of the first constraint.
+fn cost() -> u64
+    ensures { λ r. ⌜ r ≡ held (costOf defs funs shifted) ⌝ }
+{
+    let nodes = nodes();
+    let bodies = bodies();
+    let costs = prices();
+    cost_at(&nodes, &bodies, &costs, 6)
+}
+
+// The number of the first constraint's value where x is 33.
+fn value() -> u64
+    ensures { λ r. ⌜ r ≡ 1 ⌝ }
+{
+    let nodes = nodes();
+    let bodies = bodies();
+    let env = [33u64; 1];
+    let v = eval_term(&nodes, &bodies, &env, 6, 15);
+    v.number
+}
+
+// What the run over the two points finds.
+fn run(budget: u64) -> Ran
+    ensures { λ r. ⌜ r ≡ runPoints defs funs sorts numbers constraints 2 0 budget ⌝ }
+{
+    let nodes = nodes();
+    let bodies = bodies();
+    let costs = prices();
+    run_points(
+        &nodes,
+        &bodies,
+        &costs,
+        &[6u64, 12],
+        &[8u64; 1],
+        &[3u64, 33],
+        budget,
+    )
+}
+
+// The number of the answer that a run leads to: "0 accepted", "14 constraint false", "15 budget ended".
+fn answer(ran: Ran) -> u64
+    ensures { λ r. ⌜ r ≡ answerOf ran ⌝ }
+{
+    match ran {
+        Ran::Passed(_) => 0,
+        Ran::False(_, _, _) => 14,
+        Ran::Ended(_, _, _) => 15,
+    }
+}
+
+fn main() {
+    check::expect(cost() == 14);
+    check::expect(value() == 1);
+    check::expect(answer(run(100)) == 14);
+    check::expect(left_of(run(100)) == 44);
+    check::expect(answer(run(55)) == 15);
+    check::expect(left_of(run(55)) == 12);
+}

@@ -1,0 +1,56 @@
+//! The evaluator and the run for C, so that the stack they need can be measured and a case can be run on tables made by hand. Their callers answer for the tables.
+use meaning::costs::body_costs;
+use meaning::evaluator::eval_term;
+use meaning::running::all_passed;
+use meaning::running::left_of;
+use meaning::running::run_points;
+ghost use Rattle.meaning.specs.Steps.{Evaluable, PointsRunnable, Pricing};
+
+// The number of the value of the term at node `i`.
+#[no_mangle]
+pub extern "C" fn sverdhyll_measured_eval(
+    nodes: &[u64],
+    bodies: &[u64],
+    env: &[u64],
+    i: usize,
+    left: u64,
+) -> u64
+    requires { ⌜ Evaluable (now nodes) (now bodies) (now env) i left ⌝ }
+{
+    let v = eval_term(nodes, bodies, env, i, left);
+    v.number
+}
+
+// Runs the terms at `places` at each point, with the costs that are lent; puts what is left of the budget into `left`, and says whether all were true.
+#[no_mangle]
+pub extern "C" fn sverdhyll_measured_run(
+    nodes: &[u64],
+    bodies: &[u64],
+    costs: &[u64],
+    places: &[u64],
+    sorts: &[u64],
+    numbers: &[u64],
+    budget: u64,
+    left: &mut u64,
+) -> bool
+    requires { ⌜ PointsRunnable (now nodes) (now bodies) (now costs) (now places) (now sorts) (now numbers) ⌝ }
+{
+    let ran = run_points(nodes, bodies, costs, places, sorts, numbers, budget);
+    *left = left_of(ran);
+    all_passed(ran)
+}
+
+// What is held of the cost of body `place`.
+#[no_mangle]
+pub extern "C" fn sverdhyll_measured_cost(
+    nodes: &[u64],
+    bodies: &[u64],
+    defined: usize,
+    functions: usize,
+    place: usize,
+) -> u64
+    requires { ⌜ Pricing (now nodes) (now bodies) defined functions ⌝ }
+{
+    let costs = body_costs(nodes, bodies, defined, functions);
+    if place < 40 { costs[place] } else { 0 }
+}

@@ -1,0 +1,69 @@
+use Prim.Native.Nat.{_-_, _≤_}
+use borrow.Author.Needs.{needs}
+use Rattle.operators_run.proofs.line.Statement.{statement}
+use Rattle.operators_run.proofs.line.Tie as tie
+
+abbrev Inv-loop : tie.InvT-loop
+Inv-loop n o₀ t3 t4 o = o ≤ 23
+
+abbrev μ-loop : tie.MeasureT-loop
+μ-loop n o₀ t3 t4 o = 23 - o
+
+print-decimal-requires : tie.Need-print-decimal-requires Inv-loop μ-loop
+print-decimal-requires c κs = search needs
+
+loop-holds : tie.Need-loop-holds Inv-loop μ-loop
+loop-holds c = search needs
+
+slice-aggregate-write-all : tie.Need-slice-aggregate-write-all Inv-loop μ-loop
+slice-aggregate-write-all c = search needs
+
+write-all-requires : tie.Need-write-all-requires Inv-loop μ-loop
+write-all-requires c κs = search needs
+
+edges-requires : tie.Need-edges-requires Inv-loop μ-loop
+edges-requires c κs = search needs
+
+pairs-requires : tie.Need-pairs-requires Inv-loop μ-loop
+pairs-requires c κs = search needs
+
+print-hex-requires : tie.Need-print-hex-requires Inv-loop μ-loop
+print-hex-requires c κs = search needs
+
+add-o : tie.Need-add-o Inv-loop μ-loop
+add-o c = search needs
+
+loop-less : tie.Need-loop-less Inv-loop μ-loop
+loop-less c = search needs
+
+loop-again : tie.Need-loop-again Inv-loop μ-loop
+loop-again c = search needs
+
+slice-aggregate-write-all-2 : tie.Need-slice-aggregate-write-all-2 Inv-loop μ-loop
+slice-aggregate-write-all-2 c = search needs
+
+write-all-requires-2 : tie.Need-write-all-requires-2 Inv-loop μ-loop
+write-all-requires-2 c κs = search needs
+
+returns : tie.Need-returns Inv-loop μ-loop
+returns c = search needs
+
+pub line-spec : {M : Type 1} → statement M
+line-spec =
+    tie.close
+    (tie.spec
+    Inv-loop
+    μ-loop
+    print-decimal-requires
+    loop-holds
+    slice-aggregate-write-all
+    write-all-requires
+    edges-requires
+    pairs-requires
+    print-hex-requires
+    add-o
+    loop-less
+    loop-again
+    slice-aggregate-write-all-2
+    write-all-requires-2
+    returns)

@@ -1,0 +1,13 @@
+use borrow.Author.Needs.{needs}
+use Rattle.operators_run.proofs.Taken.{low-word}
+use Rattle.operators_run.proofs.low.Statement.{statement}
+use Rattle.operators_run.proofs.low.Tie as tie
+
+ones-requires : tie.Need-ones-requires
+ones-requires c κs = search needs
+
+returns : tie.Need-returns
+returns c = search low-word
+
+pub low-spec : {M : Type 1} → statement M
+low-spec = tie.close (tie.spec ones-requires returns)

@@ -1,0 +1,85 @@
+use borrow.Author.Needs.{needs}
+use Rattle.operators_run.proofs.Taken.{choice-taken, logic-taken, plain-taken, rule-is}
+use Rattle.operators_run.proofs.value.Statement.{statement}
+use Rattle.operators_run.proofs.value.Tie as tie
+
+low-requires : tie.Need-low-requires
+low-requires c κs = search needs
+
+low-requires-2 : tie.Need-low-requires-2
+low-requires-2 c κs = search needs
+
+rule-of-requires : tie.Need-rule-of-requires
+rule-of-requires c κs = search needs
+
+low-requires-3 : tie.Need-low-requires-3
+low-requires-3 c κs = search needs
+
+low-requires-4 : tie.Need-low-requires-4
+low-requires-4 c κs = search needs
+
+second-requires : tie.Need-second-requires
+second-requires c κs = search needs
+
+apply-requires : tie.Need-apply-requires
+apply-requires c κs = search logic-taken
+
+low-requires-5 : tie.Need-low-requires-5
+low-requires-5 c κs = search needs
+
+apply-requires-2 : tie.Need-apply-requires-2
+apply-requires-2 c κs = search choice-taken
+
+joined-requires : tie.Need-joined-requires
+joined-requires c κs = (search needs, rule-is _ (c .before .rule-of .ensures) (c .match .keys3), search needs)
+
+extracted-requires : tie.Need-extracted-requires
+extracted-requires c κs = (search needs, rule-is _ (c .before .rule-of .ensures) (c .match .keys4), search needs)
+
+second-requires-2 : tie.Need-second-requires-2
+second-requires-2 c κs = search needs
+
+second-requires-3 : tie.Need-second-requires-3
+second-requires-3 c κs = search needs
+
+apply-requires-3 : tie.Need-apply-requires-3
+apply-requires-3 c κs = search plain-taken
+
+returns : tie.Need-returns
+returns c = search needs
+
+returns-2 : tie.Need-returns-2
+returns-2 c = search needs
+
+returns-3 : tie.Need-returns-3
+returns-3 c = search needs
+
+returns-4 : tie.Need-returns-4
+returns-4 c = search needs
+
+returns-5 : tie.Need-returns-5
+returns-5 c = search needs
+
+pub value-spec : {M : Type 1} → statement M
+value-spec =
+    tie.close
+    (tie.spec
+    low-requires
+    low-requires-2
+    rule-of-requires
+    low-requires-3
+    low-requires-4
+    second-requires
+    apply-requires
+    low-requires-5
+    apply-requires-2
+    joined-requires
+    extracted-requires
+    second-requires-2
+    second-requires-3
+    apply-requires-3
+    returns
+    returns-2
+    returns-3
+    returns-4
+    returns-5)

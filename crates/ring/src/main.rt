@@ -1,0 +1,39 @@
+//! The Ring case of document 01: A has the rule B; B has A and x. The body x, of function 1, shows the rules 0 and 2.
+ghost use lib.ListN.{length};
+ghost use mathlib.Core.Path.{_≡_};
+
+// The place in the area where function 1's list starts.
+const PLACE: usize = 4096;
+
+// An area in which no list is shown.
+fn unused_area() -> [u16; 32768]
+    ensures { λ r. ⌜ length r ≡ 32768 ⌝ }
+{
+    [65535u16; 32768]
+}
+
+// A rule number in print.
+fn digit(rule: u16) -> u8 {
+    if rule < 10 {
+        return b'0' + (rule as u8);
+    }
+    b'-'
+}
+
+fn main() {
+    let rules: [u64; 6] = [0, 0, 1, 1, 2, 1];
+    let forms: [u64; 12] = [5, 1, 0, 1, 5, 0, 0, 1, 513, 0, 0, 1];
+    let body: [u64; 4] = [513, 0, 0, 1];
+    let mut area = unused_area();
+    if grammar::derive(&rules, &forms, &body, 1, &mut area) {
+        let line = [
+            digit(area[PLACE]),
+            b' ',
+            digit(area[PLACE + 1]),
+            b' ',
+            digit(area[PLACE + 2]),
+            b'\n',
+        ];
+        io::write_all(1, &line);
+    }
+}

@@ -1,0 +1,5 @@
+pub mod Sorted
+pub mod Sound
+pub mod Unsorted
+pub mod Bodies
+pub mod Bench

@@ -1,0 +1,5 @@
+pub mod Labels
+pub mod Sorts
+pub mod Costs
+pub mod Values
+pub mod Nodes

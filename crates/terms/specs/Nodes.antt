@@ -1,0 +1,79 @@
+-- The node table: four numbers for each node of terms, in the order of the text.
+use Prim.Native.Nat.{ℕ, suc, _+_, _*_, _<_}
+use mathlib.Core.List.{List, [], _∷_}
+use Rattle.forest.specs.Forest.{Node, count, nodesOf, none, size, tree}
+use Rattle.forest.specs.Rows.{numberAt, rows}
+use Rattle.terms.specs.Labels.{Label, Terms, defined, function, literal, name, operator}
+
+-- The kinds of labels in the table: a number below 16.
+abbrev pub literalKind : ℕ
+literalKind = 0
+
+abbrev pub nameKind : ℕ
+nameKind = 1
+
+abbrev pub operatorKind : ℕ
+operatorKind = 2
+
+abbrev pub definedKind : ℕ
+definedKind = 3
+
+abbrev pub functionKind : ℕ
+functionKind = 4
+
+-- The code of a label: its kind, and with it a literal's sort and how it is written, a name's sort, or an operator's number.
+abbrev pub codeOf : Label → ℕ
+codeOf (literal s v w) = literalKind + 16 * (s + 128 * w)
+codeOf (name s k) = nameKind + 16 * s
+codeOf (operator o i j) = operatorKind + 16 * o
+codeOf (defined k) = definedKind
+codeOf (function k) = functionKind
+
+-- The value of a label: a literal's, the numbers of `(_ extract i j)`, or which name or function it is.
+abbrev pub valueOf : Label → ℕ
+valueOf (literal s v w) = v
+valueOf (name s k) = k
+valueOf (operator o i j) = 64 * i + j
+valueOf (defined k) = k
+valueOf (function k) = k
+
+-- How many numbers a row has.
+abbrev pub rowWidth : ℕ
+rowWidth = 4
+
+-- The row of a node: its label's code and value, how many operands it has, and how many nodes its tree has.
+abbrev pub nodeRow : Node Label → List ℕ
+nodeRow n = codeOf (n .label) ∷ valueOf (n .label) ∷ count (n .operands) ∷ suc (size (n .operands)) ∷ []
+
+-- The table of terms.
+unfoldable pub nodeTable : Terms → List ℕ
+nodeTable t = rows nodeRow (nodesOf t)
+
+-- The code of node i.
+abbrev pub codeAt : List ℕ → ℕ → ℕ
+codeAt nodes i = numberAt rowWidth nodes i 0
+
+-- The value of node i.
+abbrev pub valueAt : List ℕ → ℕ → ℕ
+valueAt nodes i = numberAt rowWidth nodes i 1
+
+-- How many operands node i has.
+abbrev pub operandsAt : List ℕ → ℕ → ℕ
+operandsAt nodes i = numberAt rowWidth nodes i 2
+
+-- How many nodes the tree at node i has.
+abbrev pub sizeAt : List ℕ → ℕ → ℕ
+sizeAt nodes i = numberAt rowWidth nodes i 3
+
+-- A label that its two numbers tell.
+abbrev pub Plain : Label → Type 0
+Plain (literal s v w) = s < 128
+Plain (operator o i j) = j < 64
+Plain (name s k) = Unit {0}
+Plain (defined k) = Unit {0}
+Plain (function k) = Unit {0}
+
+-- Terms all of whose labels are told by their numbers.
+unfoldable pub AllPlain : Terms → Type 0
+AllPlain none = Unit {0}
+AllPlain (tree l ops rest) = Plain l × AllPlain ops × AllPlain rest

@@ -1,0 +1,251 @@
+//! "Values and cost", and the points.
+
+use crate::grammar::Sorted;
+use crate::operators::Sort;
+use crate::script::Script;
+use crate::terms::{extract_indices, operands};
+use crate::tree::Tree;
+use crate::words::Kind;
+use std::collections::HashMap;
+
+/// A value of either sort.
+#[derive(Clone, Copy, Debug, PartialEq, Eq)]
+pub enum Value {
+    Bool(bool),
+    Bits { width: u32, bits: u64 },
+}
+
+/// A `define-fun` or a synthesized function: its arguments, its body and the body's cost.
+struct Function<'a> {
+    arguments: &'a [Sorted],
+    body: &'a Tree,
+    cost: u128,
+}
+
+/// All functions by name; where an argument has the same name, the argument is meant.
+pub struct Functions<'a> {
+    by_name: HashMap<&'a str, Function<'a>>,
+}
+
+/// The values of arguments or variables by name.
+type Values<'a> = HashMap<&'a str, Value>;
+
+/// How the evaluation of the points ended.
+pub enum Outcome {
+    Accepted { points: usize },
+    False { point: usize, constraint: usize },
+    BudgetEnded { point: usize, constraint: usize },
+}
+
+/// 16: "point list not whole points, or value outside its sort": "list length, or first bad index".
+pub fn points_fault(points: &[u64], variables: &[Sorted]) -> Option<usize> {
+    let whole = match variables.len() {
+        0 => points.is_empty(),
+        count => points.chunks_exact(count).remainder().is_empty(),
+    };
+    if !whole {
+        return Some(points.len());
+    }
+    let outside = |(index, &value): (usize, &u64)| match variables[index % variables.len()].sort {
+        Sort::Bool => value > 1,
+        Sort::BitVec(width) => value > ones(width),
+    };
+    points.iter().enumerate().position(outside)
+}
+
+/// "for each point, each constraint in script order; the first false one ends the work with answer 14. One whose cost
+/// exceeds what the budget has left isn't begun." Gives the end and the units spent.
+pub fn evaluate(script: &Script, bodies: &[Tree], points: &[u64], budget: u64) -> (Outcome, u64) {
+    let functions = Functions::new(script, bodies);
+    let points = whole_points(points, &script.variables);
+    let costs = constraint_costs(script, &functions);
+    let mut left = budget;
+    for (point, values) in points.iter().enumerate() {
+        for (constraint, term) in script.constraints.iter().enumerate() {
+            if costs[constraint] > u128::from(left) {
+                return (Outcome::BudgetEnded { point, constraint }, budget - left);
+            }
+            left -= costs[constraint] as u64;
+            if functions.value(term, values) != Value::Bool(true) {
+                return (Outcome::False { point, constraint }, budget - left);
+            }
+        }
+    }
+    let points = points.len();
+    (Outcome::Accepted { points }, budget - left)
+}
+
+/// The cost of each constraint, which is the same at every point.
+pub fn constraint_costs(script: &Script, functions: &Functions) -> Vec<u128> {
+    let variables = script.variables.iter().map(|one| one.name.as_str());
+    let variables: Vec<&str> = variables.collect();
+    let cost = |constraint| functions.cost(constraint, &variables);
+    script.constraints.iter().map(cost).collect()
+}
+
+/// "one per declared variable, point after point"; "With no variables the list is empty and one empty point is taken."
+fn whole_points<'a>(points: &[u64], variables: &'a [Sorted]) -> Vec<Values<'a>> {
+    if variables.is_empty() {
+        return vec![Values::new()];
+    }
+    let value = |variable: &Sorted, number: u64| match variable.sort {
+        Sort::Bool => Value::Bool(number == 1),
+        Sort::BitVec(width) => Value::Bits {
+            width,
+            bits: number,
+        },
+    };
+    let point = |numbers: &[u64]| {
+        let pairs = variables.iter().zip(numbers);
+        pairs
+            .map(|(variable, &number)| (variable.name.as_str(), value(variable, number)))
+            .collect()
+    };
+    points.chunks(variables.len()).map(point).collect()
+}
+
+impl<'a> Functions<'a> {
+    /// The script's `define-fun`s, each calling only earlier ones, then the synthesized functions with their bodies.
+    pub fn new(script: &'a Script, bodies: &'a [Tree]) -> Functions<'a> {
+        let mut functions = Functions {
+            by_name: HashMap::new(),
+        };
+        for one in &script.definitions {
+            functions.add(&one.name, &one.arguments, &one.body);
+        }
+        for (one, body) in script.synthesized.iter().zip(bodies) {
+            functions.add(&one.name, &one.arguments, body);
+        }
+        functions
+    }
+
+    /// Adds a function whose body calls only functions that are already there.
+    fn add(&mut self, name: &'a str, arguments: &'a [Sorted], body: &'a Tree) {
+        let names = arguments.iter().map(|one| one.name.as_str());
+        let cost = self.cost(body, &names.collect::<Vec<&str>>());
+        let function = Function {
+            arguments,
+            body,
+            cost,
+        };
+        self.by_name.insert(name, function);
+    }
+
+    /// The function that a term's name or head means, unless it is one of the given leaves.
+    fn called(&self, term: &Tree, is_leaf: impl Fn(&str) -> bool) -> Option<&Function<'a>> {
+        let head = term.items().map_or(term, |items| &items[0]);
+        let name = head.symbol().filter(|name| !is_leaf(name))?;
+        self.by_name.get(name)
+    }
+
+    /// "Cost of a literal or variable is 1; of an application (a function without arguments too) 1 plus its operands'
+    /// costs, plus the body's cost where it is a `define-fun` or a synthesized function." A cost past 2^128 counts as
+    /// 2^128 - 1, which is past every budget all the same.
+    fn cost(&self, term: &Tree, leaves: &[&str]) -> u128 {
+        let called = self.called(term, |name| leaves.contains(&name));
+        let mut cost = 1 + called.map_or(0, |function| function.cost.min(u128::MAX - 1));
+        for operand in operands(term) {
+            cost = cost.saturating_add(self.cost(operand, leaves));
+        }
+        cost
+    }
+
+    /// The value of a term without fault. "All operands are evaluated, also of `ite`."
+    fn value(&self, term: &Tree, leaves: &Values) -> Value {
+        let values = operands(term).iter();
+        let values: Vec<Value> = values.map(|operand| self.value(operand, leaves)).collect();
+        if let Some(function) = self.called(term, |name| leaves.contains_key(name)) {
+            let names = function.arguments.iter().map(|one| one.name.as_str());
+            return self.value(function.body, &names.zip(values).collect());
+        }
+        match term {
+            Tree::Leaf(word) => match word.kind {
+                Kind::Bits { width, value } => Value::Bits { width, bits: value },
+                _ if word.text == "true" => Value::Bool(true),
+                _ if word.text == "false" => Value::Bool(false),
+                _ => leaves[word.text.as_str()],
+            },
+            Tree::List { items, .. } => match extract_indices(&items[0]) {
+                Some((i, j)) => extract(i, j, values[0]),
+                None => apply(items[0].symbol().expect("an operator"), &values),
+            },
+        }
+    }
+}
+
+/// All ones of a width.
+fn ones(width: u32) -> u64 {
+    u64::MAX >> (64 - width)
+}
+
+/// "results modulo 2^n".
+fn modulo(width: u32, result: u128) -> Value {
+    Value::Bits {
+        width,
+        bits: (result % (1 << width)) as u64,
+    }
+}
+
+/// `(_ extract i j)` of a value.
+fn extract(i: u32, j: u32, value: Value) -> Value {
+    match value {
+        Value::Bits { bits, .. } => modulo(i - j + 1, u128::from(bits >> j)),
+        Value::Bool(_) => unreachable!("extract of a Bool"),
+    }
+}
+
+/// The value of an operator other than extract, "As in SMT-LIB".
+fn apply(operator: &str, operands: &[Value]) -> Value {
+    use Value::{Bits, Bool};
+    match (operator, operands) {
+        ("not", [Bool(a)]) => Bool(!a),
+        ("and", [Bool(a), Bool(b)]) => Bool(*a && *b),
+        ("or", [Bool(a), Bool(b)]) => Bool(*a || *b),
+        ("xor", [Bool(a), Bool(b)]) => Bool(a != b),
+        ("=>", [Bool(a), Bool(b)]) => Bool(!a || *b),
+        ("=", [a, b]) => Bool(a == b),
+        ("distinct", [a, b]) => Bool(a != b),
+        ("ite", [Bool(condition), a, b]) => {
+            if *condition {
+                *a
+            } else {
+                *b
+            }
+        }
+        ("bvnot", [Bits { width, bits }]) => Bits {
+            width: *width,
+            bits: ones(*width) - bits,
+        },
+        ("bvneg", [Bits { width, bits }]) => modulo(*width, (1 << width) - u128::from(*bits)),
+        ("bvult", [Bits { bits: a, .. }, Bits { bits: b, .. }]) => Bool(a < b),
+        ("concat", [Bits { width: m, bits: a }, Bits { width: n, bits: b }]) => {
+            modulo(m + n, (u128::from(*a) << n) + u128::from(*b))
+        }
+        (_, [Bits { width, bits: a }, Bits { bits: b, .. }]) => {
+            let result = arithmetic(operator, *width, u128::from(*a), u128::from(*b));
+            modulo(*width, result)
+        }
+        _ => unreachable!("{operator} with its operands"),
+    }
+}
+
+/// The result, not yet modulo 2^n, of an operator on two words of width n: "division by 0 gives all ones, remainder by 0
+/// the dividend; a shift by n or more gives 0".
+fn arithmetic(operator: &str, n: u32, a: u128, b: u128) -> u128 {
+    match operator {
+        "bvand" => a & b,
+        "bvor" => a | b,
+        "bvxor" => a ^ b,
+        "bvadd" => a + b,
+        "bvsub" => (1 << n) + a - b,
+        "bvmul" => a * b,
+        "bvudiv" if b == 0 => u128::from(ones(n)),
+        "bvudiv" => a / b,
+        "bvurem" if b == 0 => a,
+        "bvurem" => a % b,
+        "bvshl" | "bvlshr" if b >= u128::from(n) => 0,
+        "bvshl" => a << b,
+        "bvlshr" => a >> b,
+        _ => unreachable!("{operator} on two words"),
+    }
+}

@@ -1,0 +1,164 @@
+//! A simple reference checker, written straight from document 01. Each function names the sentence that it follows.
+
+mod commands;
+mod eval;
+pub mod generate;
+mod grammar;
+mod operators;
+pub mod replay;
+mod response;
+mod script;
+mod terms;
+mod tree;
+mod words;
+
+use eval::Outcome;
+pub use words::word;
+
+/// "Script 32,768 bytes".
+pub const MOST_SCRIPT_BYTES: usize = 32_768;
+/// "response 8,192".
+pub const MOST_RESPONSE_BYTES: usize = 8_192;
+/// "1,024 point numbers".
+pub const MOST_POINT_NUMBERS: usize = 1_024;
+/// "a lent area of exactly 32,768 16-bit numbers".
+pub const AREA_LENGTH: usize = 32_768;
+/// "Function k's list starts at 4,096·k".
+pub const LIST_LENGTH: usize = 4_096;
+/// "every entry of the area that no list uses is 65,535".
+pub const UNUSED: u16 = 65_535;
+
+/// The text "script" of an answer.
+const SCRIPT: u8 = 0;
+/// The text "response" of an answer.
+const RESPONSE: u8 = 1;
+/// The text "points" of an answer.
+const POINTS: u8 = 2;
+/// The text "none or the area" of an answer.
+const NONE: u8 = 3;
+
+/// An answer by document 01's table.
+#[derive(Clone, Copy, Debug, PartialEq, Eq)]
+pub struct Answer {
+    pub number: u8,
+    pub text: u8,
+    pub place: u64,
+    pub second: u64,
+    pub units: u64,
+}
+
+/// The number and place of a fault in a text.
+#[derive(Clone, Copy, Debug, PartialEq, Eq)]
+struct Fault {
+    number: u8,
+    place: usize,
+}
+
+impl Fault {
+    /// A fault of a number at a place.
+    fn new(number: u8, place: usize) -> Fault {
+        Fault { number, place }
+    }
+
+    /// The answer for a fault in a text; its second number and its units are 0.
+    fn in_text(self, text: u8) -> Answer {
+        Answer {
+            number: self.number,
+            text,
+            place: self.place as u64,
+            second: 0,
+            units: 0,
+        }
+    }
+}
+
+/// "A checker that takes a script, a response, a list of points and a budget, and answers."
+pub fn check(
+    script: &[u8],
+    response: &[u8],
+    points: &[u64],
+    budget: u64,
+    area: &mut [u16],
+) -> Answer {
+    if area.len() == AREA_LENGTH {
+        area.fill(UNUSED);
+    }
+    match checked(script, response, points, budget, area) {
+        Ok(answer) => answer,
+        Err(refusal) => refusal,
+    }
+}
+
+/// "Order: 1 ...; script words ...; commands ...; response words likewise; 10 and 11 ...; the response's commands
+/// likewise ...; then 13 (first such function), 16 (length first), and evaluation."
+fn checked(
+    script: &[u8],
+    response: &[u8],
+    points: &[u64],
+    budget: u64,
+    area: &mut [u16],
+) -> Result<Answer, Answer> {
+    lengths_fit(script, response, points, area)?;
+    let script = script::read(script).map_err(|fault| fault.in_text(SCRIPT))?;
+    let bodies = response::read(response, &script).map_err(|fault| fault.in_text(RESPONSE))?;
+    let derivations = derivations(&script, &bodies)?;
+    if let Some(place) = eval::points_fault(points, &script.variables) {
+        return Err(Fault::new(16, place).in_text(POINTS));
+    }
+    for (list, numbers) in area.chunks_mut(LIST_LENGTH).zip(&derivations) {
+        list[..numbers.len()].copy_from_slice(numbers);
+    }
+    let (outcome, units) = eval::evaluate(&script, &bodies, points, budget);
+    Ok(last_answer(outcome, units))
+}
+
+/// "1 (script, response, points, area)": "its length".
+fn lengths_fit(script: &[u8], response: &[u8], points: &[u64], area: &[u16]) -> Result<(), Answer> {
+    let rows = [
+        (SCRIPT, script.len(), script.len() <= MOST_SCRIPT_BYTES),
+        (
+            RESPONSE,
+            response.len(),
+            response.len() <= MOST_RESPONSE_BYTES,
+        ),
+        (POINTS, points.len(), points.len() <= MOST_POINT_NUMBERS),
+        (NONE, area.len(), area.len() == AREA_LENGTH),
+    ];
+    match rows.into_iter().find(|(_, _, fits)| !fits) {
+        Some((text, length, _)) => Err(Fault::new(1, length).in_text(text)),
+        None => Ok(()),
+    }
+}
+
+/// The derivation of each body, or 13 for the first function without one: "body's first word; function".
+fn derivations(script: &script::Script, bodies: &[tree::Tree]) -> Result<Vec<Vec<u16>>, Answer> {
+    let mut derivations = Vec::new();
+    for (index, (function, body)) in script.synthesized.iter().zip(bodies).enumerate() {
+        match grammar::derivation(&function.grammar, &function.arguments, body) {
+            Some(numbers) => derivations.push(numbers),
+            None => {
+                return Err(Answer {
+                    second: index as u64,
+                    ..Fault::new(13, body.start()).in_text(RESPONSE)
+                })
+            }
+        }
+    }
+    Ok(derivations)
+}
+
+/// The answer 0, 14 or 15 with "the units spent: the summed cost of evaluations done, a false one included".
+fn last_answer(outcome: Outcome, units: u64) -> Answer {
+    let (number, text, place, second) = match outcome {
+        Outcome::Accepted { points } => (0, NONE, 0, points),
+        Outcome::False { point, constraint } => (14, POINTS, point, constraint),
+        Outcome::BudgetEnded { point, constraint } => (15, POINTS, point, constraint),
+    };
+    Answer {
+        number,
+        text,
+        place: place as u64,
+        second: second as u64,
+        units,
+    }
+}

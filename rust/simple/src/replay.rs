@@ -1,0 +1,101 @@
+//! A judge of the lent area that shares nothing with the search: it replays the shown rule numbers, leftmost first.
+
+use crate::grammar::{Form, Sorted};
+use crate::operators::Sort;
+use crate::script::{self, Synthesized};
+use crate::tree::Tree;
+use crate::{response, AREA_LENGTH, LIST_LENGTH, UNUSED};
+use std::collections::HashSet;
+
+/// What is wrong with an area of the right size after an answer to a script and a response; none if nothing is.
+pub fn area_fault(script: &[u8], response: &[u8], number: u8, area: &[u16]) -> Option<String> {
+    if area.len() != AREA_LENGTH {
+        return Some(format!("an area of {} entries", area.len()));
+    }
+    if !matches!(number, 0 | 14 | 15) {
+        let used = area.iter().position(|&entry| entry != UNUSED)?;
+        return Some(format!("entry {used} is used after answer {number}"));
+    }
+    let script = script::read(script).expect("a sound script after 0, 14 or 15");
+    let bodies = response::read(response, &script).expect("a sound response after 0, 14 or 15");
+    for (index, list) in area.chunks(LIST_LENGTH).enumerate() {
+        let length = list.iter().position(|&entry| entry == UNUSED);
+        let (shown, rest) = list.split_at(length.unwrap_or(LIST_LENGTH));
+        if rest.iter().any(|&entry| entry != UNUSED) {
+            return Some(format!("list {index} has a gap"));
+        }
+        match (script.synthesized.get(index), bodies.get(index)) {
+            (Some(function), Some(body)) => {
+                if let Err(fault) = replay(function, body, shown) {
+                    return Some(format!("list {index}: {fault}"));
+                }
+            }
+            _ if !shown.is_empty() => return Some(format!("list {index} has no function")),
+            _ => {}
+        }
+    }
+    None
+}
+
+/// Replaces the leftmost non-terminal by the next rule shown, from the start on, and compares the words with the body's;
+/// "No non-terminal is used twice at the same place of the body".
+fn replay(function: &Synthesized, body: &Tree, shown: &[u16]) -> Result<(), String> {
+    let grammar = &function.grammar;
+    let mut body = body.words().into_iter().map(|(_, word)| word).peekable();
+    let mut place = 0;
+    let mut shown = shown.iter();
+    let mut used = HashSet::new();
+    let mut pending = vec![grammar.nonterminals[0].name.clone()];
+    while let Some(word) = pending.pop() {
+        let nonterminal = grammar.nonterminals.iter().position(|one| one.name == word);
+        let Some(nonterminal) = nonterminal else {
+            if body.next() != Some(word.as_str()) {
+                return Err(format!("word {place} of the body is not {word}"));
+            }
+            place += 1;
+            continue;
+        };
+        if !used.insert((place, nonterminal)) {
+            return Err(format!("{word} twice at word {place} of the body"));
+        }
+        let number = shown.next().ok_or("the list ends early")?;
+        let rule = grammar.rules.get(usize::from(*number));
+        let rule = rule.filter(|rule| rule.nonterminal == nonterminal);
+        let rule = rule.ok_or(format!("{number} is no rule of {word}"))?;
+        let given = body.peek().copied().unwrap_or("");
+        match &rule.form {
+            Form::Term(term) => {
+                let words = term.words().into_iter().rev();
+                pending.extend(words.map(|(_, word)| word.to_string()));
+            }
+            Form::Constant(sort) if is_literal(given, *sort) => pending.push(given.to_string()),
+            Form::Variable(sort) if is_argument(given, *sort, &function.arguments) => {
+                pending.push(given.to_string());
+            }
+            _ => return Err(format!("rule {number} does not derive {given}")),
+        }
+    }
+    match (body.next(), shown.next()) {
+        (None, None) => Ok(()),
+        (Some(word), _) => Err(format!("{word} is left of the body")),
+        (None, Some(number)) => Err(format!("{number} is left of the list")),
+    }
+}
+
+/// "`(Constant σ)` derives any literal of sort σ".
+fn is_literal(word: &str, sort: Sort) -> bool {
+    match sort {
+        Sort::Bool => word == "true" || word == "false",
+        Sort::BitVec(width) => {
+            let digits = word.len().saturating_sub(2) as u32;
+            let hex = word.starts_with("#x") && digits * 4 == width;
+            hex || word.starts_with("#b") && digits == width
+        }
+    }
+}
+
+/// "`(Variable σ)` any argument of that function of sort σ".
+fn is_argument(word: &str, sort: Sort, arguments: &[Sorted]) -> bool {
+    let mut arguments = arguments.iter();
+    arguments.any(|argument| argument.name == word && argument.sort == sort)
+}
