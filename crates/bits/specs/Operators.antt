@@ -17,19 +17,23 @@ pub record Operands : Type 0 where
   pub sorts : List ℕ
   pub values : List ℕ
 
--- The value of the first, the second and the third operand, and the widths of the first two.
+-- The value of the first operand.
 abbrev pub one : Operands → ℕ
 one x = getD (x .values) 0 0
 
+-- The value of the second operand.
 abbrev pub two : Operands → ℕ
 two x = getD (x .values) 1 0
 
+-- The value of the third operand.
 abbrev pub three : Operands → ℕ
 three x = getD (x .values) 2 0
 
+-- The width of the first operand.
 abbrev pub widthOfOne : Operands → ℕ
 widthOfOne x = getD (x .sorts) 0 0
 
+-- The width of the second operand.
 abbrev pub widthOfTwo : Operands → ℕ
 widthOfTwo x = getD (x .sorts) 1 0
 

@@ -8,13 +8,15 @@ use Rattle.terms.specs.Labels.{Terms}
 use Rattle.terms.specs.Nodes.{AllPlain, codeOf, nodeTable, valueOf}
 use Rattle.grammar.specs.Derivation.{Admitted, Item, Rule, anyArgument, anyLiteral, nonTerminal, rule, the}
 
--- The kinds of a rule's nodes in the table, besides those of labels.
+-- The kind of a non-terminal in the table; the kinds before it are those of labels.
 abbrev pub nonTerminalKind : ℕ
 nonTerminalKind = 5
 
+-- The kind of `(Constant σ)`.
 abbrev pub anyLiteralKind : ℕ
 anyLiteralKind = 6
 
+-- The kind of `(Variable σ)`.
 abbrev pub anyArgumentKind : ℕ
 anyArgumentKind = 7
 

@@ -7,7 +7,8 @@ use Rattle.terms.specs.Costs.{definedCost, functionCost}
 use Rattle.terms.specs.Sorts.{Definition}
 use Rattle.meaning.specs.Tables.{mostDefined}
 
--- A cost as it is held: one less, and at most 2^64 - 1. A cost is at least 1, so that it is at most a 64-bit budget exactly where what is held is less than the budget.
+-- A cost as it is held: one less, and at most 2^64 - 1. A cost is at least 1, so that it is at most a 64-bit budget exactly where what is held is
+-- less than the budget.
 abbrev pub held : ℕ → ℕ
 held cost = min (cost - 1) (2 ^ 64 - 1)
 

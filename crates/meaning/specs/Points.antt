@@ -10,8 +10,8 @@ use Rattle.terms.specs.declared.Value.{Value}
 use Rattle.meaning.specs.declared.PointList.{PointList}
 use Rattle.meaning.specs.declared.PointList.the-variants.{Good, Bad}
 
--- How many points a list of `size` numbers is, where there are n variables: "With no variables the list is empty and one empty point is taken. With variables and
--- an empty list nothing is evaluated."
+-- How many points a list of `size` numbers is, where there are n variables: "With no variables the list is empty and one empty point is taken.
+-- With variables and an empty list nothing is evaluated."
 abbrev pub pointCount : (n size : ℕ) → ℕ
 pointCount n size = cond (eqb n 0) 1 (size / n)
 

@@ -1,5 +1,5 @@
--- The evaluation: "for each point, each constraint in script order; the first false one ends the work with answer 14. One whose cost exceeds what the budget has
--- left isn't begun."
+-- The evaluation: "for each point, each constraint in script order; the first false one ends the work with answer 14. One whose cost exceeds
+-- what the budget has left isn't begun."
 use Prim.Native.Nat.{ℕ, zero, suc, _+_, _-_}
 use mathlib.Core.Bool.{Bool, true, false, cond, _&&_}
 use Rattle.bits.specs.Sorts.{bool}
@@ -22,8 +22,8 @@ isTrue (some []) = false
 isTrue (some (v ∷ [])) = eqb (v .sort) bool && eqb (v .number) 1
 isTrue (some (v ∷ u ∷ more)) = false
 
--- The terms from number k on, one after the other, at a point, with `left` of the budget: what is left once all are true, or the first that is false, with what is
--- left once it is evaluated, or the first whose cost exceeds what is left, with what is left before it.
+-- The terms from number k on, one after the other, at a point, with `left` of the budget: what is left once all are true; or the first that is
+-- false, with what is left once it is evaluated; or the first whose cost exceeds what is left, with what is left before it.
 unfoldable pub runTerms : (defs funs : List Definition) → (point : List Value) → List Terms → (p k left : ℕ) → Ran
 runTerms defs funs point [] p k left = Passed left
 runTerms defs funs point (t ∷ more) p k left =

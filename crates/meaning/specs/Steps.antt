@@ -64,6 +64,7 @@ pub record OperandsAre (args after : List ℕ) (one two : ℕ) (vs : List Value)
   pub sort-one : one ≡ getD (sortsIn vs) 0 0
   pub sort-two : two ≡ getD (sortsIn vs) 1 0
 
+-- The values of the operands.
 abbrev pub OperandsEvaluated : (nodes bodies env : List ℕ) (i stop left : ℕ) (args after : List ℕ) (one two : ℕ) → Type 0
 OperandsEvaluated nodes bodies env i stop left args after one two = (e : OperandsEvaluable nodes bodies env i stop left) → OperandsAre args after one two (e .vs)
 

@@ -78,11 +78,12 @@ pub record Holds (nodes bodies : List ℕ) (defs funs : List Definition) : Type 
   pub defined-most : length defs ≤ mostDefined
   pub functions-most : length funs ≤ mostFunctions
 
--- The place of the body of the function that a label applies, by the label's two numbers: a `define-fun`'s is its number, a synthesized function's stands behind
--- those; `noPlace` for a label that applies none.
+-- A place that no body has.
 abbrev pub noPlace : ℕ
 noPlace = 40
 
+-- The place of the body of the function that a label applies, by the label's two numbers: a `define-fun`'s is its number, a synthesized
+-- function's stands behind those; `noPlace` for a label that applies none.
 abbrev pub bodyPlace : (code value : ℕ) → ℕ
 bodyPlace code value =
     cond (eqb (code % 16) definedKind && ltb value mostDefined) value

@@ -35,23 +35,27 @@ all =
     (tree (operator 5 0 0) (tree (function 0) (x none) (tree (operator 18 0 0) (x (tree (literal 8 2 0) none none)) none))
     (tree (operator 20 0 0) (tree (function 0) (x none) (tree (literal 8 128 0) none none)) none)))
 
--- The definitions and the constraints.
+-- The `define-fun`s.
 abbrev pub defs : List Definition
 defs = d0 ∷ []
 
+-- The synthesized functions.
 abbrev pub funs : List Definition
 funs = f0 ∷ []
 
+-- The constraints.
 abbrev pub constraints : List Terms
 constraints = shifted ∷ small ∷ []
 
--- The nodes at which the constraints begin, the sorts of the variables, and the points x = 3 and x = 33.
+-- The nodes at which the constraints begin.
 abbrev pub places : List ℕ
 places = 6 ∷ 12 ∷ []
 
+-- The sorts of the variables.
 abbrev pub sorts : List ℕ
 sorts = 8 ∷ []
 
+-- The points x = 3 and x = 33.
 abbrev pub numbers : List ℕ
 numbers = 3 ∷ 33 ∷ []
 

@@ -1,10 +1,12 @@
-//! The evaluator and the run for C, so that the stack they need can be measured and a case can be run on tables made by hand. Their callers answer for the tables.
+//! The evaluator, the run and the search for a derivation for C, so that their stack and time can be measured and a case can be run on tables made by hand. Their
+//! callers answer for the tables.
 use meaning::costs::body_costs;
 use meaning::evaluator::eval_term;
 use meaning::running::all_passed;
 use meaning::running::left_of;
 use meaning::running::run_points;
 ghost use Rattle.meaning.specs.Steps.{Evaluable, PointsRunnable, Pricing};
+ghost use Rattle.grammar.specs.Answer.{DerivePre};
 
 // The number of the value of the term at node `i`.
 #[no_mangle]
@@ -53,4 +55,18 @@ pub extern "C" fn sverdhyll_measured_cost(
 {
     let costs = body_costs(nodes, bodies, defined, functions);
     if place < 40 { costs[place] } else { 0 }
+}
+
+// Whether the rules derive the body of function `k`, whose list is then shown in the area.
+#[no_mangle]
+pub extern "C" fn sverdhyll_measured_derive(
+    rules: &[u64],
+    forms: &[u64],
+    body: &[u64],
+    k: usize,
+    area: &mut [u16],
+) -> bool
+    requires { ⌜ DerivePre (now rules) (now forms) (now body) k (now area) ⌝ }
+{
+    grammar::derive(rules, forms, body, k, area)
 }

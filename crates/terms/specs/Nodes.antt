@@ -5,19 +5,23 @@ use Rattle.forest.specs.Forest.{Node, count, nodesOf, none, size, tree}
 use Rattle.forest.specs.Rows.{numberAt, rows}
 use Rattle.terms.specs.Labels.{Label, Terms, defined, function, literal, name, operator}
 
--- The kinds of labels in the table: a number below 16.
+-- The kind of a literal in the table; kinds are numbers below 16.
 abbrev pub literalKind : ℕ
 literalKind = 0
 
+-- The kind of an argument or a variable.
 abbrev pub nameKind : ℕ
 nameKind = 1
 
+-- The kind of an operator.
 abbrev pub operatorKind : ℕ
 operatorKind = 2
 
+-- The kind of an applied `define-fun`.
 abbrev pub definedKind : ℕ
 definedKind = 3
 
+-- The kind of an applied synthesized function.
 abbrev pub functionKind : ℕ
 functionKind = 4
 
@@ -29,7 +33,8 @@ codeOf (operator o i j) = operatorKind + 16 * o
 codeOf (defined k) = definedKind
 codeOf (function k) = functionKind
 
--- The value of a label: a literal's, the numbers of `(_ extract i j)`, or which name or function it is.
+-- The value of a label: a literal's, the numbers of `(_ extract i j)`, or which name or function it is. It tells i and j only where j is below 64 (`Plain`), which
+-- the bounds of `extract` see to.
 abbrev pub valueOf : Label → ℕ
 valueOf (literal s v w) = v
 valueOf (name s k) = k

@@ -270,9 +270,12 @@ fn mutate_operator(random: &mut Random, words: &mut [String]) {
     words[at] = random.pick(&others).to_string();
 }
 
-/// The places of the trees that are items of a list.
+/// The places of the trees that are items of a list, none where a word stands alone.
 fn items(words: &[String], list: &Range<usize>) -> Vec<Range<usize>> {
     let mut items = Vec::new();
+    if list.len() < 2 {
+        return items;
+    }
     let mut nesting = 0;
     let mut start = list.start + 1;
     for (index, word) in words[list.start + 1..list.end - 1].iter().enumerate() {

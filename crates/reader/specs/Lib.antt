@@ -1,0 +1,12 @@
+pub mod Reserved
+pub mod Lists
+pub mod Shapes
+pub mod Carried
+pub mod Terms
+pub mod Scopes
+pub mod Limits
+pub mod Naming
+pub mod Sorting
+pub mod Grammars
+pub mod Script
+pub mod Response

@@ -1,0 +1,157 @@
+-- Responses: "A response is `(`, one `define-fun` per function in script order, names and sorts as declared, `)`; another list in it is 5."
+use Prim.Native.Nat.{ℕ, _-_, min}
+use mathlib.Core.Bool.{Bool, true, false, cond, _&&_, not}
+use mathlib.Core.List.{List, [], _∷_, _++_}
+use lib.Dec.{eqb, ltb}
+use lib.ListN.{drop, length}
+use Rattle.forest.specs.Forest.{count, none, tree}
+use Rattle.forest.specs.Lists.{spelling}
+use Rattle.bits.specs.Operators.{sameBytes}
+use Rattle.terms.specs.Labels.{Terms}
+use Rattle.words.specs.Trees.{list, literal, numeral, symbol, wordOf}
+use Rattle.reader.specs.Carried.{anyUncarried}
+use Rattle.reader.specs.Limits.{Counts, headerPast, nodePast}
+use Rattle.reader.specs.Lists.{Items, closeOf, inside, is, isList, item}
+use Rattle.reader.specs.Naming.{termNames}
+use Rattle.reader.specs.Scopes.{Defined, Function, Named, View}
+use Rattle.reader.specs.Script.{termOf}
+use Rattle.reader.specs.Shapes.{defineFunShape}
+use Rattle.reader.specs.Sorting.{bodyFault}
+
+-- The words of a header.
+pub data Token : Type 0 where
+  opening : Token
+  closing : Token
+  named : (name : List ℕ) → Token
+  numbered : (value : ℕ) → Token
+
+-- A word of the response and its index.
+pub record Placed : Type 0 where
+  pub at : ℕ
+  pub token : Token
+
+-- The words of items, brackets too.
+unfoldable pub wordsIn : Items → List Placed
+wordsIn none = []
+wordsIn (tree (list at close) ops more) = record { at = at; token = opening } ∷ (wordsIn ops ++ record { at = close; token = closing } ∷ wordsIn more)
+wordsIn (tree (symbol at name) ops more) = record { at = at; token = named name } ∷ wordsIn more
+wordsIn (tree (numeral at v) ops more) = record { at = at; token = numbered v } ∷ wordsIn more
+wordsIn (tree (literal at width v bytes) ops more) = record { at = at; token = named bytes } ∷ wordsIn more
+
+-- The words of a sort.
+abbrev pub sortTokens : (sort : ℕ) → List Token
+sortTokens s = cond (eqb s 0) (named (spelling "Bool") ∷ []) (opening ∷ named (spelling "_") ∷ named (spelling "BitVec") ∷ numbered s ∷ closing ∷ [])
+
+-- The words of arguments.
+unfoldable pub argumentTokens : List Named → List Token
+argumentTokens [] = []
+argumentTokens (a ∷ more) = opening ∷ named (a .name) ∷ (sortTokens (a .sort) ++ closing ∷ argumentTokens more)
+
+-- The words of a function's name, arguments and sort, as declared.
+abbrev pub headerTokens : Function → List Token
+headerTokens f = named (f .name) ∷ opening ∷ (argumentTokens (f .arguments) ++ closing ∷ sortTokens (f .result))
+
+-- Whether two words are the same.
+abbrev pub sameToken : Token → Token → Bool
+sameToken opening opening = true
+sameToken opening closing = false
+sameToken opening (named n) = false
+sameToken opening (numbered v) = false
+sameToken closing opening = false
+sameToken closing closing = true
+sameToken closing (named n) = false
+sameToken closing (numbered v) = false
+sameToken (named m) opening = false
+sameToken (named m) closing = false
+sameToken (named m) (named n) = sameBytes m n
+sameToken (named m) (numbered v) = false
+sameToken (numbered u) opening = false
+sameToken (numbered u) closing = false
+sameToken (numbered u) (named n) = false
+sameToken (numbered u) (numbered v) = eqb u v
+
+-- "its first word differing"
+unfoldable pub differing : (nowhere : ℕ) → List Placed → List Token → ℕ
+differing nowhere ws [] = nowhere
+differing nowhere [] (t ∷ ts) = nowhere
+differing nowhere (w ∷ ws) (t ∷ ts) =
+    let later = differing nowhere ws ts in
+    cond (sameToken (w .token) t) later (w .at)
+
+-- The name, arguments and sort of a `define-fun`.
+abbrev pub headerOf : Items → Items
+headerOf c = tree (item 1 c) (inside 1 c) (tree (item 2 c) (inside 2 c) (tree (item 3 c) (inside 3 c) none))
+
+-- "a response body see[s] the function's arguments and the `define-fun`s before that `synth-fun`": the script's `define-fun`s stand the last first.
+abbrev pub responseView : (defs : List Defined) → Function → View
+responseView defs f = record { names = f .arguments; defined = drop (length defs - f .before) defs; functions = []; nonTerminals = [] }
+
+-- A body that was read, with its first word.
+pub record Body : Type 0 where
+  pub first : ℕ
+  pub term : Terms
+
+-- A refusal by its number and the word at fault, past the last word for the end of the text (10 and 11 have the place 0 and no word); or the bodies, in order.
+pub data Answered : Type 0 where
+  refused : (number place : ℕ) → Answered
+  bodies : List Body → Answered
+
+-- One body more in front.
+abbrev pub withBody : Body → Answered → Answered
+withBody t (refused number place) = refused number place
+withBody t (bodies ts) = bodies (t ∷ ts)
+
+-- A `define-fun` of a response for the function f: "the response's commands likewise, each `define-fun` being shape and limits, header 12, then 7 and 8"; what follows
+-- where it passes is `later`.
+unfoldable pub judgedBody : Counts → (nowhere : ℕ) → (defs : List Defined) → Function → (at : ℕ) → Items → (later : Answered) → Answered
+judgedBody counts nowhere defs f at c later =
+    let view = responseView defs f in
+    let limit = min (headerPast counts nowhere c) (nodePast counts nowhere (item 4 c) (inside 4 c)) in
+    let header = differing nowhere (wordsIn (headerOf c)) (headerTokens f) in
+    let name = termNames nowhere view (item 4 c) (inside 4 c) in
+    let sort = bodyFault nowhere view (f .result) (item 4 c) (inside 4 c) in
+    cond (not (is "define-fun" (item 0 c))) (refused 5 at)
+    (cond (anyUncarried c) (refused 6 at)
+    (cond (not (defineFunShape c)) (refused 5 at)
+    (cond (ltb limit nowhere) (refused 4 limit)
+    (cond (ltb header nowhere) (refused 12 header)
+    (cond (ltb name nowhere) (refused 7 name)
+    (cond (ltb sort nowhere) (refused 8 sort)
+    (withBody (record { first = wordOf (item 4 c); term = termOf view (item 4 c) (inside 4 c) }) later)))))))
+
+-- A `define-fun` past the last function: shape and limits, then "one too many: its bracket".
+unfoldable pub judgedExtra : Counts → (nowhere at : ℕ) → Items → Answered
+judgedExtra counts nowhere at c =
+    let limit = min (headerPast counts nowhere c) (nodePast counts nowhere (item 4 c) (inside 4 c)) in
+    cond (not (is "define-fun" (item 0 c))) (refused 5 at)
+    (cond (anyUncarried c) (refused 6 at)
+    (cond (not (defineFunShape c)) (refused 5 at)
+    (cond (ltb limit nowhere) (refused 4 limit)
+    (refused 12 at))))
+
+-- The items of the outer list, for the functions that are left, in script order; `close` is the outer list's last bracket, and `after` what follows it.
+unfoldable pub judgedAll : Counts → (nowhere : ℕ) → (defs : List Defined) → (close : ℕ) → List Function → Items → (after : Answered) → Answered
+judgedAll counts nowhere defs close [] none after = after
+judgedAll counts nowhere defs close (f ∷ fs) none after = refused 12 close
+judgedAll counts nowhere defs close [] (tree l c more) after = cond (isList l) (judgedExtra counts nowhere (wordOf l) c) (refused 5 (wordOf l))
+judgedAll counts nowhere defs close (f ∷ fs) (tree l c more) after =
+    let later = judgedAll counts nowhere defs close fs more after in
+    cond (isList l) (judgedBody counts nowhere defs f (wordOf l) c later) (refused 5 (wordOf l))
+
+-- Behind the outer list nothing may stand.
+abbrev pub ending : Items → Answered
+ending none = bodies []
+ending (tree l c more) = refused 5 (wordOf l)
+
+-- "10 and 11 (the text is that one word)"
+abbrev pub isAlone : (items : Items) → Bool
+isAlone items = eqb (count items) 1
+
+-- The response of a script whose functions are in script order: 10, 11, 5 where it is no list, or what its commands give.
+unfoldable pub answered : Counts → (nowhere : ℕ) → (defs : List Defined) → List Function → Items → Answered
+answered counts nowhere defs fs none = refused 5 nowhere
+answered counts nowhere defs fs (tree l c more) =
+    cond (is "fail" l && isAlone (tree l c more)) (refused 10 0)
+    (cond (is "infeasible" l && isAlone (tree l c more)) (refused 11 0)
+    (cond (isList l) (judgedAll counts nowhere defs (closeOf l) fs c (ending more))
+    (refused 5 (wordOf l))))
