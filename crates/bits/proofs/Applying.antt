@@ -9,23 +9,24 @@ use lib.Dec.{eqb, ltb}
 use lib.ListN.{getD, length}
 use borrow.Author.Tests.{eqb-true}
 use Rattle.forest.proofs.Bools.{and-right}
+use Rattle.forest.proofs.Options.{passed}
 use Rattle.bits.specs.Operators.{Operands, Operator, operatorAt, operatorCount, operatorSort, operatorValue}
 use Rattle.bits.specs.Sorts.{cutting, joining, maxWidth, sortBy, width}
 use Rattle.bits.specs.Steps.{Applied, Joined, Operable, Width, Word, Words}
-use Rattle.bits.proofs.Rules.{cut, pair, passed, vectors}
+use Rattle.bits.proofs.Rules.{cut, pair, vectors}
 use Rattle.bits.proofs.Table.{past}
 
 -- The operands as `apply` has them: two widths and three values.
-abbrev pub given : (i j n m a b c : ℕ) → Operands
-given i j n m a b c = record { i = i; j = j; sorts = n ∷ m ∷ []; values = a ∷ b ∷ c ∷ [] }
+abbrev pub given : (high low first second one two three : ℕ) → Operands
+given high low first second one two three = record { i = high; j = low; sorts = first ∷ second ∷ []; values = one ∷ two ∷ three ∷ [] }
 
 -- The same of operands of any number.
 abbrev pub firsts : Operands → Operands
 firsts x = given (x .i) (x .j) (getD (x .sorts) 0 0) (getD (x .sorts) 1 0) (getD (x .values) 0 0) (getD (x .values) 1 0) (getD (x .values) 2 0)
 
-module _ {o i j n m a b c k : ℕ} (at : o ≡ k) (e : Operable o i j n m a b c) where
+module _ {operator high low first second one two three k : ℕ} (at : operator ≡ k) (e : Operable operator high low first second one two three) where
   -- The row has as many operands as there are, and its rule gives their sort.
-  taken : (eqb (length (e .sorts)) (operatorAt k .operands) ≡ true) × (sortBy (operatorAt k .rule) i j (e .sorts) ≡ some (e .result))
+  taken : (eqb (length (e .sorts)) (operatorAt k .operands) ≡ true) × (sortBy (operatorAt k .rule) high low (e .sorts) ≡ some (e .result))
   unfolding operatorSort
   taken =
       let counts = eqb (length (e .sorts)) (operatorAt k .operands) in
@@ -33,34 +34,35 @@ module _ {o i j n m a b c k : ℕ} (at : o ≡ k) (e : Operable o i j n m a b c)
       (and-right (ltb k operatorCount) counts (p .0), p .1)
 
   -- The first operand of a row with the rule `width`.
-  pub a-word : operatorAt k .rule ≡ width → Word n a
-  a-word q = rw (e .width-one, e .is-one) (vectors i j (e .fit) (rw q at (taken .1)) .first)
+  pub a-word : operatorAt k .rule ≡ width → Word first one
+  a-word q = rw (e .width-one, e .is-one) (vectors high low (e .fit) (rw q at (taken .1)) .first)
 
   -- Its width.
-  pub a-width : operatorAt k .rule ≡ width → Width n
+  pub a-width : operatorAt k .rule ≡ width → Width first
   a-width q = a-word q .width
 
   -- Both operands of a row with the rule `width`.
-  pub two-words : operatorAt k .rule ≡ width → operatorAt k .operands ≡ 2 → Words n a b
+  pub two-words : operatorAt k .rule ≡ width → operatorAt k .operands ≡ 2 → Words first one two
   two-words q l =
-      let two : length (e .sorts) ≡ 2 = eqb-true _ _ (taken .0) ∙ l in
-      record { first = a-word q; second = rw (e .width-one, e .is-two) (vectors i j (e .fit) (rw q at (taken .1)) .second two) }
+      let counted : length (e .sorts) ≡ 2 = eqb-true _ _ (taken .0) ∙ l in
+      record { first = a-word q; second = rw (e .width-one, e .is-two) (vectors high low (e .fit) (rw q at (taken .1)) .second counted) }
 
   -- The operands of a row with the rule `joining`.
-  pub a-pair : operatorAt k .rule ≡ joining → Joined n m a b
-  a-pair q = rw (e .width-one, e .width-two, e .is-one, e .is-two) (pair i j (e .fit) (rw q at (taken .1)) .operands)
+  pub a-pair : operatorAt k .rule ≡ joining → Joined first second one two
+  a-pair q = rw (e .width-one, e .width-two, e .is-one, e .is-two) (pair high low (e .fit) (rw q at (taken .1)) .operands)
 
   -- The numbers of a row with the rule `cutting`.
-  pub a-cut : operatorAt k .rule ≡ cutting → (j ≤ i) × (i < maxWidth)
-  a-cut q = let h = cut i j (e .fit) (rw q at (taken .1)) in (h .order, h .most)
+  pub a-cut : operatorAt k .rule ≡ cutting → (low ≤ high) × (high < maxWidth)
+  a-cut q = let h = cut high low (e .fit) (rw q at (taken .1)) in (h .order, h .most)
 
 -- A row's value is the operator's value, where the row looks at no more of the operands than `apply` has.
-pub applied : {o i j n m a b c k r : ℕ} → o ≡ k → ((x : Operands) → operatorAt k .value (firsts x) ≡ operatorAt k .value x)
-    → r ≡ operatorAt k .value (given i j n m a b c) → Applied o i j n m a b c r
+pub applied : {operator high low first second one two three k r : ℕ} → operator ≡ k
+    → ((x : Operands) → operatorAt k .value (firsts x) ≡ operatorAt k .value x)
+    → r ≡ operatorAt k .value (given high low first second one two three) → Applied operator high low first second one two three r
 unfolding operatorValue
-applied {i = i} {j = j} at f h e =
+applied {high = high} {low = low} at f h e =
     rw (at, h, e .width-one, e .width-two, e .is-one, e .is-two, e .is-three)
-    (f (record { i = i; j = j; sorts = e .sorts; values = e .values }))
+    (f (record { i = high; j = low; sorts = e .sorts; values = e .values }))
 
 -- o is none of the numbers below k.
 abbrev pub NoneBelow : (k o : ℕ) → Type 0
@@ -73,7 +75,8 @@ none-below zero h = omega arith
 none-below (suc k) h = omega (arith, none-below k (h .0), h .1)
 
 -- Past the last operator the value is 0.
-pub applied-past : {o i j n m a b c : ℕ} → NoneBelow operatorCount o → Applied o i j n m a b c 0
+pub applied-past : {operator high low first second one two three : ℕ} → NoneBelow operatorCount operator
+    → Applied operator high low first second one two three 0
 unfolding operatorValue
-applied-past {i = i} {j = j} h e =
-    past (λ (r : Operator). r .value (record { i = i; j = j; sorts = e .sorts; values = e .values })) (none-below operatorCount h)
+applied-past {high = high} {low = low} h e =
+    past (λ (r : Operator). r .value (record { i = high; j = low; sorts = e .sorts; values = e .values })) (none-below operatorCount h)

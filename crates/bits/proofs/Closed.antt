@@ -9,13 +9,16 @@ use mathlib.Core.Option.{some}
 use lib.Dec.{eqb, lit<, lit≤, ltb}
 use lib.ListN.{getD, length}
 use borrow.Author.Tests.{eqb-true}
-use Rattle.bits.specs.Operators.{Operands, one, three, two, widthOfOne, widthOfTwo, Operator, noOperator, operatorAt, operatorCount, operatorSort, operatorValue, operators, row}
+use Rattle.forest.proofs.Options.{passed}
+use Rattle.bits.specs.Operators.{Operands, one, three, two, widthOfOne, widthOfTwo, Operator, noOperator, operatorAt, operatorCount, operatorSort}
+use Rattle.bits.specs.Operators.{operatorValue, operators, row}
 use Rattle.forest.proofs.Bools.{and-right}
 use Rattle.bits.specs.Sorts.{AllFit, Fit, choice, cutting, joining, sortBy, width}
 use Rattle.bits.specs.Steps.{Word, Words}
 use Rattle.bits.specs.Values.{concatValue, extractValue, holds, iteValue}
-use Rattle.bits.proofs.Below.{bvand-below, bvlshr-below, bvnot-below, bvor-below, bvshl-below, bvudiv-below, bvurem-below, bvxor-below, concat-below, mod-below, truth-below}
-use Rattle.bits.proofs.Rules.{chosen, cut, givesBool, pair, passed, truths, vectors, word-fits}
+use Rattle.bits.proofs.Below.{bvand-below, bvlshr-below, bvnot-below, bvor-below, bvshl-below, bvudiv-below, bvurem-below, bvxor-below, concat-below}
+use Rattle.bits.proofs.Below.{mod-below, truth-below}
+use Rattle.bits.proofs.Rules.{chosen, cut, givesBool, pair, truths, vectors, word-fits}
 
 -- P holds of each of some things.
 abbrev Each : {A : Type 0} → (A → Type 0) → List A → Type 0

@@ -9,7 +9,8 @@ use lib.ListN.{drop, getD, length, List·getD-append, drop-of-length-le}
 use lib.Seq.{getD-drop}
 use borrow.Author.Tests.{eq-eqb, ne-eqb}
 use Rattle.forest.proofs.Lists.{drop-next}
-use Rattle.bits.specs.Operators.{named, operatorCount, operatorOf, operators, sameBytes}
+use Rattle.forest.specs.Lists.{sameBytes}
+use Rattle.bits.specs.Operators.{named, operatorCount, operatorOf, operators}
 use Rattle.bits.proofs.Table.{Stands, nameOf, next-row}
 
 -- Words of two lengths differ.

@@ -1,6 +1,7 @@
 -- Laws of numbers modulo a power of two, at any width.
 use Prim.Native.Nat.{ℕ, _+_, _*_, _-_, _/_, _%_, _^_, _≤_, _<_}
-use native.Mathlib.Nat.{add-assoc, add-comm, add-left-comm, add-mod, add-mod-right, add-mul, mul-add, mul-add-mod-self-right, mul-assoc, mul-comm, mul-le-mul-left, mul-left-comm, div-add-mod', le-of-lt, lt-of-le-of-lt, mod-add-mod, mod-eq-of-lt, mod-self}
+use native.Mathlib.Nat.{add-assoc, add-comm, add-left-comm, add-mod, add-mod-right, add-mul, mul-add, mul-add-mod-self-right, mul-assoc, mul-comm}
+use native.Mathlib.Nat.{mul-le-mul-left, mul-left-comm, div-add-mod', le-of-lt, lt-of-le-of-lt, mod-add-mod, mod-eq-of-lt, mod-self}
 use native.Mathlib.Omega.{arith}
 use mathlib.Core.Path.{_≡_, refl, sym, ap, ap₂, _∙_}
 use lib.Bits.{bitAnd, bitOr, and-mask, or-shifted}

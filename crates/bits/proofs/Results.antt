@@ -7,18 +7,18 @@ use mathlib.Core.Option.{some}
 use lib.Dec.{eqb, leb, ltb}
 use lib.ListN.{getD, length}
 use borrow.Author.Tests.{leb-true, ltb-true}
-use Rattle.forest.proofs.Options.{never}
+use Rattle.forest.proofs.Options.{never, passed}
 use Rattle.bits.specs.Operators.{operatorAt, operatorCount, operatorSort}
-use Rattle.bits.specs.Sorts.{Rule, allAre, bool, choice, cutting, equality, joining, logic, maxWidth, order, ruleNumber, sortBy, vector, width}
+use Rattle.bits.specs.Sorts.{SortRule, allAre, bool, choice, cutting, equality, joining, logic, maxWidth, order, ruleNumber, sortBy, vector, width}
 use Rattle.bits.specs.Steps.{ResultSort, Sortable}
-use Rattle.bits.proofs.Rules.{both, givesBool, passed, ruled, truths}
+use Rattle.bits.proofs.Rules.{both, givesBool, ruled, truths}
 
 -- The rule of a number.
-abbrev ruleAt : ℕ → Rule
+abbrev pub ruleAt : ℕ → SortRule
 ruleAt k = getD (logic ∷ equality ∷ choice ∷ width ∷ order ∷ joining ∷ cutting ∷ []) k logic
 
 -- A rule's number tells it.
-rule-at : (rule : Rule) → rule ≡ ruleAt (ruleNumber rule)
+pub rule-at : (rule : SortRule) → rule ≡ ruleAt (ruleNumber rule)
 rule-at logic = refl
 rule-at equality = refl
 rule-at choice = refl
@@ -28,7 +28,7 @@ rule-at joining = refl
 rule-at cutting = refl
 
 -- A rule that has none of the numbers of the four others gives Bool.
-gives-bool : (rule : Rule) → (ruleNumber rule ≡ 2 → ⊥) → (ruleNumber rule ≡ 3 → ⊥) → (ruleNumber rule ≡ 5 → ⊥) → (ruleNumber rule ≡ 6 → ⊥)
+gives-bool : (rule : SortRule) → (ruleNumber rule ≡ 2 → ⊥) → (ruleNumber rule ≡ 3 → ⊥) → (ruleNumber rule ≡ 5 → ⊥) → (ruleNumber rule ≡ 6 → ⊥)
     → givesBool rule ≡ true
 gives-bool logic a b c d = refl
 gives-bool equality a b c d = refl
@@ -70,45 +70,46 @@ cutting-sort i j (s ∷ more) h =
     (p .1, leb-true _ _ (q .0), ltb-true _ _ (q .1))
 
 -- The rule gives the result.
-by-rule : {o i j n m : ℕ} (e : Sortable o i j n m) → sortBy (operatorAt o .rule) i j (e .sorts) ≡ some (e .result)
+by-rule : {operator high low first second : ℕ} (e : Sortable operator high low first second)
+    → sortBy (operatorAt operator .rule) high low (e .sorts) ≡ some (e .result)
 unfolding operatorSort
-by-rule {o} e = passed (ltb o operatorCount && eqb (length (e .sorts)) (operatorAt o .operands)) (e .sorted) .1
+by-rule {operator} e = passed (ltb operator operatorCount && eqb (length (e .sorts)) (operatorAt operator .operands)) (e .sorted) .1
 
-module _ {o i j n m rule k : ℕ} (rule-is : rule ≡ ruleNumber (operatorAt o .rule)) (number : rule ≡ k) where
+module _ {operator high low first second rule k : ℕ} (rule-is : rule ≡ ruleNumber (operatorAt operator .rule)) (number : rule ≡ k) where
   -- The rule of the number gives the result.
-  by-number : (e : Sortable o i j n m) → sortBy (ruleAt k) i j (e .sorts) ≡ some (e .result)
-  by-number e = rw (rule-at (operatorAt o .rule) ∙ ap ruleAt (sym rule-is ∙ number)) at (by-rule e)
+  by-number : (e : Sortable operator high low first second) → sortBy (ruleAt k) high low (e .sorts) ≡ some (e .result)
+  by-number e = rw (rule-at (operatorAt operator .rule) ∙ ap ruleAt (sym rule-is ∙ number)) at (by-rule e)
 
   -- The result of the rule `choice`.
-  pub chosen-result : k ≡ 2 → ResultSort o i j n m m
-  chosen-result q e = e .sort-two ∙ choice-sort i j (e .sorts) (rw q at (by-number e))
+  pub chosen-result : k ≡ 2 → ResultSort operator high low first second second
+  chosen-result q e = e .sort-two ∙ choice-sort high low (e .sorts) (rw q at (by-number e))
 
   -- The result of the rule `width`.
-  pub width-result : k ≡ 3 → ResultSort o i j n m n
-  width-result q e = e .sort-one ∙ width-sort i j (e .sorts) (rw q at (by-number e))
+  pub width-result : k ≡ 3 → ResultSort operator high low first second first
+  width-result q e = e .sort-one ∙ width-sort high low (e .sorts) (rw q at (by-number e))
 
   -- The result of the rule `joining`.
-  pub joined-result : k ≡ 5 → ResultSort o i j n m (n + m)
-  joined-result q e = rw (e .sort-one, e .sort-two) (joining-sort i j (e .sorts) (rw q at (by-number e)) .0)
+  pub joined-result : k ≡ 5 → ResultSort operator high low first second (first + second)
+  joined-result q e = rw (e .sort-one, e .sort-two) (joining-sort high low (e .sorts) (rw q at (by-number e)) .0)
 
   -- It is at most 64.
-  pub joined-narrow : k ≡ 5 → Sortable o i j n m → n + m ≤ maxWidth
-  joined-narrow q e = rw (e .sort-one, e .sort-two) (joining-sort i j (e .sorts) (rw q at (by-number e)) .1)
+  pub joined-narrow : k ≡ 5 → Sortable operator high low first second → first + second ≤ maxWidth
+  joined-narrow q e = rw (e .sort-one, e .sort-two) (joining-sort high low (e .sorts) (rw q at (by-number e)) .1)
 
   -- The result of the rule `cutting`.
-  pub cut-result : k ≡ 6 → ResultSort o i j n m (i - j + 1)
-  cut-result q e = cutting-sort i j (e .sorts) (rw q at (by-number e)) .0
+  pub cut-result : k ≡ 6 → ResultSort operator high low first second (high - low + 1)
+  cut-result q e = cutting-sort high low (e .sorts) (rw q at (by-number e)) .0
 
   -- Its numbers are in order.
-  pub cut-order : k ≡ 6 → Sortable o i j n m → j ≤ i
-  cut-order q e = cutting-sort i j (e .sorts) (rw q at (by-number e)) .1
+  pub cut-order : k ≡ 6 → Sortable operator high low first second → low ≤ high
+  cut-order q e = cutting-sort high low (e .sorts) (rw q at (by-number e)) .1
 
   -- They are below the width.
-  pub cut-below : k ≡ 6 → Sortable o i j n m → i < n
-  cut-below q e = rw (e .sort-one) (cutting-sort i j (e .sorts) (rw q at (by-number e)) .2)
+  pub cut-below : k ≡ 6 → Sortable operator high low first second → high < first
+  cut-below q e = rw (e .sort-one) (cutting-sort high low (e .sorts) (rw q at (by-number e)) .2)
 
 -- Any other rule gives Bool.
-pub bool-result : {o i j n m rule : ℕ} → rule ≡ ruleNumber (operatorAt o .rule) → (rule ≡ 2 → ⊥) → (rule ≡ 3 → ⊥) → (rule ≡ 5 → ⊥) → (rule ≡ 6 → ⊥)
-    → ResultSort o i j n m 0
-bool-result {o} {i} {j} q a b c d e =
-    truths (operatorAt o .rule) (gives-bool (operatorAt o .rule) (rw q at a) (rw q at b) (rw q at c) (rw q at d)) i j (e .sorts) (by-rule e)
+pub bool-result : {operator high low first second rule : ℕ} → rule ≡ ruleNumber (operatorAt operator .rule)
+    → (rule ≡ 2 → ⊥) → (rule ≡ 3 → ⊥) → (rule ≡ 5 → ⊥) → (rule ≡ 6 → ⊥) → ResultSort operator high low first second 0
+bool-result {operator} {high} {low} q a b c d e =
+    truths (operatorAt operator .rule) (gives-bool (operatorAt operator .rule) (rw q at a) (rw q at b) (rw q at c) (rw q at d)) high low (e .sorts) (by-rule e)

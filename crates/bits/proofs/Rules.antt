@@ -4,26 +4,15 @@ use native.Mathlib.Omega.{arith}
 use mathlib.Core.Path.{_≡_, refl, subst, subst⁻¹}
 use mathlib.Core.Bool.{Bool, true, false, cond, _&&_}
 use mathlib.Core.List.{List, [], _∷_}
-use mathlib.Core.Option.{Option, none, some}
+use mathlib.Core.Option.{some}
 use lib.Dec.{eqb, leb, ltb}
 use lib.ListN.{getD, length}
 use borrow.Author.Tests.{eqb-true, leb-true, lt-ltb, ltb-true}
-use Rattle.bits.specs.Sorts.{AllFit, Fit, Rule, allAre, bool, choice, cutting, equality, joining, logic, maxWidth, order, sortBy, vector, when, width}
+use Rattle.forest.proofs.Bools.{and-left, and-right, apart}
+use Rattle.forest.proofs.Options.{never}
+use Rattle.bits.specs.Sorts.{AllFit, Fit, SortRule, allAre, bool, choice, cutting, equality, joining, logic, maxWidth, order, sortBy, vector, when, width}
 use Rattle.bits.specs.Sorts.AllFit.{nothing, also}
 use Rattle.bits.specs.Steps.{Joined, Width, Word}
-
--- Nothing is both none and some.
-never : {A : Type 0} {r : ℕ} → none ≡ some r → A
-never h = let z : _≡_ {A = ℕ} 0 1 = cc in absurd (omega arith)
-
--- No test both passes and fails.
-apart : {A : Type 0} → false ≡ true → A
-apart h = let z : _≡_ {A = ℕ} 0 1 = cc in absurd (omega arith)
-
--- A test that gives something has passed.
-pub passed : (test : Bool) {m : Option ℕ} {r : ℕ} → cond test m none ≡ some r → (test ≡ true) × (m ≡ some r)
-passed true h = (refl, h)
-passed false h = never h
 
 -- A rule that gives a sort has passed its test, and the sort is the one it gives.
 pub ruled : (test : Bool) {s r : ℕ} → when test s ≡ some r → (test ≡ true) × (s ≡ r)
@@ -32,8 +21,7 @@ ruled false h = never h
 
 -- Two tests that pass together pass each.
 pub both : (a b : Bool) → (a && b) ≡ true → (a ≡ true) × (b ≡ true)
-both true b h = (refl, h)
-both false b h = apart h
+both a b h = (and-left a b h, and-right a b h)
 
 -- A value of a vector's sort is a word of its width.
 word : {s v : ℕ} → vector s ≡ true → Fit s v → Word s v
@@ -54,7 +42,7 @@ alike s (also {s = t} {ss = ss} f more) h zero l = rw (eqb-true t s (both (eqb t
 alike s (also {s = t} {ss = ss} f more) h (suc k) l = alike s more (both (eqb t s) (allAre s ss) h .1) k (omega arith)
 
 -- Whether a rule's result is Bool.
-abbrev pub givesBool : Rule → Bool
+abbrev pub givesBool : SortRule → Bool
 givesBool logic = true
 givesBool equality = true
 givesBool order = true
@@ -64,7 +52,7 @@ givesBool joining = false
 givesBool cutting = false
 
 -- What such a rule says: the result is Bool.
-pub truths : (rule : Rule) → givesBool rule ≡ true → (i j : ℕ) (ss : List ℕ) {r : ℕ} → sortBy rule i j ss ≡ some r → bool ≡ r
+pub truths : (rule : SortRule) → givesBool rule ≡ true → (i j : ℕ) (ss : List ℕ) {r : ℕ} → sortBy rule i j ss ≡ some r → bool ≡ r
 unfolding sortBy
 truths logic b i j ss h = ruled (allAre bool ss) h .1
 truths equality b i j [] h = never h

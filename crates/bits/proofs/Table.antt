@@ -12,6 +12,11 @@ use Rattle.forest.proofs.Bools.{each}
 use Rattle.forest.specs.Lists.{spelling}
 use Rattle.bits.specs.Operators.{Operator, noOperator, operatorAt, operatorCount, operators}
 
+-- There are as many operators as rows.
+pub operators-counted : operatorCount ≡ length operators
+unfolding operators
+operators-counted = refl
+
 -- A column read at o is that column of operator o.
 pub column : {A : Type 0} (f : Operator → A) (o : ℕ) → getD (map f operators) o (f noOperator) ≡ f (operatorAt o)
 unfolding operatorAt

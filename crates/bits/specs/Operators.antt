@@ -1,14 +1,16 @@
 -- The operator table. "Each operator's name, operand count and sort rule stand in one table."
 use Prim.Native.Nat.{ℕ, _+_}
 use Prim.Native.String.{String}
-use mathlib.Core.Bool.{Bool, true, false, cond, _&&_}
+use mathlib.Core.Bool.{cond, _&&_}
 use mathlib.Core.List.{List, [], _∷_}
 use mathlib.Core.Option.{Option, none}
 use lib.Dec.{eqb, ltb}
 use lib.ListN.{getD, length}
-use Rattle.forest.specs.Lists.{spelling}
-use Rattle.bits.specs.Sorts.{Rule, choice, cutting, equality, joining, logic, order, sortBy, width}
-use Rattle.bits.specs.Values.{andValue, bvaddValue, bvandValue, bvlshrValue, bvmulValue, bvnegValue, bvnotValue, bvorValue, bvshlValue, bvsubValue, bvudivValue, bvultValue, bvuremValue, bvxorValue, concatValue, distinctValue, equalValue, extractValue, impliesValue, iteValue, notValue, orValue, xorValue}
+use Rattle.forest.specs.Lists.{sameBytes, spelling}
+use Rattle.bits.specs.Sorts.{SortRule, choice, cutting, equality, joining, logic, order, sortBy, width}
+use Rattle.bits.specs.Values.{andValue, bvaddValue, bvandValue, bvlshrValue, bvmulValue, bvnegValue, bvnotValue, bvorValue, bvshlValue, bvsubValue}
+use Rattle.bits.specs.Values.{bvudivValue, bvultValue, bvuremValue, bvxorValue, concatValue, distinctValue, equalValue, extractValue, impliesValue}
+use Rattle.bits.specs.Values.{iteValue, notValue, orValue, xorValue}
 
 -- What an operator's value is made of: the numbers of `(_ extract i j)`, and the sorts and the values of its operands.
 pub record Operands : Type 0 where
@@ -41,11 +43,11 @@ widthOfTwo x = getD (x .sorts) 1 0
 pub record Operator : Type 0 where
   pub name : String
   pub operands : ℕ
-  pub rule : Rule
+  pub rule : SortRule
   pub value : Operands → ℕ
 
 -- A row.
-abbrev pub row : String → ℕ → Rule → (Operands → ℕ) → Operator
+abbrev pub row : String → ℕ → SortRule → (Operands → ℕ) → Operator
 row name operands rule value = record { name = name; operands = operands; rule = rule; value = value }
 
 -- "Operators, two operands each unless said: `not`(1) `and or xor => = distinct ite`(3); `bvnot`(1) `bvneg`(1) `bvand bvor bvxor bvadd bvsub bvmul bvudiv
@@ -77,7 +79,7 @@ operators =
     ∷ row "extract" 1 cutting (λ x. extractValue (x .i) (x .j) (one x))
     ∷ []
 
--- How many operators there are; also the number that stands for "no operator".
+-- How many operators there are, which is the number of rows (`proofs/Table: operators-counted`); also the number that stands for "no operator".
 abbrev pub operatorCount : ℕ
 operatorCount = 23
 
@@ -88,13 +90,6 @@ noOperator = row "" 0 logic (λ x. 0)
 -- Operator o.
 unfoldable pub operatorAt : ℕ → Operator
 operatorAt o = getD operators o noOperator
-
--- Whether two lists of bytes are the same.
-unfoldable pub sameBytes : List ℕ → List ℕ → Bool
-sameBytes [] [] = true
-sameBytes [] (b ∷ v) = false
-sameBytes (a ∷ u) [] = false
-sameBytes (a ∷ u) (b ∷ v) = eqb a b && sameBytes u v
 
 -- The place of the first row that has the name, counted from o; past the last row where none has it.
 unfoldable pub named : List Operator → ℕ → (name : List ℕ) → ℕ

@@ -41,25 +41,25 @@ abbrev pub when : Bool → ℕ → Option ℕ
 when test s = cond test (some s) none
 
 -- The sort rules of the operators.
-pub data Rule : Type 0 where
+pub data SortRule : Type 0 where
   -- operands Bool, result Bool: `not and or xor =>`
-  logic : Rule
+  logic : SortRule
   -- operands of one sort, result Bool: `= distinct`
-  equality : Rule
+  equality : SortRule
   -- a Bool and two operands of one sort, which is the result's: `ite`
-  choice : Rule
+  choice : SortRule
   -- operands of one width, which is the result's: `bvnot` to `bvlshr`
-  width : Rule
+  width : SortRule
   -- operands of one width, result Bool: `bvult`
-  order : Rule
+  order : SortRule
   -- the result as wide as its two operands together: `concat`
-  joining : Rule
+  joining : SortRule
   -- bits i down to j of the operand: `(_ extract i j)`
-  cutting : Rule
+  cutting : SortRule
 
 -- The sort of the result, where the operands have the sorts ss and i and j are the numbers of `(_ extract i j)`; none for operands that do not fit.
 -- "`(_ extract i j)`(1), where j ≤ i < n (else 8) and the width is i - j + 1. A `concat` wider than 64 is answer 8."
-unfoldable pub sortBy : Rule → (i j : ℕ) → (ss : List ℕ) → Option ℕ
+unfoldable pub sortBy : SortRule → (i j : ℕ) → (ss : List ℕ) → Option ℕ
 sortBy logic i j ss = when (allAre bool ss) bool
 sortBy equality i j (s ∷ more) = when (allAre s more) bool
 sortBy equality i j [] = none
@@ -77,7 +77,7 @@ sortBy cutting i j (s ∷ more) = when (leb j i && ltb i s) (i - j + 1)
 sortBy cutting i j [] = none
 
 -- The number of a rule in the operator table.
-abbrev pub ruleNumber : Rule → ℕ
+abbrev pub ruleNumber : SortRule → ℕ
 ruleNumber logic = 0
 ruleNumber equality = 1
 ruleNumber choice = 2

@@ -1,4 +1,6 @@
 //! Values of the operators on numbers of a width from 1 to 64, and the operator table.
 pub mod operators;
-pub mod truth;
-pub mod vectors;
+mod truth;
+mod vectors;
+
+pub use vectors::ones;

@@ -24,8 +24,8 @@ use crate::vectors::concat;
 use crate::vectors::extract;
 ghost use mathlib.Core.Path.{_≡_};
 ghost use Prim.Native.Nat.{_<_};
-ghost use Rattle.forest.specs.Lists.{spelling};
-ghost use Rattle.bits.specs.Operators.{operatorAt, operatorOf, sameBytes};
+ghost use Rattle.forest.specs.Lists.{sameBytes, spelling};
+ghost use Rattle.bits.specs.Operators.{operatorAt, operatorCount, operatorOf};
 ghost use Rattle.bits.specs.Sorts.{ruleNumber};
 ghost use Rattle.bits.specs.Steps.{Applied, Operable, ResultSort, Sortable};
 
@@ -117,13 +117,13 @@ const RULES: [u64; 23] = [
     6,
 ];
 
-// Whether a word is the name of operator `o`.
-fn is_name(o: usize, word: &[u8]) -> bool
-    requires { ⌜ o < 23 ⌝ }
-    ensures { λ r. ⌜ r ≡ sameBytes (spelling (operatorAt o .name)) (now (word .entry)) ⌝ }
+// Whether a word is the name of an operator.
+fn is_name(operator: usize, word: &[u8]) -> bool
+    requires { ⌜ operator < operatorCount ⌝ }
+    ensures { λ r. ⌜ r ≡ sameBytes (spelling (operatorAt operator .name)) (now (word .entry)) ⌝ }
 {
-    let start = STARTS[o];
-    if word.len() != STARTS[o + 1] - start {
+    let start = STARTS[operator];
+    if word.len() != STARTS[operator + 1] - start {
         return false;
     }
     let mut k = 0;
@@ -140,80 +140,93 @@ fn is_name(o: usize, word: &[u8]) -> bool
 pub fn operator_of(word: &[u8]) -> usize
     ensures { λ r. ⌜ r ≡ operatorOf (now (word .entry)) ⌝ }
 {
-    let mut o = 0;
-    while o < OPERATORS {
-        if is_name(o, word) {
-            return o;
+    let mut operator = 0;
+    while operator < OPERATORS {
+        if is_name(operator, word) {
+            return operator;
         }
-        o += 1;
+        operator += 1;
     }
-    o
+    operator
 }
 
-// How many operands operator `o` has; 0 past the last operator.
-pub fn operands_of(o: usize) -> usize
-    ensures { λ r. ⌜ r ≡ operatorAt o .operands ⌝ }
+// How many operands an operator has; 0 past the last operator.
+pub fn operands_of(operator: usize) -> usize
+    ensures { λ r. ⌜ r ≡ operatorAt operator .operands ⌝ }
 {
-    if o < OPERATORS {
-        return OPERANDS[o];
+    if operator < OPERATORS {
+        OPERANDS[operator]
+    } else {
+        0
     }
-    0
 }
 
-// The number of operator `o`'s sort rule; 0 past the last operator.
-pub fn rule_of(o: usize) -> u64
-    ensures { λ r. ⌜ r ≡ ruleNumber (operatorAt o .rule) ⌝ }
+// The number of an operator's sort rule; 0 past the last operator.
+pub fn rule_of(operator: usize) -> u64
+    ensures { λ r. ⌜ r ≡ ruleNumber (operatorAt operator .rule) ⌝ }
 {
-    if o < OPERATORS {
-        return RULES[o];
+    if operator < OPERATORS {
+        RULES[operator]
+    } else {
+        0
     }
-    0
 }
 
-// The sort of operator `o` over operands that it takes, of which the first two have these sorts; what is not there is 0.
-pub fn result_sort(o: usize, i: u64, j: u64, n: u64, m: u64) -> u64
-    requires { ⌜ Sortable o i j n m ⌝ }
-    ensures { λ r. ⌜ ResultSort o i j n m r ⌝ }
+// The sort of an operator, with `high` and `low` the numbers of an `extract`, over operands that it takes, of which the first two have the sorts `first` and
+// `second`; what is not there is 0.
+pub fn result_sort(operator: usize, high: u64, low: u64, first: u64, second: u64) -> u64
+    requires { ⌜ Sortable operator high low first second ⌝ }
+    ensures { λ r. ⌜ ResultSort operator high low first second r ⌝ }
 {
-    let rule = rule_of(o);
+    let rule = rule_of(operator);
     match rule {
-        2 => m,
-        3 => n,
-        5 => n + m,
-        6 => i - j + 1,
+        2 => second,
+        3 => first,
+        5 => first + second,
+        6 => high - low + 1,
         _ => 0,
     }
 }
 
-// The value of operator `o` over the values of its operands, of which the first two have these widths; what is not there is 0.
-pub fn apply(o: usize, i: u64, j: u64, n: u64, m: u64, a: u64, b: u64, c: u64) -> u64
-    requires { ⌜ Operable o i j n m a b c ⌝ }
-    ensures { λ r. ⌜ Applied o i j n m a b c r ⌝ }
+// The value of an operator, with `high` and `low` the numbers of an `extract`, over operands of the values `one`, `two` and `three`, of which the first two
+// have the widths `first` and `second`; what is not there is 0.
+pub fn apply(
+    operator: usize,
+    high: u64,
+    low: u64,
+    first: u64,
+    second: u64,
+    one: u64,
+    two: u64,
+    three: u64,
+) -> u64
+    requires { ⌜ Operable operator high low first second one two three ⌝ }
+    ensures { λ r. ⌜ Applied operator high low first second one two three r ⌝ }
 {
-    match o {
-        0 => not_of(a),
-        1 => and_of(a, b),
-        2 => or_of(a, b),
-        3 => xor_of(a, b),
-        4 => implies(a, b),
-        5 => equal(a, b),
-        6 => distinct(a, b),
-        7 => ite(a, b, c),
-        8 => bvnot(n, a),
-        9 => bvneg(n, a),
-        10 => bvand(a, b),
-        11 => bvor(a, b),
-        12 => bvxor(a, b),
-        13 => bvadd(n, a, b),
-        14 => bvsub(n, a, b),
-        15 => bvmul(n, a, b),
-        16 => bvudiv(n, a, b),
-        17 => bvurem(a, b),
-        18 => bvshl(n, a, b),
-        19 => bvlshr(n, a, b),
-        20 => bvult(a, b),
-        21 => concat(n, m, a, b),
-        22 => extract(i, j, a),
+    match operator {
+        0 => not_of(one),
+        1 => and_of(one, two),
+        2 => or_of(one, two),
+        3 => xor_of(one, two),
+        4 => implies(one, two),
+        5 => equal(one, two),
+        6 => distinct(one, two),
+        7 => ite(one, two, three),
+        8 => bvnot(first, one),
+        9 => bvneg(first, one),
+        10 => bvand(one, two),
+        11 => bvor(one, two),
+        12 => bvxor(one, two),
+        13 => bvadd(first, one, two),
+        14 => bvsub(first, one, two),
+        15 => bvmul(first, one, two),
+        16 => bvudiv(first, one, two),
+        17 => bvurem(one, two),
+        18 => bvshl(first, one, two),
+        19 => bvlshr(first, one, two),
+        20 => bvult(one, two),
+        21 => concat(first, second, one, two),
+        22 => extract(high, low, one),
         _ => 0,
     }
 }

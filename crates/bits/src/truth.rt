@@ -4,71 +4,71 @@ ghost use Prim.Native.Nat.{_<_};
 ghost use Rattle.bits.specs.Values.{andValue, bvultValue, distinctValue, equalValue, impliesValue, iteValue, notValue, orValue, truth, xorValue};
 
 // The number of a truth value.
-fn number_of(b: bool) -> u64
-    ensures { λ r. ⌜ r ≡ truth b ⌝ }
+fn number_of(test: bool) -> u64
+    ensures { λ r. ⌜ r ≡ truth test ⌝ }
 {
-    if b { 1 } else { 0 }
+    if test { 1 } else { 0 }
 }
 
 // `not`
-pub fn not_of(a: u64) -> u64
-    ensures { λ r. ⌜ r ≡ notValue a ⌝ }
+pub(crate) fn not_of(value: u64) -> u64
+    ensures { λ r. ⌜ r ≡ notValue value ⌝ }
 {
-    number_of(a != 1)
+    number_of(value != 1)
 }
 
 // `and`
-pub fn and_of(a: u64, b: u64) -> u64
-    ensures { λ r. ⌜ r ≡ andValue a b ⌝ }
+pub(crate) fn and_of(left: u64, right: u64) -> u64
+    ensures { λ r. ⌜ r ≡ andValue left right ⌝ }
 {
-    number_of((a == 1) & (b == 1))
+    number_of((left == 1) & (right == 1))
 }
 
 // `or`
-pub fn or_of(a: u64, b: u64) -> u64
-    ensures { λ r. ⌜ r ≡ orValue a b ⌝ }
+pub(crate) fn or_of(left: u64, right: u64) -> u64
+    ensures { λ r. ⌜ r ≡ orValue left right ⌝ }
 {
-    number_of((a == 1) | (b == 1))
+    number_of((left == 1) | (right == 1))
 }
 
 // `xor`
-pub fn xor_of(a: u64, b: u64) -> u64
-    ensures { λ r. ⌜ r ≡ xorValue a b ⌝ }
+pub(crate) fn xor_of(left: u64, right: u64) -> u64
+    ensures { λ r. ⌜ r ≡ xorValue left right ⌝ }
 {
-    number_of(((a == 1) & (b != 1)) | ((a != 1) & (b == 1)))
+    number_of(((left == 1) & (right != 1)) | ((left != 1) & (right == 1)))
 }
 
 // `=>`
-pub fn implies(a: u64, b: u64) -> u64
-    ensures { λ r. ⌜ r ≡ impliesValue a b ⌝ }
+pub(crate) fn implies(left: u64, right: u64) -> u64
+    ensures { λ r. ⌜ r ≡ impliesValue left right ⌝ }
 {
-    number_of((a != 1) | (b == 1))
+    number_of((left != 1) | (right == 1))
 }
 
 // `=`
-pub fn equal(a: u64, b: u64) -> u64
-    ensures { λ r. ⌜ r ≡ equalValue a b ⌝ }
+pub(crate) fn equal(left: u64, right: u64) -> u64
+    ensures { λ r. ⌜ r ≡ equalValue left right ⌝ }
 {
-    number_of(a == b)
+    number_of(left == right)
 }
 
 // `distinct`
-pub fn distinct(a: u64, b: u64) -> u64
-    ensures { λ r. ⌜ r ≡ distinctValue a b ⌝ }
+pub(crate) fn distinct(left: u64, right: u64) -> u64
+    ensures { λ r. ⌜ r ≡ distinctValue left right ⌝ }
 {
-    number_of(a != b)
+    number_of(left != right)
 }
 
 // `bvult`
-pub fn bvult(a: u64, b: u64) -> u64
-    ensures { λ r. ⌜ r ≡ bvultValue a b ⌝ }
+pub(crate) fn bvult(left: u64, right: u64) -> u64
+    ensures { λ r. ⌜ r ≡ bvultValue left right ⌝ }
 {
-    number_of(a < b)
+    number_of(left < right)
 }
 
 // `ite`
-pub fn ite(c: u64, a: u64, b: u64) -> u64
-    ensures { λ r. ⌜ r ≡ iteValue c a b ⌝ }
+pub(crate) fn ite(test: u64, left: u64, right: u64) -> u64
+    ensures { λ r. ⌜ r ≡ iteValue test left right ⌝ }
 {
-    if c == 1 { a } else { b }
+    if test == 1 { left } else { right }
 }

@@ -1,159 +1,160 @@
-//! The operators on bit vectors: numbers below 2^n, where n is a width from 1 to 64.
+//! The operators on bit vectors: numbers below 2^width, where the width is from 1 to 64.
 ghost use mathlib.Core.Path.{_≡_};
 ghost use Prim.Native.Nat.{_*_, _-_, _%_, _^_, _<_, _≤_};
 ghost use Rattle.bits.specs.Steps.{Joined, Width, Word, Words};
-ghost use Rattle.bits.specs.Values.{bvaddValue, bvandValue, bvlshrValue, bvmulValue, bvnegValue, bvnotValue, bvorValue, bvshlValue, bvsubValue, bvudivValue, bvuremValue, bvxorValue, concatValue, extractValue};
+ghost use Rattle.bits.specs.Values.{bvaddValue, bvandValue, bvlshrValue, bvmulValue, bvnegValue, bvnotValue, bvorValue};
+ghost use Rattle.bits.specs.Values.{bvshlValue, bvsubValue, bvudivValue, bvuremValue, bvxorValue, concatValue, extractValue};
 
-// 2^n - 1: all ones.
-pub fn ones(n: u64) -> u64
-    requires { ⌜ Width n ⌝ }
-    ensures { λ r. ⌜ r ≡ 2 ^ n - 1 ⌝ }
+// 2^width - 1: all ones.
+pub fn ones(width: u64) -> u64
+    requires { ⌜ Width width ⌝ }
+    ensures { λ r. ⌜ r ≡ 2 ^ width - 1 ⌝ }
 {
-    u64::MAX >> (64 - n)
+    u64::MAX >> (64 - width)
 }
 
-// x modulo 2^n.
-fn cut(x: u64, n: u64) -> u64
-    requires { ⌜ Width n ⌝ }
-    ensures { λ r. ⌜ r ≡ x % 2 ^ n ⌝ }
+// A number modulo 2^width.
+fn cut(value: u64, width: u64) -> u64
+    requires { ⌜ Width width ⌝ }
+    ensures { λ r. ⌜ r ≡ value % 2 ^ width ⌝ }
 {
-    x & ones(n)
+    value & ones(width)
 }
 
 // `bvnot`
-pub fn bvnot(n: u64, a: u64) -> u64
-    requires { ⌜ Word n a ⌝ }
-    ensures { λ r. ⌜ r ≡ bvnotValue n a ⌝ }
+pub(crate) fn bvnot(width: u64, value: u64) -> u64
+    requires { ⌜ Word width value ⌝ }
+    ensures { λ r. ⌜ r ≡ bvnotValue width value ⌝ }
 {
-    ones(n) - a
+    ones(width) - value
 }
 
 // `bvneg`
-pub fn bvneg(n: u64, a: u64) -> u64
-    requires { ⌜ Word n a ⌝ }
-    ensures { λ r. ⌜ r ≡ bvnegValue n a ⌝ }
+pub(crate) fn bvneg(width: u64, value: u64) -> u64
+    requires { ⌜ Word width value ⌝ }
+    ensures { λ r. ⌜ r ≡ bvnegValue width value ⌝ }
 {
-    if a == 0 {
+    if value == 0 {
         return 0;
     }
-    ones(n) - (a - 1)
+    ones(width) - (value - 1)
 }
 
 // `bvand`
-pub fn bvand(a: u64, b: u64) -> u64
-    ensures { λ r. ⌜ r ≡ bvandValue a b ⌝ }
+pub(crate) fn bvand(left: u64, right: u64) -> u64
+    ensures { λ r. ⌜ r ≡ bvandValue left right ⌝ }
 {
-    a & b
+    left & right
 }
 
 // `bvor`
-pub fn bvor(a: u64, b: u64) -> u64
-    ensures { λ r. ⌜ r ≡ bvorValue a b ⌝ }
+pub(crate) fn bvor(left: u64, right: u64) -> u64
+    ensures { λ r. ⌜ r ≡ bvorValue left right ⌝ }
 {
-    a | b
+    left | right
 }
 
 // `bvxor`
-pub fn bvxor(a: u64, b: u64) -> u64
-    ensures { λ r. ⌜ r ≡ bvxorValue a b ⌝ }
+pub(crate) fn bvxor(left: u64, right: u64) -> u64
+    ensures { λ r. ⌜ r ≡ bvxorValue left right ⌝ }
 {
-    a ^ b
+    left ^ right
 }
 
 // `bvadd`
-pub fn bvadd(n: u64, a: u64, b: u64) -> u64
-    requires { ⌜ Width n ⌝ }
-    ensures { λ r. ⌜ r ≡ bvaddValue n a b ⌝ }
+pub(crate) fn bvadd(width: u64, left: u64, right: u64) -> u64
+    requires { ⌜ Width width ⌝ }
+    ensures { λ r. ⌜ r ≡ bvaddValue width left right ⌝ }
 {
-    cut(std::num::wrapping_add_u64(a, b), n)
+    cut(std::num::wrapping_add_u64(left, right), width)
 }
 
 // `bvsub`
-pub fn bvsub(n: u64, a: u64, b: u64) -> u64
-    requires { ⌜ Words n a b ⌝ }
-    ensures { λ r. ⌜ r ≡ bvsubValue n a b ⌝ }
+pub(crate) fn bvsub(width: u64, left: u64, right: u64) -> u64
+    requires { ⌜ Words width left right ⌝ }
+    ensures { λ r. ⌜ r ≡ bvsubValue width left right ⌝ }
 {
-    if b <= a {
-        return a - b;
+    if right <= left {
+        return left - right;
     }
-    ones(n) - (b - a - 1)
+    ones(width) - (right - left - 1)
 }
 
 // The low 64 bits of a product, by halves of 32 bits.
-fn low_product(a: u64, b: u64) -> u64
-    ensures { λ r. ⌜ r ≡ a * b % 2 ^ 64 ⌝ }
+fn low_product(left: u64, right: u64) -> u64
+    ensures { λ r. ⌜ r ≡ left * right % 2 ^ 64 ⌝ }
 {
-    let a_low = a & 0xffff_ffff;
-    let a_high = a >> 32;
-    let b_low = b & 0xffff_ffff;
-    let b_high = b >> 32;
-    let middle = std::num::wrapping_add_u64(a_high * b_low, a_low * b_high);
-    std::num::wrapping_add_u64(middle << 32, a_low * b_low)
+    let left_low = left & 0xffff_ffff;
+    let left_high = left >> 32;
+    let right_low = right & 0xffff_ffff;
+    let right_high = right >> 32;
+    let middle = std::num::wrapping_add_u64(left_high * right_low, left_low * right_high);
+    std::num::wrapping_add_u64(middle << 32, left_low * right_low)
 }
 
 // `bvmul`
-pub fn bvmul(n: u64, a: u64, b: u64) -> u64
-    requires { ⌜ Width n ⌝ }
-    ensures { λ r. ⌜ r ≡ bvmulValue n a b ⌝ }
+pub(crate) fn bvmul(width: u64, left: u64, right: u64) -> u64
+    requires { ⌜ Width width ⌝ }
+    ensures { λ r. ⌜ r ≡ bvmulValue width left right ⌝ }
 {
-    cut(low_product(a, b), n)
+    cut(low_product(left, right), width)
 }
 
 // `bvudiv`
-pub fn bvudiv(n: u64, a: u64, b: u64) -> u64
-    requires { ⌜ Width n ⌝ }
-    ensures { λ r. ⌜ r ≡ bvudivValue n a b ⌝ }
+pub(crate) fn bvudiv(width: u64, left: u64, right: u64) -> u64
+    requires { ⌜ Width width ⌝ }
+    ensures { λ r. ⌜ r ≡ bvudivValue width left right ⌝ }
 {
-    if b == 0 {
-        return ones(n);
+    if right == 0 {
+        return ones(width);
     }
-    a / b
+    left / right
 }
 
 // `bvurem`
-pub fn bvurem(a: u64, b: u64) -> u64
-    ensures { λ r. ⌜ r ≡ bvuremValue a b ⌝ }
+pub(crate) fn bvurem(left: u64, right: u64) -> u64
+    ensures { λ r. ⌜ r ≡ bvuremValue left right ⌝ }
 {
-    if b == 0 {
-        return a;
+    if right == 0 {
+        return left;
     }
-    a % b
+    left % right
 }
 
 // `bvshl`
-pub fn bvshl(n: u64, a: u64, b: u64) -> u64
-    requires { ⌜ Width n ⌝ }
-    ensures { λ r. ⌜ r ≡ bvshlValue n a b ⌝ }
+pub(crate) fn bvshl(width: u64, left: u64, right: u64) -> u64
+    requires { ⌜ Width width ⌝ }
+    ensures { λ r. ⌜ r ≡ bvshlValue width left right ⌝ }
 {
-    if n <= b {
+    if width <= right {
         return 0;
     }
-    cut(a << b, n)
+    cut(left << right, width)
 }
 
 // `bvlshr`
-pub fn bvlshr(n: u64, a: u64, b: u64) -> u64
-    requires { ⌜ Width n ⌝ }
-    ensures { λ r. ⌜ r ≡ bvlshrValue n a b ⌝ }
+pub(crate) fn bvlshr(width: u64, left: u64, right: u64) -> u64
+    requires { ⌜ Width width ⌝ }
+    ensures { λ r. ⌜ r ≡ bvlshrValue width left right ⌝ }
 {
-    if b < n {
-        return a >> b;
+    if right < width {
+        return left >> right;
     }
     0
 }
 
-// `concat`, of an operand of width n and one of width m.
-pub fn concat(n: u64, m: u64, a: u64, b: u64) -> u64
-    requires { ⌜ Joined n m a b ⌝ }
-    ensures { λ r. ⌜ r ≡ concatValue m a b ⌝ }
+// `concat`, of the operand `high` of width `first` and the operand `low` of width `second`.
+pub(crate) fn concat(first: u64, second: u64, high: u64, low: u64) -> u64
+    requires { ⌜ Joined first second high low ⌝ }
+    ensures { λ r. ⌜ r ≡ concatValue second high low ⌝ }
 {
-    (a << m) | b
+    (high << second) | low
 }
 
-// `(_ extract i j)`
-pub fn extract(i: u64, j: u64, a: u64) -> u64
-    requires { ⌜ (j ≤ i) × (i < 64) ⌝ }
-    ensures { λ r. ⌜ r ≡ extractValue i j a ⌝ }
+// `(_ extract high low)`
+pub(crate) fn extract(high: u64, low: u64, value: u64) -> u64
+    requires { ⌜ (low ≤ high) × (high < 64) ⌝ }
+    ensures { λ r. ⌜ r ≡ extractValue high low value ⌝ }
 {
-    cut(a >> j, i - j + 1)
+    cut(value >> low, high - low + 1)
 }

@@ -24,6 +24,7 @@ module _ {L : Type 0} where
   nodes-from (tree l ops rest) (suc i) = ap (drop i) (sym (nodes-join ops rest)) ∙ nodes-from (join ops rest) i
 
   -- the node at a cursor
-  pub node-at : (F : Forest L) (i : ℕ) (l : L) (ops rest : Forest L) → from F i ≡ tree l ops rest → drop i (nodesOf F) ≡ record { label = l; operands = ops } ∷ (nodesOf ops ++ nodesOf rest)
+  pub node-at : (F : Forest L) (i : ℕ) (l : L) (ops rest : Forest L) → from F i ≡ tree l ops rest
+      → drop i (nodesOf F) ≡ record { label = l; operands = ops } ∷ (nodesOf ops ++ nodesOf rest)
   unfolding nodesOf
   node-at F i l ops rest e = nodes-from F i ∙ ap nodesOf e

@@ -2,7 +2,7 @@
 use Prim.Native.Nat.{ℕ}
 use Prim.Native.Char.{code}
 use Prim.Native.String.{String, [] as empty, _∷_ as _then_}
-use mathlib.Core.Bool.{Bool, false, _||_}
+use mathlib.Core.Bool.{Bool, true, false, _&&_, _||_}
 use mathlib.Core.List.{List, [], _∷_}
 use lib.Dec.{eqb}
 
@@ -15,3 +15,10 @@ spelling (c then more) = code c ∷ spelling more
 abbrev pub among : ℕ → List ℕ → Bool
 among a [] = false
 among a (x ∷ more) = eqb a x || among a more
+
+-- Whether two lists of bytes are the same.
+unfoldable pub sameBytes : List ℕ → List ℕ → Bool
+sameBytes [] [] = true
+sameBytes [] (b ∷ v) = false
+sameBytes (a ∷ u) [] = false
+sameBytes (a ∷ u) (b ∷ v) = eqb a b && sameBytes u v

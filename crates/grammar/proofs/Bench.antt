@@ -5,28 +5,31 @@ use native.Mathlib.Omega.{arith}
 use mathlib.Core.List.{List, [], _∷_}
 use Rattle.forest.specs.Forest.{Forest, none, tree}
 use Rattle.terms.specs.Labels.{Label, Terms, literal, name, operator}
-use Rattle.grammar.specs.Derivation.{Item, the, nonTerminal, Rule, rule, headOf, formOf, Derives, done, use-rule, same, Fresh, Simple, s-done, s-rule, s-leaf, s-same}
+use Rattle.grammar.specs.Derivation.{Item, Grammar, Rule, rule, headOf, formOf, Derives, Fresh, Simple}
+use Rattle.grammar.specs.Derivation.Item.{the, nonTerminal}
+use Rattle.grammar.specs.Derivation.Derives.{done, use-rule, same}
+use Rattle.grammar.specs.Derivation.Simple.{s-done, s-rule, s-leaf, s-same}
 use Rattle.grammar.specs.Answer.{start}
 use Rattle.grammar.proofs.Same.{same-self}
 use Rattle.grammar.proofs.Likeness.{any-not-hole, any-not-label}
 use Rattle.grammar.proofs.Simple.{empty}
 
 -- a non-terminal alone, and a label alone
-abbrev hole : ℕ → Forest Item
+abbrev pub hole : ℕ → Forest Item
 hole A = tree (nonTerminal A) none none
 
-abbrev only : Label → Forest Item
+abbrev pub only : Label → Forest Item
 only l = tree (the l) none none
 
--- the argument x, of 32 bits
-abbrev x : Label
+-- the one argument x, of 32 bits
+abbrev pub x : Label
 x = name 32 0
 
 -- "Ring: A has rule B; B has A, x."
-abbrev ring : List Rule
-ring = rule 0 (hole 1) ∷ rule 1 (hole 0) ∷ rule 1 (only x) ∷ []
+abbrev pub ring : Grammar
+ring = record { arguments = 32 ∷ []; rules = rule 0 (hole 1) ∷ rule 1 (hole 0) ∷ rule 1 (only x) ∷ [] }
 
-abbrev ringBody : Terms
+abbrev pub ringBody : Terms
 ringBody = tree x none none
 
 -- "Body x shows 0, 2"
@@ -104,13 +107,16 @@ module _ (written : (sort value : ℕ) → ℕ) where
   extract i j = operator 22 i j
 
   -- BV32 is non-terminal 0, BV16 is 1
-  abbrev pub swap : List Rule
-  swap =
+  abbrev pub swapRules : List Rule
+  swapRules =
       rule 0 (only (word 32 0)) ∷ rule 0 (only (word 32 1)) ∷ rule 0 (only (word 32 4294967295)) ∷ rule 0 (only x)
       ∷ rule 0 (over-two bvand 0) ∷ rule 0 (over-two bvor 0) ∷ rule 0 (over-one bvnot 0) ∷ rule 0 (over-two concat 1)
       ∷ rule 1 (only (word 16 0)) ∷ rule 1 (only (word 16 1)) ∷ rule 1 (only (word 16 65535))
       ∷ rule 1 (over-two bvand 1) ∷ rule 1 (over-two bvor 1) ∷ rule 1 (over-one bvnot 1)
       ∷ rule 1 (over-one (extract 31 16) 0) ∷ rule 1 (over-one (extract 15 0) 0) ∷ []
+
+  abbrev pub swap : Grammar
+  swap = record { arguments = 32 ∷ []; rules = swapRules }
 
   -- `(concat ((_ extract 15 0) x) #x0000)`
   abbrev pub swapBody : Terms

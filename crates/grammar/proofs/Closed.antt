@@ -13,7 +13,9 @@ use lib.Seq.{getD-set-same, getD-set-other}
 use Rattle.forest.specs.Forest.{Forest, none, tree, count, from, first}
 use Rattle.forest.proofs.Laws.{Tree, tree-at, count-zero}
 use Rattle.terms.specs.Labels.{Terms}
-use Rattle.grammar.specs.Derivation.{Item, the, nonTerminal, anyArgument, anyLiteral, Rule, headOf, formOf, Proper, Derives, use-rule, done, leaf, same}
+use Rattle.grammar.specs.Derivation.{Item, headOf, formOf, Proper, Derives, Grammar}
+use Rattle.grammar.specs.Derivation.Item.{the, nonTerminal, anyArgument, anyLiteral}
+use Rattle.grammar.specs.Derivation.Derives.{use-rule, done, leaf, same}
 use Rattle.grammar.specs.Columns.{has}
 use Rattle.grammar.specs.Steps.{Puts, NoChain, Fits, DerivesAt, Applies, chain, no-chain, Asks, Chain, stop, more}
 use Rattle.grammar.proofs.Likeness.{any-not-hole}
@@ -42,7 +44,7 @@ unfolding Proper
 low-proper B p = p .0
 
 module _ {rules forms body masks : List ℕ} {i : ℕ} (q : Asks rules forms body masks i) where
-  abbrev pub G : List Rule
+  abbrev pub G : Grammar
   G = q .given .G
 
   abbrev pub D : Forest Item → Terms → List ℕ → Type 0
@@ -53,7 +55,7 @@ module _ {rules forms body masks : List ℕ} {i : ℕ} (q : Asks rules forms bod
 
   -- every rule that applies has its non-terminal in s
   abbrev pub Closed : ℕ → Type 0
-  Closed s = (r : ℕ) → r < length G → Applies G T s r → has s (headOf G r) ≡ true
+  Closed s = (r : ℕ) → r < length (G .rules) → Applies G T s r → has s (headOf (G .rules) r) ≡ true
 
   pub here : Tree T
   here = tree-at (q .given .F) i (q .inside)
@@ -70,10 +72,11 @@ module _ {rules forms body masks : List ℕ} {i : ℕ} (q : Asks rules forms bod
   unfolding Fits
   of-fits P c f = rw (c, first-one) at f
 
-  finish : (s : ℕ) → Closed s → (r : ℕ) → r < length G → Kind (formOf G r) → (ds : List ℕ) → D (formOf G r) (tree (here .l) (here .ops) none) ds
-      → ((B : ℕ) → formOf G r ≡ tree (nonTerminal B) none none → has s B ≡ true) → has s (headOf G r) ≡ true
+  finish : (s : ℕ) → Closed s → (r : ℕ) → r < length (G .rules) → Kind (formOf (G .rules) r) → (ds : List ℕ)
+      → D (formOf (G .rules) r) (tree (here .l) (here .ops) none) ds
+      → ((B : ℕ) → formOf (G .rules) r ≡ tree (nonTerminal B) none none → has s B ≡ true) → has s (headOf (G .rules) r) ≡ true
   finish s cl r h (is-chain B e) ds d rec = cl r h (chain B e (rec B e))
-  finish s cl r h (is-no-chain np) ds d rec = cl r h (no-chain np (to-fits (formOf G r) (q .given .admitted .single r h) ds d))
+  finish s cl r h (is-no-chain np) ds d rec = cl r h (no-chain np (to-fits (formOf (G .rules) r) (q .given .admitted .single r h) ds d))
 
   closed-all : (s : ℕ) → Closed s → {P : Forest Item} {U : Terms} {ds : List ℕ} → D P U ds → (A : ℕ) → P ≡ tree (nonTerminal A) none none
       → U ≡ tree (here .l) (here .ops) none → has s A ≡ true
@@ -82,8 +85,8 @@ module _ {rules forms body masks : List ℕ} {i : ℕ} (q : Asks rules forms bod
       let eAA : A' ≡ A = cc in
       let eu : tree l' ts none ≡ tree (here .l) (here .ops) none = cc in
       ap (has s) (path.sym (eA ∙ eAA))
-      ∙ finish s cl r h (kind (formOf G r) (q .given .admitted .proper r h) (q .given .admitted .single r h)) ds
-      (subst (λ (x : Terms). D (formOf G r) x ds) eu d)
+      ∙ finish s cl r h (kind (formOf (G .rules) r) (q .given .admitted .proper r h) (q .given .admitted .single r h)) ds
+      (subst (λ (x : Terms). D (formOf (G .rules) r) x ds) eu d)
       (λ B eB. closed-all s cl d B eB eu)
   closed-all s cl (leaf {i = k} a d) A e u = let q : k ≡ nonTerminal A = cc in absurd (any-not-hole a A q)
   closed-all s cl (same e2 d d2) A e u = let z : _≡_ {A = ℕ} 0 1 = cc in absurd (omega arith)
@@ -102,11 +105,11 @@ module _ {rules forms body masks : List ℕ} {i : ℕ} (q : Asks rules forms bod
   chain-some : {s : ℕ} {chosen : List ℕ} {A k : ℕ} → Chain G T s chosen A k
       → (ds : List ℕ) × D (tree (nonTerminal A) none none) (tree (here .l) (here .ops) none) ds
   chain-some {chosen = chosen} {A = A} (stop y! lt hd np f) =
-      let d = of-fits (formOf G (getD chosen A 0)) (q .given .admitted .single (getD chosen A 0) lt) f in
+      let d = of-fits (formOf (G .rules) (getD chosen A 0)) (q .given .admitted .single (getD chosen A 0) lt) f in
       (_, use-rule (getD chosen A 0) lt hd (d .1) done)
   chain-some {chosen = chosen} {A = A} (more B y! lt hd is c) =
       let d = chain-some c in
-      let d2 : D (formOf G (getD chosen A 0)) (tree (here .l) (here .ops) none) (d .0) = rw is (d .1) in
+      let d2 : D (formOf (G .rules) (getD chosen A 0)) (tree (here .l) (here .ops) none) (d .0) = rw is (d .1) in
       (_, use-rule (getD chosen A 0) lt hd d2 done)
 
   pub chain-derives : {s : ℕ} {chosen : List ℕ} {A k : ℕ} → Chain G T s chosen A k → DerivesAt G A T
@@ -117,44 +120,48 @@ module _ {rules forms body masks : List ℕ} {i : ℕ} (q : Asks rules forms bod
   chain-keep {s} {chosen} {A = A} x r s' f p (stop y! lt hd np fi) =
       let ne : A ≡ x → ⊥ = λ e. true≢false (path.sym y! ∙ ap (has s) e ∙ f) in
       let g : getD (set chosen x r) A 0 ≡ getD chosen A 0 = getD-set-other chosen x A r 0 ne in
-      stop (p .off A ne ∙ y!) (rw g lt) (ap (headOf G) g ∙ hd) (rw g np) (rw g fi)
+      stop (p .off A ne ∙ y!) (rw g lt) (ap (headOf (G .rules)) g ∙ hd) (rw g np) (rw g fi)
   chain-keep {s} {chosen} {A = A} x r s' f p (more B y! lt hd is c) =
       let ne : A ≡ x → ⊥ = λ e. true≢false (path.sym y! ∙ ap (has s) e ∙ f) in
       let g : getD (set chosen x r) A 0 ≡ getD chosen A 0 = getD-set-other chosen x A r 0 ne in
-      more B (p .off A ne ∙ y!) (rw g lt) (ap (headOf G) g ∙ hd) (ap (formOf G) g ∙ is) (chain-keep x r s' f p c)
+      more B (p .off A ne ∙ y!) (rw g lt) (ap (headOf (G .rules)) g ∙ hd) (ap (formOf (G .rules)) g ∙ is) (chain-keep x r s' f p c)
 
   -- every member of s has its choices
   abbrev pub Chosen : List ℕ → ℕ → Type 0
   Chosen chosen s = (A : ℕ) → A < 16 → has s A ≡ true → (k : ℕ) × Chain G T s chosen A k × (k ≤ cnt (has s) 16)
 
-  pub grows : (s r s' : ℕ) → r < length G → has s (headOf G r) ≡ false → Puts s (headOf G r) s' → cnt (has s) 16 < cnt (has s') 16
+  pub grows : (s r s' : ℕ) → r < length (G .rules) → has s (headOf (G .rules) r) ≡ false → Puts s (headOf (G .rules) r) s' → cnt (has s) 16 < cnt (has s') 16
   grows s r s' h f p =
-      cnt-grow (has s) (has s') 16 (headOf G r) (λ j l t. p .off j (λ e. true≢false (path.sym t ∙ ap (has s) e ∙ f)) ∙ t)
+      cnt-grow (has s) (has s') 16 (headOf (G .rules) r) (λ j l t. p .off j (λ e. true≢false (path.sym t ∙ ap (has s) e ∙ f)) ∙ t)
       (q .given .admitted .low r h) f (p .on)
 
-  new-chain : (chosen : List ℕ) (s r s' : ℕ) → length chosen ≡ 16 → r < length G → Chosen chosen s → has s (headOf G r) ≡ false
-      → Puts s (headOf G r) s' → Applies G T s r
-      → (k : ℕ) × Chain G T s' (set chosen (headOf G r) r) (headOf G r) k × (k ≤ cnt (has s') 16)
+  -- the rule that was set is the one chosen
+  now-chosen : (chosen : List ℕ) (r : ℕ) → length chosen ≡ 16 → r < length (G .rules) → getD (set chosen (headOf (G .rules) r) r) (headOf (G .rules) r) 0 ≡ r
+  now-chosen chosen r lc h = getD-set-same chosen (headOf (G .rules) r) r 0 (omega (arith, q .given .admitted .low r h))
+
+  new-chain : (chosen : List ℕ) (s r s' : ℕ) → length chosen ≡ 16 → r < length (G .rules) → Chosen chosen s → has s (headOf (G .rules) r) ≡ false
+      → Puts s (headOf (G .rules) r) s' → Applies G T s r
+      → (k : ℕ) × Chain G T s' (set chosen (headOf (G .rules) r) r) (headOf (G .rules) r) k × (k ≤ cnt (has s') 16)
   new-chain chosen s r s' lc h c f p (chain B is y!) =
-      let g : getD (set chosen (headOf G r) r) (headOf G r) 0 ≡ r = getD-set-same chosen (headOf G r) r 0 (omega (arith, q .given .admitted .low r h)) in
+      let g = now-chosen chosen r lc h in
       let b = c B (low-of B is) y! in (
         suc (b .0),
-        more B (p .on) (rw g h) (ap (headOf G) g) (ap (formOf G) g ∙ is) (chain-keep (headOf G r) r s' f p (b .1)),
+        more B (p .on) (rw g h) (ap (headOf (G .rules)) g) (ap (formOf (G .rules)) g ∙ is) (chain-keep (headOf (G .rules) r) r s' f p (b .1)),
         omega (arith, b .2, grows s r s' h f p),
       )
     where
-      low-of : (B : ℕ) → formOf G r ≡ tree (nonTerminal B) none none → B < 16
+      low-of : (B : ℕ) → formOf (G .rules) r ≡ tree (nonTerminal B) none none → B < 16
       low-of B is = low-proper B (subst (Proper 16) is (q .given .admitted .proper r h))
   new-chain chosen s r s' lc h c f p (no-chain np fi) =
-      let g : getD (set chosen (headOf G r) r) (headOf G r) 0 ≡ r = getD-set-same chosen (headOf G r) r 0 (omega (arith, q .given .admitted .low r h)) in
-      (1, stop (p .on) (rw g h) (ap (headOf G) g) (rw g np) (rw g fi), omega (arith, grows s r s' h f p))
+      let g = now-chosen chosen r lc h in
+      (1, stop (p .on) (rw g h) (ap (headOf (G .rules)) g) (rw g np) (rw g fi), omega (arith, grows s r s' h f p))
 
-  pub chosen-step : (chosen : List ℕ) (s r s' : ℕ) → length chosen ≡ 16 → r < length G → Chosen chosen s → has s (headOf G r) ≡ false
-      → Puts s (headOf G r) s' → Applies G T s r → Chosen (set chosen (headOf G r) r) s'
-  chosen-step chosen s r s' lc h c f p ap! A l t = go (ℕ-discrete A (headOf G r))
+  pub chosen-step : (chosen : List ℕ) (s r s' : ℕ) → length chosen ≡ 16 → r < length (G .rules) → Chosen chosen s → has s (headOf (G .rules) r) ≡ false
+      → Puts s (headOf (G .rules) r) s' → Applies G T s r → Chosen (set chosen (headOf (G .rules) r) r) s'
+  chosen-step chosen s r s' lc h c f p ap! A l t = go (ℕ-discrete A (headOf (G .rules) r))
     where
-      go : Dec (A ≡ headOf G r) → (k : ℕ) × Chain G T s' (set chosen (headOf G r) r) A k × (k ≤ cnt (has s') 16)
+      go : Dec (A ≡ headOf (G .rules) r) → (k : ℕ) × Chain G T s' (set chosen (headOf (G .rules) r) r) A k × (k ≤ cnt (has s') 16)
       go (yes e) = rw e (new-chain chosen s r s' lc h c f p ap!)
       go (no e) =
           let o = c A l (path.sym (p .off A e) ∙ t) in
-          (o .0, chain-keep (headOf G r) r s' f p (o .1), omega (arith, o .2, grows s r s' h f p))
+          (o .0, chain-keep (headOf (G .rules) r) r s' f p (o .1), omega (arith, o .2, grows s r s' h f p))

@@ -7,13 +7,17 @@ use native.Mathlib.Omega.{arith}
 use native.Mathlib.Decide.{ℕ-discrete}
 use mathlib.Core.Bool.{Bool, true, false, _&&_, _||_, true≢false}
 use mathlib.Core.List.{List, [], _++_}
-use lib.Dec.{eqb}
-use borrow.Author.Tests.{eqb-true, eq-eqb}
-use lib.ListN.{length}
+use lib.Dec.{eqb, leb, ltb}
+use borrow.Author.Tests.{eqb-true, eq-eqb, le-leb, leb-true, lt-ltb, ltb-true}
+use lib.ListN.{getD, length}
+use Rattle.bits.specs.Sorts.{Fit, maxWidth, valuesOf}
 use Rattle.forest.specs.Forest.{Forest, none, tree}
 use Rattle.forest.proofs.Bools.{apart}
 use Rattle.terms.specs.Labels.{Label, Terms, defined, function, literal, name, operator}
-use Rattle.grammar.specs.Derivation.{AnyLeaf, Item, anyArgument, anyLiteral, constant, nonTerminal, the, variable, Rule, headOf, formOf, Derives, done, use-rule, leaf, same}
+use Rattle.grammar.specs.Derivation.{AnyLeaf, Argument, Item, headOf, formOf, Derives, Grammar}
+use Rattle.grammar.specs.Derivation.Item.{anyArgument, anyLiteral, nonTerminal, the}
+use Rattle.grammar.specs.Derivation.AnyLeaf.{constant, variable}
+use Rattle.grammar.specs.Derivation.Derives.{done, use-rule, leaf, same}
 use Rattle.grammar.specs.Steps.{DerivesAt}
 use Rattle.grammar.proofs.Tests.{and-both, and-true, or-first, or-second, or-true}
 use Rattle.grammar.proofs.Same.{same?, same-complete, same-sound}
@@ -73,63 +77,97 @@ unfolding none?
 none-is none e = refl
 none-is (tree l ts us) e = apart e
 
--- whether an item is any leaf of a label's kind and sort
+-- whether a number is a value of a sort
+fit? : (s v : ℕ) → Bool
+fit? s v = leb s maxWidth && ltb v (valuesOf s)
+
+fit-sound : (s v : ℕ) → fit? s v ≡ true → Fit s v
+unfolding fit?
+fit-sound s v e = let p = and-true _ _ e in record { sort = leb-true s maxWidth (p .0); value = ltb-true v (valuesOf s) (p .1) }
+
+fit-complete : (s v : ℕ) → Fit s v → fit? s v ≡ true
+unfolding fit?
+fit-complete s v f = and-both (le-leb s maxWidth (f .sort)) (lt-ltb v (valuesOf s) (f .value))
+
+-- whether a function has an argument of a sort
+argument? : (arguments : List ℕ) (s k : ℕ) → Bool
+argument? arguments s k = ltb k (length arguments) && eqb (getD arguments k 0) s
+
+argument-sound : (arguments : List ℕ) (s k : ℕ) → argument? arguments s k ≡ true → Argument arguments s k
+unfolding argument?
+argument-sound arguments s k e =
+    let p = and-true _ _ e in
+    record { declared = ltb-true k (length arguments) (p .0); sort = eqb-true (getD arguments k 0) s (p .1) }
+
+argument-complete : (arguments : List ℕ) (s k : ℕ) → Argument arguments s k → argument? arguments s k ≡ true
+unfolding argument?
+argument-complete arguments s k f = and-both (lt-ltb k (length arguments) (f .declared)) (eq-eqb (getD arguments k 0) s (f .sort))
+
+-- whether a label is any literal or any argument of a sort
 literal? : ℕ → Label → Bool
-literal? s (literal t v w) = eqb s t
+literal? s (literal t v w) = eqb s t && fit? t v
 literal? s (name t k) = false
 literal? s (operator o i j) = false
 literal? s (defined k) = false
 literal? s (function k) = false
 
-name? : ℕ → Label → Bool
-name? s (literal t v w) = false
-name? s (name t k) = eqb s t
-name? s (operator o i j) = false
-name? s (defined k) = false
-name? s (function k) = false
+name? : (arguments : List ℕ) → ℕ → Label → Bool
+name? arguments s (literal t v w) = false
+name? arguments s (name t k) = eqb s t && argument? arguments t k
+name? arguments s (operator o i j) = false
+name? arguments s (defined k) = false
+name? arguments s (function k) = false
 
-literal-sound : (s : ℕ) (l : Label) → literal? s l ≡ true → AnyLeaf (anyLiteral s) l
+literal-sound : (arguments : List ℕ) (s : ℕ) (l : Label) → literal? s l ≡ true → AnyLeaf arguments (anyLiteral s) l
 unfolding literal?
-literal-sound s (literal t v w) e = rw (eqb-true s t e) constant
-literal-sound s (name t k) e = apart e
-literal-sound s (operator o i j) e = apart e
-literal-sound s (defined k) e = apart e
-literal-sound s (function k) e = apart e
+literal-sound arguments s (literal t v w) e = let p = and-true _ _ e in rw (eqb-true s t (p .0)) (constant (fit-sound t v (p .1)))
+literal-sound arguments s (name t k) e = apart e
+literal-sound arguments s (operator o i j) e = apart e
+literal-sound arguments s (defined k) e = apart e
+literal-sound arguments s (function k) e = apart e
 
-name-sound : (s : ℕ) (l : Label) → name? s l ≡ true → AnyLeaf (anyArgument s) l
+name-sound : (arguments : List ℕ) (s : ℕ) (l : Label) → name? arguments s l ≡ true → AnyLeaf arguments (anyArgument s) l
 unfolding name?
-name-sound s (literal t v w) e = apart e
-name-sound s (name t k) e = rw (eqb-true s t e) variable
-name-sound s (operator o i j) e = apart e
-name-sound s (defined k) e = apart e
-name-sound s (function k) e = apart e
+name-sound arguments s (literal t v w) e = apart e
+name-sound arguments s (name t k) e = let p = and-true _ _ e in rw (eqb-true s t (p .0)) (variable (argument-sound arguments t k (p .1)))
+name-sound arguments s (operator o i j) e = apart e
+name-sound arguments s (defined k) e = apart e
+name-sound arguments s (function k) e = apart e
+
+literal-complete : (w : ℕ) {s v : ℕ} → Fit s v → literal? s (literal s v w) ≡ true
+unfolding literal?
+literal-complete w {s} {v} f = and-both (eq-eqb s s refl) (fit-complete s v f)
+
+name-complete : {arguments : List ℕ} {s k : ℕ} → Argument arguments s k → name? arguments s (name s k) ≡ true
+unfolding name?
+name-complete {arguments} {s} {k} f = and-both (eq-eqb s s refl) (argument-complete arguments s k f)
 
 -- a term with the set of each of its trees
 
 data Mark : Type 0 where
   mark : (l : Label) → (ℕ → Bool) → Mark
 
-at? : Item → Forest Item → Mark → Forest Mark → Bool → Bool
-at? (the k) ps (mark l S) ts b = same? k l && b
-at? (nonTerminal A) ps (mark l S) ts b = none? ps && S A
-at? (anyLiteral s) ps (mark l S) ts b = none? ps && (literal? s l && none? ts)
-at? (anyArgument s) ps (mark l S) ts b = none? ps && (name? s l && none? ts)
-
-match? : Forest Item → Forest Mark → Bool
-match? none none = true
-match? none (tree m ts us) = false
-match? (tree l ps qs) none = false
-match? (tree l ps qs) (tree m ts us) = at? l ps m ts (match? ps ts) && match? qs us
-
-module _ (N : ℕ) (G : List Rule) (low : (r : ℕ) → r < length G → headOf G r < N) where
+module _ (N : ℕ) (G : Grammar) (low : (r : ℕ) → r < length (G .rules) → headOf (G .rules) r < N) where
   D : Forest Item → Terms → List ℕ → Type 0
   D = Derives G
 
+  at? : Item → Forest Item → Mark → Forest Mark → Bool → Bool
+  at? (the k) ps (mark l S) ts b = same? k l && b
+  at? (nonTerminal A) ps (mark l S) ts b = none? ps && S A
+  at? (anyLiteral s) ps (mark l S) ts b = none? ps && (literal? s l && none? ts)
+  at? (anyArgument s) ps (mark l S) ts b = none? ps && (name? (G .arguments) s l && none? ts)
+
+  match? : Forest Item → Forest Mark → Bool
+  match? none none = true
+  match? none (tree m ts us) = false
+  match? (tree l ps qs) none = false
+  match? (tree l ps qs) (tree m ts us) = at? l ps m ts (match? ps ts) && match? qs us
+
   adds : Label → Forest Mark → (ℕ → Bool) → ℕ → ℕ → Bool
-  adds s ts S A r = eqb (headOf G r) A && match? (formOf G r) (tree (mark s S) ts none)
+  adds s ts S A r = eqb (headOf (G .rules) r) A && match? (formOf (G .rules) r) (tree (mark s S) ts none)
 
   step : Label → Forest Mark → (ℕ → Bool) → ℕ → Bool
-  step s ts S A = S A || someb (length G) (adds s ts S A)
+  step s ts S A = S A || someb (length (G .rules)) (adds s ts S A)
 
   rounds : Label → Forest Mark → ℕ → ℕ → Bool
   rounds s ts zero A = false
@@ -156,7 +194,8 @@ module _ (N : ℕ) (G : List Rule) (low : (r : ℕ) → r < length G → headOf 
   sound-none s-none e = refl
   sound-none (s-tree h a b) e = let z : _≡_ {A = ℕ} 0 1 = cc in absurd (omega arith)
 
-  leaf-sound : (i : Item) (ps qs : Forest Item) (l : Label) (ts us : Terms) {es : List ℕ} → AnyLeaf i l → ps ≡ none → ts ≡ none → Derives G qs us es
+  leaf-sound : (i : Item) (ps qs : Forest Item) (l : Label) (ts us : Terms) {es : List ℕ} → AnyLeaf (G .arguments) i l → ps ≡ none → ts ≡ none
+      → Derives G qs us es
       → Derives G (tree i ps qs) (tree l ts us) es
   leaf-sound i ps qs l ts us a eP eT d = rw (eP, eT) (leaf a d)
 
@@ -186,13 +225,14 @@ module _ (N : ℕ) (G : List Rule) (low : (r : ℕ) → r < length G → headOf 
       let q = and-true (none? ps) (literal? s l && none? xs) (p .0) in
       let r = and-true (literal? s l) (none? xs) (q .1) in
       let y = match-sound qs b (p .1) in
-      (y .0, leaf-sound (anyLiteral s) ps qs l ts us (literal-sound s l (r .0)) (none-is ps (q .0)) (sound-none a (none-is xs (r .1))) (y .1))
+      (y .0, leaf-sound (anyLiteral s) ps qs l ts us (literal-sound (G .arguments) s l (r .0)) (none-is ps (q .0)) (sound-none a (none-is xs (r .1))) (y .1))
   match-sound (tree (anyArgument s) ps qs) (s-tree {l = l} {ts = ts} {us = us} {xs = xs} {ys = ys} h a b) e =
-      let p = and-true (none? ps && (name? s l && none? xs)) (match? qs ys) e in
-      let q = and-true (none? ps) (name? s l && none? xs) (p .0) in
-      let r = and-true (name? s l) (none? xs) (q .1) in
+      let n = name? (G .arguments) s l in
+      let p = and-true (none? ps && (n && none? xs)) (match? qs ys) e in
+      let q = and-true (none? ps) (n && none? xs) (p .0) in
+      let r = and-true n (none? xs) (q .1) in
       let y = match-sound qs b (p .1) in
-      (y .0, leaf-sound (anyArgument s) ps qs l ts us (name-sound s l (r .0)) (none-is ps (q .0)) (sound-none a (none-is xs (r .1))) (y .1))
+      (y .0, leaf-sound (anyArgument s) ps qs l ts us (name-sound (G .arguments) s l (r .0)) (none-is ps (q .0)) (sound-none a (none-is xs (r .1))) (y .1))
 
   rounds-sound : (s : Label) {ts : Terms} {xs : Forest Mark} → Sound ts xs → (k A : ℕ) → rounds s xs k A ≡ true
       → (ds : List ℕ) × D (tree (nonTerminal A) none none) (tree s ts none) ds
@@ -201,11 +241,11 @@ module _ (N : ℕ) (G : List Rule) (low : (r : ℕ) → r < length G → headOf 
   rounds-sound s {ts} {xs} a (suc k) A e =
       ⊎-elim (λ q. rounds-sound s a k A q)
       (λ q.
-      let w = some-elim (length G) (adds s xs (rounds s xs k) A) q in
-      let p = and-true (eqb (headOf G (w .0)) A) (match? (formOf G (w .0)) (tree (mark s (rounds s xs k)) xs none)) (w .2) in
-      let d = match-sound (formOf G (w .0)) (s-tree (λ B t. rounds-sound s a k B t) a s-none) (p .1) in
-      (_, use-rule (w .0) (w .1) (eqb-true (headOf G (w .0)) A (p .0)) (d .1) done))
-      (or-true (rounds s xs k A) (someb (length G) (adds s xs (rounds s xs k) A)) e)
+      let w = some-elim (length (G .rules)) (adds s xs (rounds s xs k) A) q in
+      let p = and-true (eqb (headOf (G .rules) (w .0)) A) (match? (formOf (G .rules) (w .0)) (tree (mark s (rounds s xs k)) xs none)) (w .2) in
+      let d = match-sound (formOf (G .rules) (w .0)) (s-tree (λ B t. rounds-sound s a k B t) a s-none) (p .1) in
+      (_, use-rule (w .0) (w .1) (eqb-true (headOf (G .rules) (w .0)) A (p .0)) (d .1) done))
+      (or-true (rounds s xs k A) (someb (length (G .rules)) (adds s xs (rounds s xs k) A)) e)
 
   marked-sound : (F : Terms) → Sound F (marked F)
   unfolding marked
@@ -221,11 +261,11 @@ module _ (N : ℕ) (G : List Rule) (low : (r : ℕ) → r < length G → headOf 
         → Complete ts xs → Complete us ys → Complete (tree l ts us) (tree (mark l S) xs ys)
 
   match-complete : {P : Forest Item} {F : Terms} {ds : List ℕ} {M : Forest Mark} → Derives G P F ds → Complete F M → match? P M ≡ true
-  unfolding match? at? D none? literal? name?
+  unfolding match? at? D none?
   match-complete done c-none = refl
   match-complete (use-rule {A = A} r h e d d2) (c-tree f a b) = and-both (f A _ (use-rule r h e d done)) (match-complete d2 b)
-  match-complete (leaf (constant {s}) d) (c-tree f c-none b) = and-both (and-both (eq-eqb s s refl) refl) (match-complete d b)
-  match-complete (leaf (variable {s}) d) (c-tree f c-none b) = and-both (and-both (eq-eqb s s refl) refl) (match-complete d b)
+  match-complete (leaf (constant {w = w} h) d) (c-tree f c-none b) = and-both (and-both (literal-complete w h) refl) (match-complete d b)
+  match-complete (leaf (variable h) d) (c-tree f c-none b) = and-both (and-both (name-complete h) refl) (match-complete d b)
   match-complete (same {l = l} {m = m} e d d2) (c-tree f a b) = and-both (and-both (same-complete l m e) (match-complete d a)) (match-complete d2 b)
 
   Closed : Label → Forest Mark → (ℕ → Bool) → Type 0
@@ -233,15 +273,15 @@ module _ (N : ℕ) (G : List Rule) (low : (r : ℕ) → r < length G → headOf 
 
   head-complete : {P : Forest Item} {s : Label} {ts : Terms} {ds : List ℕ} {xs : Forest Mark} (S : ℕ → Bool) → Closed s xs S → Complete ts xs
       → Derives G P (tree s ts none) ds → match? P (tree (mark s S) xs none) ≡ true
-  unfolding match? at? Closed step adds none? literal? name?
+  unfolding match? at? Closed step adds none?
   head-complete {s = s} {xs = xs} S cl a (use-rule {A = A} r h e d done) =
       and-both
       (cl A
-      (or-second (S A) (someb (length G) (adds s xs S A))
-      (some-intro (length G) (adds s xs S A) r h (and-both (eq-eqb (headOf G r) A e) (head-complete S cl a d)))))
+      (or-second (S A) (someb (length (G .rules)) (adds s xs S A))
+      (some-intro (length (G .rules)) (adds s xs S A) r h (and-both (eq-eqb (headOf (G .rules) r) A e) (head-complete S cl a d)))))
       refl
-  head-complete S cl c-none (leaf (constant {s}) done) = and-both (and-both (eq-eqb s s refl) refl) refl
-  head-complete S cl c-none (leaf (variable {s}) done) = and-both (and-both (eq-eqb s s refl) refl) refl
+  head-complete S cl c-none (leaf (constant {w = w} h) done) = and-both (and-both (literal-complete w h) refl) refl
+  head-complete S cl c-none (leaf (variable h) done) = and-both (and-both (name-complete h) refl) refl
   head-complete S cl a (same {l = l} {m = m} e d done) = and-both (and-both (same-complete l m e) (match-complete d a)) refl
 
   -- as many rounds as there are non-terminals
@@ -261,24 +301,24 @@ module _ (N : ℕ) (G : List Rule) (low : (r : ℕ) → r < length G → headOf 
   step-mono : (s : Label) (xs : Forest Mark) (S S' : ℕ → Bool) → ((A : ℕ) → S A ≡ true → S' A ≡ true) → (A : ℕ) → step s xs S A ≡ true → step s xs S' A ≡ true
   unfolding step adds
   step-mono s xs S S' f A e =
-      ⊎-elim (λ q. or-first (S' A) (someb (length G) (adds s xs S' A)) (f A q))
+      ⊎-elim (λ q. or-first (S' A) (someb (length (G .rules)) (adds s xs S' A)) (f A q))
       (λ q.
-      let w = some-elim (length G) (adds s xs S A) q in
-      let p = and-true (eqb (headOf G (w .0)) A) (match? (formOf G (w .0)) (tree (mark s S) xs none)) (w .2) in
-      or-second (S' A) (someb (length G) (adds s xs S' A))
-      (some-intro (length G) (adds s xs S' A) (w .0) (w .1) (and-both (p .0) (match-mono (formOf G (w .0)) s xs S S' f (p .1)))))
-      (or-true (S A) (someb (length G) (adds s xs S A)) e)
+      let w = some-elim (length (G .rules)) (adds s xs S A) q in
+      let p = and-true (eqb (headOf (G .rules) (w .0)) A) (match? (formOf (G .rules) (w .0)) (tree (mark s S) xs none)) (w .2) in
+      or-second (S' A) (someb (length (G .rules)) (adds s xs S' A))
+      (some-intro (length (G .rules)) (adds s xs S' A) (w .0) (w .1) (and-both (p .0) (match-mono (formOf (G .rules) (w .0)) s xs S S' f (p .1)))))
+      (or-true (S A) (someb (length (G .rules)) (adds s xs S A)) e)
 
   step-low : (s : Label) (xs : Forest Mark) (S : ℕ → Bool) (A : ℕ) → step s xs S A ≡ true → (S A ≡ true) ⊎ (A < N)
   unfolding step adds
   step-low s xs S A e =
       ⊎-elim (λ q. inl q)
       (λ q.
-      let w = some-elim (length G) (adds s xs S A) q in
-      let p = and-true (eqb (headOf G (w .0)) A) (match? (formOf G (w .0)) (tree (mark s S) xs none)) (w .2) in
-      let eA : headOf G (w .0) ≡ A = eqb-true (headOf G (w .0)) A (p .0) in
+      let w = some-elim (length (G .rules)) (adds s xs S A) q in
+      let p = and-true (eqb (headOf (G .rules) (w .0)) A) (match? (formOf (G .rules) (w .0)) (tree (mark s S) xs none)) (w .2) in
+      let eA : headOf (G .rules) (w .0) ≡ A = eqb-true (headOf (G .rules) (w .0)) A (p .0) in
       inr (omega (arith, low (w .0) (w .1))))
-      (or-true (S A) (someb (length G) (adds s xs S A)) e)
+      (or-true (S A) (someb (length (G .rules)) (adds s xs S A)) e)
 
   closed-if : (s : Label) (xs : Forest Mark) (S : ℕ → Bool) → ((A : ℕ) → A < N → step s xs S A ≡ true → S A ≡ true) → Closed s xs S
   unfolding Closed
@@ -304,7 +344,7 @@ module _ (N : ℕ) (G : List Rule) (low : (r : ℕ) → r < length G → headOf 
             arith,
             h,
             cnt-grow (rounds s xs k) (rounds s xs (suc k)) N (w .0)
-                (λ i l t. or-first (rounds s xs k i) (someb (length G) (adds s xs (rounds s xs k) i)) t) (w .1) (w .3) (w .2),
+                (λ i l t. or-first (rounds s xs k i) (someb (length (G .rules)) (adds s xs (rounds s xs k) i)) t) (w .1) (w .3) (w .2),
           ))
 
       go : Closed s xs (rounds s xs k) ⊎ (k ≤ cnt (rounds s xs k) N) → Closed s xs (rounds s xs (suc k)) ⊎ (suc k ≤ cnt (rounds s xs (suc k)) N)

@@ -1,6 +1,7 @@
 pub mod Tests
 pub mod Same
 pub mod Reading
+pub mod Leaves
 pub mod Likeness
 pub mod Splits
 pub mod Meta
@@ -19,5 +20,6 @@ pub mod Track
 pub mod Whole
 pub mod Top
 pub mod Copying
+pub mod Sorts
 pub mod Decides
 pub mod Bench

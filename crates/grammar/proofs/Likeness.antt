@@ -1,27 +1,27 @@
 -- Items of a rule and labels of the body that are alike, and the test of their numbers.
-use mathlib.Core.Path.{_≡_, refl, sym, ap, _∙_}
+use mathlib.Core.Path.{_≡_, refl, sym, ap, _∙_, subst}
 use mathlib.Core.Logic.{⊎-elim}
-use Prim.Native.Nat.{ℕ, _+_, _*_, _/_, _%_, _<_}
+use Prim.Native.Nat.{ℕ, _+_, _*_, _/_, _%_, _<_, _≤_}
 use native.Mathlib.Omega.{arith}
-use mathlib.Core.Bool.{Bool, true, _&&_, _||_, or-true as or-yes}
+use mathlib.Core.Bool.{Bool, true, cond, _&&_, _||_, or-true as or-yes}
 use mathlib.Core.List.{List}
 use borrow.Author.Tests.{eq-eqb, eqb-true}
 use lib.Dec.{eqb}
 use Rattle.forest.specs.Forest.{Forest, count, join, none, tree}
 use Rattle.terms.specs.Labels.{Label, Terms, defined, function, literal, name, operator}
 use Rattle.terms.specs.Nodes.{Plain, codeAt, codeOf, literalKind, nameKind, operandsAt, valueAt, valueOf}
-use Rattle.terms.proofs.Bodies.{Says}
-use Rattle.grammar.specs.Derivation.{AnyLeaf, Item, Proper, SameLabel, anyArgument, anyLiteral, constant, nonTerminal, the, variable}
-use Rattle.grammar.specs.Tables.{anyArgumentKind, anyLiteralKind, itemCode, itemValue}
+use Rattle.terms.proofs.Bodies.{Says, label-of}
+use Rattle.grammar.specs.Derivation.{AnyLeaf, Item, LeafFits, Proper, SameLabel, anyArgument, anyLiteral, constant, nonTerminal, the, variable}
+use Rattle.grammar.specs.Tables.{anyArgumentKind, anyLiteralKind, itemCode, itemValue, nonTerminalKind}
 use Rattle.grammar.specs.Columns.{alike, argumentFits, literalFits}
 use Rattle.grammar.proofs.Tests.{and-both, and-true, both-equal, equal-both, or-true}
 use Rattle.grammar.proofs.Same.{same-numbers, same-told}
 use Rattle.grammar.proofs.Reading.{ItemSays}
 
--- an item of a rule derives a label
-pub data Alike : Item → Label → Type 0 where
-  labels : {l m : Label} → SameLabel l m → Alike (the l) m
-  any : {i : Item} {l : Label} → AnyLeaf i l → Alike i l
+-- an item of a rule of a function with these arguments derives a label
+pub data Alike (arguments : List ℕ) : Item → Label → Type 0 where
+  labels : {l m : Label} → SameLabel l m → Alike arguments (the l) m
+  any : {i : Item} {l : Label} → AnyLeaf arguments i l → Alike arguments i l
 
 -- the item is no non-terminal
 abbrev pub NotHole : Item → Type 0
@@ -34,19 +34,19 @@ Bare (nonTerminal A) ps = ps ≡ none
 Bare (anyLiteral s) ps = ps ≡ none
 Bare (anyArgument s) ps = ps ≡ none
 
-pub any-bare : {i : Item} {l : Label} {ps : Forest Item} → AnyLeaf i l → Bare i ps → ps ≡ none
+pub any-bare : {arguments : List ℕ} {i : Item} {l : Label} {ps : Forest Item} → AnyLeaf arguments i l → Bare i ps → ps ≡ none
 unfolding Bare
-any-bare constant b = b
-any-bare variable b = b
+any-bare (constant f) b = b
+any-bare (variable f) b = b
 
 -- and it is no non-terminal, nor a label
-pub any-not-hole : {i : Item} {l : Label} → AnyLeaf i l → NotHole i
-any-not-hole constant A e = let z : _≡_ {A = ℕ} 0 1 = cc in omega arith
-any-not-hole variable A e = let z : _≡_ {A = ℕ} 0 1 = cc in omega arith
+pub any-not-hole : {arguments : List ℕ} {i : Item} {l : Label} → AnyLeaf arguments i l → NotHole i
+any-not-hole (constant f) A e = let z : _≡_ {A = ℕ} 0 1 = cc in omega arith
+any-not-hole (variable f) A e = let z : _≡_ {A = ℕ} 0 1 = cc in omega arith
 
-pub any-not-label : {i : Item} {l : Label} → AnyLeaf i l → (m : Label) → i ≡ the m → ⊥
-any-not-label constant m e = let z : _≡_ {A = ℕ} 0 1 = cc in omega arith
-any-not-label variable m e = let z : _≡_ {A = ℕ} 0 1 = cc in omega arith
+pub any-not-label : {arguments : List ℕ} {i : Item} {l : Label} → AnyLeaf arguments i l → (m : Label) → i ≡ the m → ⊥
+any-not-label (constant f) m e = let z : _≡_ {A = ℕ} 0 1 = cc in omega arith
+any-not-label (variable f) m e = let z : _≡_ {A = ℕ} 0 1 = cc in omega arith
 
 -- what a proper form says of its first node
 pub proper-bare : (k : ℕ) (i : Item) (ps qs : Forest Item) → Proper k (tree i ps qs) → Bare i ps
@@ -81,57 +81,63 @@ label-kind (defined k) = omega arith
 label-kind (function k) = omega arith
 
 -- the same code and value
-same-alike : (k : ℕ) (i : Item) (ps qs : Forest Item) (m : Label) → NotHole i → Proper k (tree i ps qs) → Plain m → itemCode i ≡ codeOf m
-    → itemValue i ≡ valueOf m → Alike i m
+same-alike : {arguments : List ℕ} (k : ℕ) (i : Item) (ps qs : Forest Item) (m : Label) → NotHole i → Proper k (tree i ps qs) → Plain m
+    → itemCode i ≡ codeOf m → itemValue i ≡ valueOf m → Alike arguments i m
 unfolding Proper
 same-alike k (the l) ps qs m n p q c v = labels (same-told l m (p .0) q c v)
 same-alike k (nonTerminal A) ps qs m n p q c v = absurd (n A refl)
 same-alike k (anyLiteral s) ps qs m n p q c v = absurd (omega (arith, label-kind m, c))
 same-alike k (anyArgument s) ps qs m n p q c v = absurd (omega (arith, label-kind m, c))
 
--- the sort that the codes of `(Constant σ)` and of a literal tell
-sort-told : (s t w : ℕ) → t < 128 → (6 + 16 * s) / 16 ≡ (0 + 16 * (t + 128 * w)) / 16 % 128 → t ≡ s
-sort-told s t w q e =
-    let left : (6 + 16 * s) / 16 ≡ s = omega arith in
-    let right : (0 + 16 * (t + 128 * w)) / 16 ≡ t + 128 * w = omega arith in
-    let low : (t + 128 * w) % 128 ≡ t = omega arith in
-    sym low ∙ ap (λ (n : ℕ). n % 128) (sym right) ∙ sym e ∙ left
+-- the item, no label, of a code and a value
+abbrev itemOf : (code value : ℕ) → Item
+itemOf code value =
+    cond (eqb (code % 16) anyLiteralKind) (anyLiteral (code / 16)) (cond (eqb (code % 16) anyArgumentKind) (anyArgument (code / 16)) (nonTerminal value))
+
+item-of : (i : Item) → 5 ≤ itemCode i % 16 → itemOf (itemCode i) (itemValue i) ≡ i
+item-of (the l) h = absurd (omega (arith, label-kind l))
+item-of (nonTerminal A) h = refl
+item-of (anyLiteral s) h =
+    let kind : (6 + 16 * s) % 16 ≡ 6 = omega arith in
+    let more : (6 + 16 * s) / 16 ≡ s = omega arith in
+    rw (kind, more)
+item-of (anyArgument s) h =
+    let kind : (7 + 16 * s) % 16 ≡ 7 = omega arith in
+    let more : (7 + 16 * s) / 16 ≡ s = omega arith in
+    rw (kind, more)
+
+-- the code of a non-terminal
+pub hole-item : (i : Item) → itemCode i ≡ nonTerminalKind → i ≡ nonTerminal (itemValue i)
+hole-item i k = sym (item-of i (omega arith)) ∙ ap (λ (code : ℕ). itemOf code (itemValue i)) k
+
+-- an item and a label that are told to be any leaf and a leaf of its sort
+leaf-alike : {arguments : List ℕ} {i j : Item} {m l : Label} → i ≡ j → m ≡ l → (LeafFits arguments l → AnyLeaf arguments j l) → LeafFits arguments m
+    → Alike arguments i m
+leaf-alike {arguments} {j = j} {m = m} item label leaf f =
+    subst (λ (x : Item). Alike arguments x m) (sym item) (subst (Alike arguments j) (sym label) (any (leaf (subst (LeafFits arguments) label f))))
 
 -- `(Constant σ)`, held against a literal
-literal-alike : (i : Item) (m : Label) → Plain m → literalFits (itemCode i) (codeOf m) ≡ true → Alike i m
+literal-alike : {arguments : List ℕ} (i : Item) (m : Label) → Plain m → LeafFits arguments m → literalFits (itemCode i) (codeOf m) ≡ true → Alike arguments i m
 unfolding literalFits
-literal-alike i m q w =
+literal-alike i m plain f w =
     let t = and-true _ _ w in
-    let kinds = both-equal _ _ _ _ (t .0) in
-    of i m q (kinds .0) (kinds .1) (eqb-true _ _ (t .1))
-  where
-    of : (i : Item) (m : Label) → Plain m → itemCode i % 16 ≡ anyLiteralKind → codeOf m % 16 ≡ literalKind → itemCode i / 16 ≡ codeOf m / 16 % 128 → Alike i m
-    of (the l) m q k h e = absurd (omega (arith, label-kind l, k))
-    of (nonTerminal A) m q k h e = absurd (omega (arith, k))
-    of (anyArgument s) m q k h e = absurd (omega (arith, k))
-    of (anyLiteral s) (literal t v w) q k h e = rw (sort-told s t w q e) (any constant)
-    of (anyLiteral s) (name t j) q k h e = absurd (omega (arith, h))
-    of (anyLiteral s) (operator o a b) q k h e = absurd (omega (arith, h))
-    of (anyLiteral s) (defined j) q k h e = absurd (omega (arith, h))
-    of (anyLiteral s) (function j) q k h e = absurd (omega (arith, h))
+    let kinds : (itemCode i % 16 ≡ anyLiteralKind) × (codeOf m % 16 ≡ literalKind) = both-equal _ _ _ _ (t .0) in
+    let sorts : itemCode i / 16 ≡ codeOf m / 16 % 128 = eqb-true _ _ (t .1) in
+    let item : i ≡ anyLiteral (codeOf m / 16 % 128) = sym (item-of i (omega arith)) ∙ rw (kinds .0, sorts) in
+    let label : m ≡ literal (codeOf m / 16 % 128) (valueOf m) (codeOf m / 16 / 128) = sym (label-of m plain) ∙ rw (kinds .1) in
+    leaf-alike item label constant f
 
 -- `(Variable σ)`, held against a name
-argument-alike : (i : Item) (m : Label) → argumentFits (itemCode i) (codeOf m) ≡ true → Alike i m
+argument-alike : {arguments : List ℕ} (i : Item) (m : Label) → Plain m → LeafFits arguments m → argumentFits (itemCode i) (codeOf m) ≡ true
+    → Alike arguments i m
 unfolding argumentFits
-argument-alike i m w =
+argument-alike i m plain f w =
     let t = and-true _ _ w in
-    let kinds = both-equal _ _ _ _ (t .0) in
-    of i m (kinds .0) (kinds .1) (eqb-true _ _ (t .1))
-  where
-    of : (i : Item) (m : Label) → itemCode i % 16 ≡ anyArgumentKind → codeOf m % 16 ≡ nameKind → itemCode i / 16 ≡ codeOf m / 16 → Alike i m
-    of (the l) m k h e = absurd (omega (arith, label-kind l, k))
-    of (nonTerminal A) m k h e = absurd (omega (arith, k))
-    of (anyLiteral s) m k h e = absurd (omega (arith, k))
-    of (anyArgument s) (name t j) k h e = let z : t ≡ s = omega (arith, e) in rw z (any variable)
-    of (anyArgument s) (literal t v w) k h e = absurd (omega (arith, h))
-    of (anyArgument s) (operator o a b) k h e = absurd (omega (arith, h))
-    of (anyArgument s) (defined j) k h e = absurd (omega (arith, h))
-    of (anyArgument s) (function j) k h e = absurd (omega (arith, h))
+    let kinds : (itemCode i % 16 ≡ anyArgumentKind) × (codeOf m % 16 ≡ nameKind) = both-equal _ _ _ _ (t .0) in
+    let sorts : itemCode i / 16 ≡ codeOf m / 16 = eqb-true _ _ (t .1) in
+    let item : i ≡ anyArgument (codeOf m / 16) = sym (item-of i (omega arith)) ∙ rw (kinds .0, sorts) in
+    let label : m ≡ name (codeOf m / 16) (valueOf m) = sym (label-of m plain) ∙ rw (kinds .1) in
+    leaf-alike item label variable f
 
 -- the tests of the codes and values of an item and a label that are alike
 literal-passes : (s w : ℕ) → s < 128 → literalFits (6 + 16 * s) (0 + 16 * (s + 128 * w)) ≡ true
@@ -152,11 +158,11 @@ argument-passes s =
     let sorts : (7 + 16 * s) / 16 ≡ (1 + 16 * s) / 16 = omega arith in
     and-both (equal-both _ _ _ _ kind found) (eq-eqb _ _ sorts)
 
-alike-numbers : (i : Item) (m : Label) → Plain m → Alike i m
+alike-numbers : {arguments : List ℕ} (i : Item) (m : Label) → Plain m → Alike arguments i m
     → eqb (itemCode i) (codeOf m) && eqb (itemValue i) (valueOf m) || literalFits (itemCode i) (codeOf m) || argumentFits (itemCode i) (codeOf m) ≡ true
 alike-numbers i m q (labels {l} e) = let n = same-numbers l m e in rw (equal-both (codeOf l) (codeOf m) (valueOf l) (valueOf m) (n .0) (n .1))
-alike-numbers i m q (any (constant {s} {v} {w})) = rw (literal-passes s w q, or-yes)
-alike-numbers i m q (any (variable {s} {k})) = rw (argument-passes s, or-yes)
+alike-numbers i m q (any (constant {s} {v} {w} f)) = rw (literal-passes s w q, or-yes)
+alike-numbers i m q (any (variable {s} {k} f)) = rw (argument-passes s, or-yes)
 
 module _ {forms : List ℕ} {p : ℕ} {i : Item} {ps : Forest Item} (x : ItemSays forms p i ps) {body : List ℕ} {j : ℕ} {m : Label} {ts : Terms}
     (y : Says body j m ts) (plain : Plain m) where
@@ -173,9 +179,10 @@ module _ {forms : List ℕ} {p : ℕ} {i : Item} {ps : Forest Item} (x : ItemSay
   operands? = eqb (operandsAt forms p) (operandsAt body j)
 
   -- the test passes only for nodes that are alike
-  pub alike-sound : (k : ℕ) (qs : Forest Item) → NotHole i → Proper k (tree i ps qs) → alike forms p body j ≡ true → Alike i m × (count ts ≡ count ps)
+  pub alike-sound : {arguments : List ℕ} → LeafFits arguments m → (k : ℕ) (qs : Forest Item) → NotHole i → Proper k (tree i ps qs)
+      → alike forms p body j ≡ true → Alike arguments i m × (count ts ≡ count ps)
   unfolding alike
-  alike-sound k qs n pr w =
+  alike-sound f k qs n pr w =
       let t = and-true operands? (same || literal? || argument?) w in
       let counts : operandsAt forms p ≡ operandsAt body j = eqb-true _ _ (t .0) in (
         ⊎-elim
@@ -183,14 +190,14 @@ module _ {forms : List ℕ} {p : ℕ} {i : Item} {ps : Forest Item} (x : ItemSay
             (λ s.
             let both : (codeAt forms p ≡ codeAt body j) × (valueAt forms p ≡ valueAt body j) = both-equal _ _ _ _ s in
             same-alike k i ps qs m n pr plain (sym (x .code) ∙ both .0 ∙ y .code) (sym (x .value) ∙ both .1 ∙ y .value))
-            (λ s. literal-alike i m plain (rw (x .code, y .code) at s))
+            (λ s. literal-alike i m plain f (rw (x .code, y .code) at s))
             (or-true same literal? e))
-            (λ e. argument-alike i m (rw (x .code, y .code) at e))
+            (λ e. argument-alike i m plain f (rw (x .code, y .code) at e))
             (or-true (same || literal?) argument? (t .1)),
         sym (y .operands) ∙ sym counts ∙ x .operands,
       )
 
   -- and it passes for each of them
-  pub alike-complete : Alike i m → count ts ≡ count ps → alike forms p body j ≡ true
+  pub alike-complete : {arguments : List ℕ} → Alike arguments i m → count ts ≡ count ps → alike forms p body j ≡ true
   unfolding alike
   alike-complete a c = and-both (eq-eqb _ _ (x .operands ∙ sym c ∙ sym (y .operands))) (rw (x .code, x .value, y .code, y .value) (alike-numbers i m plain a))

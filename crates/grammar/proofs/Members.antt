@@ -16,7 +16,7 @@ use Rattle.grammar.proofs.Uses.{rules-count, head-low, head-is}
 -- the members of s have their choices
 pub record State (rules forms body masks : List ℕ) (i count : ℕ) (chosen : List ℕ) (s : ℕ) : Type 0 where
   pub asks : Asks rules forms body masks i
-  pub all : (q : Asks rules forms body masks i) → count ≡ length (q .given .G)
+  pub all : (q : Asks rules forms body masks i) → count ≡ length (q .given .G .rules)
   pub sixteen : length chosen ≡ 16
   pub members : (q : Asks rules forms body masks i) → Chosen q chosen s
 
@@ -42,17 +42,17 @@ module _ {rules forms body masks : List ℕ} {i : ℕ} where
     }
 
     module _ (ne : r ≡ count → ⊥) {x : ℕ} (ex : x ≡ nonTerminalAt rules r) where
-      is-rule : (a : Asks rules forms body masks i) → r < length (a .given .G)
+      is-rule : (a : Asks rules forms body masks i) → r < length (a .given .G .rules)
       is-rule a = lt-of-le-ne (f .bound a) (λ e. ne (e ∙ sym (v .all a)))
 
       pub member-low : x < 16
       member-low = omega (arith, ex, head-low (v .asks) r (is-rule (v .asks)))
 
-      head : (a : Asks rules forms body masks i) → headOf (a .given .G) r ≡ x
+      head : (a : Asks rules forms body masks i) → headOf (a .given .G .rules) r ≡ x
       head a = sym (ex ∙ head-is a r (is-rule a))
 
       module _ {s' : ℕ} (p : Puts s x s') where
-        put : (a : Asks rules forms body masks i) → Puts s (headOf (a .given .G) r) s'
+        put : (a : Asks rules forms body masks i) → Puts s (headOf (a .given .G .rules) r) s'
         put a = rw (head a) p
 
         pub more-members : 16 - cnt (has s') 16 < 16 - cnt (has s) 16

@@ -7,12 +7,12 @@ use lib.ListN.{length}
 use Rattle.forest.specs.Forest.{Forest, none, tree, count, join, first}
 use Rattle.forest.proofs.Laws.{count-join, first-join}
 use Rattle.terms.specs.Labels.{Label, Terms}
-use Rattle.grammar.specs.Derivation.{Item, nonTerminal, Rule, headOf, formOf, Derives, done, use-rule, leaf, same}
+use Rattle.grammar.specs.Derivation.{Item, nonTerminal, headOf, formOf, Derives, done, use-rule, leaf, same, Grammar}
 use Rattle.grammar.specs.Steps.{DerivesAt, Fits}
 use Rattle.grammar.proofs.Likeness.{Alike, Bare, NotHole, any, any-not-hole, labels}
 use Rattle.grammar.proofs.Splits.{Kind, Uncons, one-then, over-first}
 
-module _ (G : List Rule) where
+module _ (G : Grammar) where
   abbrev D : Forest Item → Terms → List ℕ → Type 0
   D = Derives G
 
@@ -24,7 +24,7 @@ module _ (G : List Rule) where
   pub empty : {ds : List ℕ} → D none none ds → ds ≡ []
   empty done = refl
 
-  abbrev pub derivations : Kind D
+  abbrev pub derivations : Kind (G .arguments) D
   derivations = record { nil = done; empty = empty; of-leaf = leaf; of-same = same; uncons = uncons }
 
   -- a form and what it derives have as many trees
@@ -48,7 +48,7 @@ module _ (G : List Rule) where
   Some P T = (ds : List ℕ) × D P T ds
 
   inv-hole : {A : ℕ} {ps : Forest Item} {l : Label} {ts us : Terms} {ds : List ℕ} → D (tree (nonTerminal A) none ps) (tree l ts us) ds
-      → (r : ℕ) × (r < length G) × (headOf G r ≡ A) × Some (formOf G r) (tree l ts none)
+      → (r : ℕ) × (r < length (G .rules)) × (headOf (G .rules) r ≡ A) × Some (formOf (G .rules) r) (tree l ts none)
   inv-hole (use-rule r h e d d2) = (r, h, e, (_, d))
   inv-hole (leaf a d) = absurd (any-not-hole a _ refl)
 
@@ -69,18 +69,18 @@ module _ (G : List Rule) where
 
   -- an item that is no non-terminal, over its operands, then other forms
   inv-node : {i : Item} {ps qs : Forest Item} {m : Label} {ts us : Terms} {ds : List ℕ} → NotHole i → D (tree i ps qs) (tree m ts us) ds
-      → Alike i m × (count ts ≡ count ps) × Some (join ps qs) (join ts us)
+      → Alike (G .arguments) i m × (count ts ≡ count ps) × Some (join ps qs) (join ts us)
   unfolding join count
   inv-node n (use-rule {A = A} r h e d d2) = absurd (n A refl)
   inv-node n (leaf a d) = (any a, refl, (_, d))
   inv-node n (same e d d2) = (labels e, sym (der-count d), (_, der-join d d2))
 
   pub fits-node-to : (i : Item) (ps qs : Forest Item) (m : Label) (ts us : Terms) → NotHole i → Fits G (tree i ps qs) (tree m ts us)
-      → Alike i m × (count ts ≡ count ps) × Fits G (join ps qs) (join ts us)
+      → Alike (G .arguments) i m × (count ts ≡ count ps) × Fits G (join ps qs) (join ts us)
   unfolding Fits first count
   fits-node-to i ps qs m ts us n q = let v = inv-node n (q .1) in (v .0, v .1, rw (count-join, ← v .1, first-join) (v .2))
 
-  pub fits-node : (i : Item) (ps qs : Forest Item) (m : Label) (ts us : Terms) → Alike i m → Bare i ps → count ts ≡ count ps → Fits G (join ps qs) (join ts us)
-      → Fits G (tree i ps qs) (tree m ts us)
+  pub fits-node : (i : Item) (ps qs : Forest Item) (m : Label) (ts us : Terms) → Alike (G .arguments) i m → Bare i ps → count ts ≡ count ps
+      → Fits G (join ps qs) (join ts us) → Fits G (tree i ps qs) (tree m ts us)
   unfolding Fits
   fits-node i ps qs m ts us a b c q = (q .0, over-first derivations i m ps qs ts us (q .0) a b c (q .1))

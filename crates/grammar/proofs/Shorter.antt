@@ -8,7 +8,10 @@ use mathlib.Core.List.{List, [], _∷_, _++_}
 use lib.ListN.{length, length-append}
 use Rattle.forest.specs.Forest.{Forest, none, tree}
 use Rattle.terms.specs.Labels.{Label, Terms}
-use Rattle.grammar.specs.Derivation.{Item, nonTerminal, Rule, formOf, Derives, done, use-rule, leaf, same, Fresh, Simple, s-done, s-rule, s-leaf, s-same}
+use Rattle.grammar.specs.Derivation.{Item, formOf, Derives, Fresh, Simple, Grammar}
+use Rattle.grammar.specs.Derivation.Item.{nonTerminal}
+use Rattle.grammar.specs.Derivation.Derives.{done, use-rule, leaf, same}
+use Rattle.grammar.specs.Derivation.Simple.{s-done, s-rule, s-leaf, s-same}
 use Rattle.grammar.proofs.Simple.{simples}
 use Rattle.grammar.proofs.Splits.{one-then}
 
@@ -18,7 +21,7 @@ unfolding Fresh
 fresh-more A B [] f n = (n, tt)
 fresh-more A B (C ∷ seen) f n = (f .0, fresh-more A B seen (f .1) n)
 
-module _ (G : List Rule) where
+module _ (G : Grammar) where
   -- fewer that were used at the place of the first tree
   fewer : {seen seen' : List ℕ} {P : Forest Item} {T : Terms} {ds : List ℕ} → ((A : ℕ) → Fresh A seen → Fresh A seen') → Simple G seen P T ds
       → Simple G seen' P T ds
@@ -46,10 +49,10 @@ module _ (G : List Rule) where
   avoid A (s-same e d d2) = inl (s-same e d d2)
   avoid A {seen} {l = l} {ts = ts} {us = us} (s-rule {A = B} {ps = ps} {ds = ds} {es = es} r h e f d d2) = go (ℕ-discrete B A) (avoid A d)
     where
-      go : Dec (B ≡ A) → Simple G ((B ∷ seen) ++ (A ∷ [])) (formOf G r) (tree l ts none) ds ⊎ From A (tree l ts none) (length ds)
+      go : Dec (B ≡ A) → Simple G ((B ∷ seen) ++ (A ∷ [])) (formOf (G .rules) r) (tree l ts none) ds ⊎ From A (tree l ts none) (length ds)
           → Simple G (seen ++ (A ∷ [])) (tree (nonTerminal B) none ps) (tree l ts us) (r ∷ (ds ++ es)) ⊎ From A (tree l ts none) (length (r ∷ (ds ++ es)))
       go (yes q) x =
-          let one : Simple G (B ∷ []) (formOf G r) (tree l ts none) ds = fewer (λ C g. (g .0, tt)) d in
+          let one : Simple G (B ∷ []) (formOf (G .rules) r) (tree l ts none) ds = fewer (λ C g. (g .0, tt)) d in
           inr (record {
             es = r ∷ (ds ++ []);
             simple = s-rule r h (e ∙ q) tt (rw q at one) s-done;
@@ -72,11 +75,11 @@ module _ (G : List Rule) where
       }
   shorter (use-rule {A = A} {ps = ps} {l = l} {ts = ts} {us = us} {ds = ds} {es = es} r h e d d2) = go (shorter d) (shorter d2)
     where
-      go : Shorter (formOf G r) (tree l ts none) (length ds) → Shorter ps us (length es)
+      go : Shorter (formOf (G .rules) r) (tree l ts none) (length ds) → Shorter ps us (length es)
           → Shorter (tree (nonTerminal A) none ps) (tree l ts us) (length (r ∷ (ds ++ es)))
       go s t = pick (avoid A (s .simple))
         where
-          pick : Simple G (A ∷ []) (formOf G r) (tree l ts none) (s .es) ⊎ From A (tree l ts none) (length (s .es))
+          pick : Simple G (A ∷ []) (formOf (G .rules) r) (tree l ts none) (s .es) ⊎ From A (tree l ts none) (length (s .es))
               → Shorter (tree (nonTerminal A) none ps) (tree l ts us) (length (r ∷ (ds ++ es)))
           pick (inl x) = record {
             es = r ∷ (s .es ++ t .es);

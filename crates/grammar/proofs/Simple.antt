@@ -5,11 +5,14 @@ use mathlib.Core.List.{List, [], _∷_, _++_, append-nil}
 use lib.ListN.{length}
 use Rattle.forest.specs.Forest.{Forest, none, tree, count, first}
 use Rattle.terms.specs.Labels.{Label, Terms}
-use Rattle.grammar.specs.Derivation.{Item, nonTerminal, Rule, headOf, formOf, Derives, done, use-rule, leaf, same, Fresh, Simple, s-done, s-rule, s-leaf, s-same}
+use Rattle.grammar.specs.Derivation.{Item, headOf, formOf, Derives, Fresh, Simple, Grammar}
+use Rattle.grammar.specs.Derivation.Item.{nonTerminal}
+use Rattle.grammar.specs.Derivation.Derives.{done, use-rule, leaf, same}
+use Rattle.grammar.specs.Derivation.Simple.{s-done, s-rule, s-leaf, s-same}
 use Rattle.grammar.specs.Steps.{NoChain}
 use Rattle.grammar.proofs.Splits.{Kind, Uncons, one-then}
 
-module _ (G : List Rule) where
+module _ (G : Grammar) where
   abbrev D : Forest Item → Terms → List ℕ → Type 0
   D = Simple G []
 
@@ -28,7 +31,7 @@ module _ (G : List Rule) where
   pub empty : {ds : List ℕ} → D none none ds → ds ≡ []
   empty s-done = refl
 
-  abbrev pub simples : Kind D
+  abbrev pub simples : Kind (G .arguments) D
   simples = record { nil = s-done; empty = empty; of-leaf = s-leaf; of-same = s-same; uncons = uncons }
 
   -- a non-terminal at one tree, then other forms
@@ -39,11 +42,12 @@ module _ (G : List Rule) where
   walk-hole A ps l ts us ds es d q = one-then simples (nonTerminal A) none ps l ts (first (count ps) us) ds es d q
 
   -- a rule in front of what derives its right side
-  pub use-one : (seen : List ℕ) (r : ℕ) (l : Label) (ts : Terms) (ds : List ℕ) → r < length G → Fresh (headOf G r) seen
-      → Simple G (headOf G r ∷ seen) (formOf G r) (tree l ts none) ds
-      → Simple G seen (tree (nonTerminal (headOf G r)) none none) (tree l ts none) (r ∷ ds)
+  pub use-one : (seen : List ℕ) (r : ℕ) (l : Label) (ts : Terms) (ds : List ℕ) → r < length (G .rules) → Fresh (headOf (G .rules) r) seen
+      → Simple G (headOf (G .rules) r ∷ seen) (formOf (G .rules) r) (tree l ts none) ds
+      → Simple G seen (tree (nonTerminal (headOf (G .rules) r)) none none) (tree l ts none) (r ∷ ds)
   use-one seen r l ts ds h f d =
-      subst (λ (x : List ℕ). Simple G seen (tree (nonTerminal (headOf G r)) none none) (tree l ts none) (r ∷ x)) (append-nil ds) (s-rule r h refl f d s-done)
+      subst (λ (x : List ℕ). Simple G seen (tree (nonTerminal (headOf (G .rules) r)) none none) (tree l ts none) (r ∷ x)) (append-nil ds)
+      (s-rule r h refl f d s-done)
 
   -- what has been seen says nothing of a form that begins with no non-terminal
   pub no-chain-any : (seen : List ℕ) {P : Forest Item} {T : Terms} {ds : List ℕ} → NoChain P → D P T ds → Simple G seen P T ds

@@ -22,10 +22,11 @@ pub record Uncons (D : Derivation) (i : Item) (x X : Forest Item) (l : Label) (y
   pub head : (X' : Forest Item) (Y' : Terms) (es' : List ℕ) → D X' Y' es' → D (tree i x X') (tree l y Y') (hs ++ es')
 
 -- what the laws below ask of a kind of derivation
-pub record Kind (D : Derivation) : Type 0 where
+pub record Kind (arguments : List ℕ) (D : Derivation) : Type 0 where
   pub nil : D none none []
   pub empty : {ds : List ℕ} → D none none ds → ds ≡ []
-  pub of-leaf : {i : Item} {l : Label} {ps : Forest Item} {us : Terms} {es : List ℕ} → AnyLeaf i l → D ps us es → D (tree i none ps) (tree l none us) es
+  pub of-leaf : {i : Item} {l : Label} {ps : Forest Item} {us : Terms} {es : List ℕ} → AnyLeaf arguments i l → D ps us es
+      → D (tree i none ps) (tree l none us) es
   pub of-same : {l m : Label} {ps qs : Forest Item} {ts us : Terms} {ds es : List ℕ} → SameLabel l m → D ps ts ds → D qs us es
       → D (tree (the l) ps qs) (tree m ts us) (ds ++ es)
   pub uncons : {i : Item} {x X : Forest Item} {l : Label} {y Y : Terms} {ds : List ℕ} → D (tree i x X) (tree l y Y) ds → Uncons D i x X l y Y ds
@@ -38,7 +39,7 @@ pub record Split (D : Derivation) (P Q : Forest Item) (T U : Terms) (ds : List �
   pub left : D P T ls
   pub right : D Q U rs
 
-module _ {D : Derivation} (K : Kind D) where
+module _ {arguments : List ℕ} {D : Derivation} (K : Kind arguments D) where
   pub split : (P Q : Forest Item) (T U : Terms) → count P ≡ count T → (ds : List ℕ) → D (join P Q) (join T U) ds → Split D P Q T U ds
   unfolding join count
   split none Q none U c ds d = record { ls = []; rs = ds; is = refl; left = K .nil; right = d }
@@ -56,7 +57,7 @@ module _ {D : Derivation} (K : Kind D) where
       }
 
   -- the same list, where a node is put over its operands
-  pub over : (i : Item) (m : Label) (ps qs : Forest Item) (ts us : Terms) (ds : List ℕ) → Alike i m → Bare i ps → count ts ≡ count ps
+  pub over : (i : Item) (m : Label) (ps qs : Forest Item) (ts us : Terms) (ds : List ℕ) → Alike arguments i m → Bare i ps → count ts ≡ count ps
       → D (join ps qs) (join ts us) ds
       → D (tree i ps qs) (tree m ts us) ds
   unfolding join count
@@ -68,7 +69,7 @@ module _ {D : Derivation} (K : Kind D) where
       rw (eP, eT) (K .of-leaf a d2)
 
   -- the same of the first trees, as many as the forms have
-  pub over-first : (i : Item) (m : Label) (ps qs : Forest Item) (ts us : Terms) (ds : List ℕ) → Alike i m → Bare i ps → count ts ≡ count ps
+  pub over-first : (i : Item) (m : Label) (ps qs : Forest Item) (ts us : Terms) (ds : List ℕ) → Alike arguments i m → Bare i ps → count ts ≡ count ps
       → D (join ps qs) (first (count (join ps qs)) (join ts us)) ds → D (tree i ps qs) (first (count (tree i ps qs)) (tree m ts us)) ds
   unfolding first count
   over-first i m ps qs ts us ds a b c d =

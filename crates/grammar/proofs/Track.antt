@@ -11,7 +11,7 @@ use Rattle.forest.specs.Forest.{Forest, none, tree, count, size, join, from, fi
 use Rattle.terms.specs.Labels.{Label, Terms}
 use Rattle.terms.specs.Nodes.{codeAt, sizeAt, valueAt}
 use Rattle.forest.proofs.Laws.{Tree, size-join, count-size, count-join, first-join, from-one, from-over, size-zero}
-use Rattle.grammar.specs.Derivation.{Item, nonTerminal, Rule, formOf, Proper, Simple, s-done}
+use Rattle.grammar.specs.Derivation.{Item, nonTerminal, formOf, Proper, Simple, s-done, Grammar}
 use Rattle.grammar.specs.Tables.{nonTerminalKind}
 use Rattle.grammar.specs.Columns.{startAt, has}
 use Rattle.grammar.specs.Steps.{Asks, AsksNoChain, Fits, DerivesAt, EmitPre, EmitPost, SpreadPre, SpreadPost}
@@ -19,7 +19,8 @@ use Rattle.grammar.proofs.Meta.{fits-hole-to, fits-node-to}
 use Rattle.grammar.proofs.Simple.{simples, walk-hole}
 use Rattle.grammar.proofs.Splits.{over-first}
 use Rattle.grammar.proofs.Likeness.{proper-bare}
-use Rattle.grammar.proofs.Walk.{At, end, end-is, at-start, step-hole, step-alike, HoleAt, hole-view, hole-late, hole-low, not-hole, rule-tree, body-tree, in-body, node-says, Room, room}
+use Rattle.grammar.proofs.Walk.{At, end, end-is, at-start, step-hole, step-alike, HoleAt, hole-view, hole-late, hole-low, not-hole, rule-tree, body-tree}
+use Rattle.grammar.proofs.Walk.{in-body, node-says, Room, room}
 use Rattle.grammar.proofs.Trail.{sets-append}
 
 size-first : {l : Item} {x qs : Forest Item} {s : Label} {ts us : Terms} (P : Forest Item) (B : Terms) → P ≡ tree l x qs → B ≡ tree s ts us
@@ -35,14 +36,14 @@ module _ {rules forms body masks : List ℕ} {i r : ℕ} {shown₀ : List ℕ} {
   abbrev pub q : AsksNoChain rules forms body masks i r
   q = e .rule-asks
 
-  abbrev pub G : List Rule
+  abbrev pub G : Grammar
   G = q .asks .given .G
 
   abbrev pub F : Terms
   F = q .asks .given .F
 
   abbrev pub P : Forest Item
-  P = formOf G r
+  P = formOf (G .rules) r
 
   abbrev pub D : Forest Item → Terms → List ℕ → Type 0
   D = Simple G []

@@ -10,7 +10,7 @@ use lib.Seq.{sets, length-sets}
 use Rattle.forest.specs.Forest.{Forest, none, tree, from, first}
 use Rattle.terms.specs.Labels.{Terms}
 use Rattle.terms.specs.Nodes.{codeAt, valueAt}
-use Rattle.grammar.specs.Derivation.{Item, nonTerminal, Rule, headOf, formOf, Fresh, Simple}
+use Rattle.grammar.specs.Derivation.{Item, nonTerminal, headOf, formOf, Fresh, Simple, Grammar}
 use Rattle.grammar.specs.Tables.{nonTerminalKind}
 use Rattle.grammar.specs.Columns.{startAt}
 use Rattle.grammar.specs.Steps.{Chain, stop, more, Fits, FollowPre, FollowPost}
@@ -25,7 +25,7 @@ sets-append l i (a ∷ vs) ws =
     sets-append (set l i a) (suc i) vs ws ∙ ap (λ (k : ℕ). sets (sets (set l i a) (suc i) vs) k ws) e
 
 module _ {rules forms chosen : List ℕ} {a : ℕ} {shown₀ : List ℕ} {at : ℕ} (f : FollowPre rules forms chosen a shown₀ at) where
-  abbrev pub G : List Rule
+  abbrev pub G : Grammar
   G = f .asks .given .G
 
   abbrev pub T : Terms
@@ -90,11 +90,11 @@ module _ {rules forms chosen : List ℕ} {a : ℕ} {shown₀ : List ℕ} {at : �
   }
 
   -- the rule chosen for a member
-  chosen-rule : {b k : ℕ} → Follows b k → getD chosen b 0 < length G
+  chosen-rule : {b k : ℕ} → Follows b k → getD chosen b 0 < length (G .rules)
   chosen-rule (stop y! lt hd np fi) = lt
   chosen-rule (more B y! lt hd is c) = lt
 
-  chosen-head : {b k : ℕ} → Follows b k → headOf G (getD chosen b 0) ≡ b
+  chosen-head : {b k : ℕ} → Follows b k → headOf (G .rules) (getD chosen b 0) ≡ b
   chosen-head (stop y! lt hd np fi) = hd
   chosen-head (more B y! lt hd is c) = hd
 
@@ -110,21 +110,21 @@ module _ {rules forms chosen : List ℕ} {a : ℕ} {shown₀ : List ℕ} {at : �
 
   -- one rule more in front of what derives its right side
   one-more : {b k : ℕ} → Follows b k → (seen : List ℕ) → Above k seen → (es : List ℕ)
-      → Simple G (b ∷ seen) (formOf G (getD chosen b 0)) T1 es → Simple G seen (tree (nonTerminal b) none none) T1 (getD chosen b 0 ∷ es)
+      → Simple G (b ∷ seen) (formOf (G .rules) (getD chosen b 0)) T1 es → Simple G seen (tree (nonTerminal b) none none) T1 (getD chosen b 0 ∷ es)
   one-more {b} c seen ab es d =
       let h = here (f .asks) in
       let e = first-one (f .asks) in
       let r = getD chosen b 0 in
       let S = Simple G in
-      let d2 : S (b ∷ seen) (formOf G r) (tree (h .l) (h .ops) none) es = rw e at d in
+      let d2 : S (b ∷ seen) (formOf (G .rules) r) (tree (h .l) (h .ops) none) es = rw e at d in
       let hd = chosen-head c in
-      let d3 : S (headOf G r ∷ seen) (formOf G r) (tree (h .l) (h .ops) none) es =
-      subst (λ (x : ℕ). S (x ∷ seen) (formOf G r) (tree (h .l) (h .ops) none) es) (path.sym hd) d2 in
-      let fr : Fresh (headOf G r) seen = subst (λ (x : ℕ). Fresh x seen) (path.sym hd) (fresh c ab) in
+      let d3 : S (headOf (G .rules) r ∷ seen) (formOf (G .rules) r) (tree (h .l) (h .ops) none) es =
+      subst (λ (x : ℕ). S (x ∷ seen) (formOf (G .rules) r) (tree (h .l) (h .ops) none) es) (path.sym hd) d2 in
+      let fr : Fresh (headOf (G .rules) r) seen = subst (λ (x : ℕ). Fresh x seen) (path.sym hd) (fresh c ab) in
       let u = use-one G seen r (h .l) (h .ops) es (chosen-rule c) fr d3 in
       rw e (subst (λ (x : ℕ). S seen (tree (nonTerminal x) none none) (tree (h .l) (h .ops) none) (r ∷ es)) hd u)
 
-  back-more : (shown : List ℕ) (b w : ℕ) (t : Trail shown b w) (es : List ℕ) → Simple G (b ∷ t .seen) (formOf G (getD chosen b 0)) T1 es
+  back-more : (shown : List ℕ) (b w : ℕ) (t : Trail shown b w) (es : List ℕ) → Simple G (b ∷ t .seen) (formOf (G .rules) (getD chosen b 0)) T1 es
       → D (tree (nonTerminal a) none none) T1 ((t .ws ++ (getD chosen b 0 ∷ [])) ++ es)
   back-more shown b w t es d = rw append-assoc (t .back (getD chosen b 0 ∷ es) (one-more (t .chain) (t .seen) (t .above) es d))
 
@@ -177,7 +177,7 @@ module _ {rules forms chosen : List ℕ} {a : ℕ} {shown₀ : List ℕ} {at : �
     back = λ es d. back-more shown b w t es (no-chain-any G (b ∷ t .seen) (no-chain-view (f .asks) (getD chosen b 0) (chosen-rule (t .chain)) k1) d);
   }
     where
-      fits-end : {k : ℕ} → Follows b k → Fits G (formOf G (getD chosen b 0)) T
+      fits-end : {k : ℕ} → Follows b k → Fits G (formOf (G .rules) (getD chosen b 0)) T
       fits-end (stop y! lt hd np fi) = fi
       fits-end (more B y! lt hd is c) = absurd (no-chain-view (f .asks) (getD chosen b 0) lt k1 B none none is)
 

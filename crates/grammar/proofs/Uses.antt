@@ -10,62 +10,60 @@ use Rattle.forest.specs.Forest.{Forest, none, tree, count, join, from}
 use Rattle.terms.specs.Nodes.{codeAt, valueAt}
 use Rattle.forest.proofs.Laws.{Tree, tree-of-count, count-node, count-zero}
 use Rattle.grammar.proofs.Reading.{ItemSays, item-says}
-use Rattle.grammar.proofs.Likeness.{label-kind}
-use Rattle.grammar.specs.Derivation.{Item, anyArgument, anyLiteral, nonTerminal, the, Rule, headOf, formOf, Proper}
-use Rattle.grammar.specs.Tables.{rightSides, nonTerminalKind}
+use Rattle.grammar.proofs.Likeness.{hole-item}
+use Rattle.grammar.specs.Derivation.{Item, nonTerminal, the, headOf, formOf, Proper, Grammar}
+use Rattle.grammar.specs.Tables.{itemValue, rightSides, nonTerminalKind}
 use Rattle.grammar.specs.Columns.{startAt, nonTerminalAt, has}
 use Rattle.grammar.specs.Steps.{Asks, AsksRule, AsksNoChain, Matched, NoChain, Fits, Applies, chain, no-chain, Answers, Finds}
 use Rattle.grammar.proofs.RuleRows.{RuleAt, rule-at, length-rules}
 
 module _ {rules forms body masks : List ℕ} {i : ℕ} where
-  pub rules-count : (q : Asks rules forms body masks i) → length rules ≡ 2 * length (q .given .G)
-  rules-count q = ap length (q .given .holds .is-rules) ∙ length-rules 0 (q .given .G)
+  pub rules-count : (q : Asks rules forms body masks i) → length rules ≡ 2 * length (q .given .G .rules)
+  rules-count q = ap length (q .given .holds .is-rules) ∙ length-rules 0 (q .given .G .rules)
 
-  module _ (q : Asks rules forms body masks i) (r : ℕ) (h : r < length (q .given .G)) where
-    abbrev pub G : List Rule
+  module _ (q : Asks rules forms body masks i) (r : ℕ) (h : r < length (q .given .G .rules)) where
+    abbrev pub G : Grammar
     G = q .given .G
 
-    there : RuleAt rules G r
-    there = rule-at G (q .given .holds .is-rules) r h
+    there : RuleAt rules (G .rules) r
+    there = rule-at (G .rules) (q .given .holds .is-rules) r h
 
     pub head-low : nonTerminalAt rules r < 16
     head-low = omega (arith, there .head, q .given .admitted .low r h)
 
-    pub head-is : nonTerminalAt rules r ≡ headOf G r
+    pub head-is : nonTerminalAt rules r ≡ headOf (G .rules) r
     head-is = there .head
 
-    rule-tree : Tree (formOf G r)
-    rule-tree = tree-of-count (formOf G r) (omega (arith, q .given .admitted .single r h))
+    rule-tree : Tree (formOf (G .rules) r)
+    rule-tree = tree-of-count (formOf (G .rules) r) (omega (arith, q .given .admitted .single r h))
 
-    first-says : (l : Item) (ps qs : Forest Item) → formOf G r ≡ tree l ps qs → ItemSays forms (startAt rules r) l ps
+    first-says : (l : Item) (ps qs : Forest Item) → formOf (G .rules) r ≡ tree l ps qs → ItemSays forms (startAt rules r) l ps
     unfolding join
-    first-says l ps qs e = item-says (rightSides G) (q .given .holds .is-forms) (there .is ∙ ap (λ (x : Forest Item). join x (there .rest)) e)
+    first-says l ps qs e = item-says (rightSides (G .rules)) (q .given .holds .is-forms) (there .is ∙ ap (λ (x : Forest Item). join x (there .rest)) e)
 
     pub record ChainIs : Type 0 where
       pub B : ℕ
-      pub is : formOf G r ≡ tree (nonTerminal B) none none
+      pub is : formOf (G .rules) r ≡ tree (nonTerminal B) none none
       pub low : B < 16
       pub value : valueAt forms (startAt rules r) ≡ B
 
     pub chain-view : codeAt forms (startAt rules r) ≡ nonTerminalKind → ChainIs
     unfolding Proper
-    chain-view k = go (rule-tree .l) (rule-tree .ops) (rule-tree .rest) (rule-tree .is)
-      where
-        go : (l : Item) (ps qs : Forest Item) → formOf G r ≡ tree l ps qs → ChainIs
-        go (the l) ps qs e = absurd (omega (arith, first-says (the l) ps qs e .code, label-kind l))
-        go (anyLiteral s) ps qs e = absurd (omega (arith, first-says (anyLiteral s) ps qs e .code))
-        go (anyArgument s) ps qs e = absurd (omega (arith, first-says (anyArgument s) ps qs e .code))
-        go (nonTerminal A) ps qs e =
-            let pr = subst (Proper 16) e (q .given .admitted .proper r h) in
-            let z : qs ≡ none = count-zero qs (omega (arith, q .given .admitted .single r h, ap count e, count-node (nonTerminal A) ps qs)) in
-            record {
-              B = A;
-              is = e ∙ ap (λ (x : Forest Item). tree (nonTerminal A) x qs) (pr .1) ∙ ap (tree (nonTerminal A) none) z;
-              low = pr .0;
-              value = first-says (nonTerminal A) ps qs e .value;
-            }
+    chain-view k =
+        let t = rule-tree in
+        let says = first-says (t .l) (t .ops) (t .rest) (t .is) in
+        let hole : Item = nonTerminal (itemValue (t .l)) in
+        let e = t .is ∙ ap (λ (x : Item). tree x (t .ops) (t .rest)) (hole-item (t .l) (sym (says .code) ∙ k)) in
+        let pr = subst (Proper 16) e (q .given .admitted .proper r h) in
+        let z : t .rest ≡ none = count-zero (t .rest) (omega (arith, q .given .admitted .single r h, ap count e, count-node hole (t .ops) (t .rest))) in
+        record {
+          B = itemValue (t .l);
+          is = e ∙ ap (λ (x : Forest Item). tree hole x (t .rest)) (pr .1) ∙ ap (tree hole none) z;
+          low = pr .0;
+          value = says .value;
+        }
 
-    pub no-chain-view : (codeAt forms (startAt rules r) ≡ nonTerminalKind → ⊥) → NoChain (formOf G r)
+    pub no-chain-view : (codeAt forms (startAt rules r) ≡ nonTerminalKind → ⊥) → NoChain (formOf (G .rules) r)
     no-chain-view k A ps qs e = k (first-says (nonTerminal A) ps qs e .code)
 
     pub chain-to : (s : ℕ) → codeAt forms (startAt rules r) ≡ nonTerminalKind → has s (valueAt forms (startAt rules r)) ≡ true
@@ -80,14 +78,14 @@ module _ {rules forms body masks : List ℕ} {i : ℕ} where
         true≢false (sym y ∙ ap (has s) (sym e ∙ sym (v .value)) ∙ n)
     chain-not s k n (no-chain p f) = let v = chain-view k in p (v .B) none none (v .is)
 
-    pub no-chain-not : (s : ℕ) → (codeAt forms (startAt rules r) ≡ nonTerminalKind → ⊥) → (Fits G (formOf G r) (from (q .given .F) i) → ⊥)
+    pub no-chain-not : (s : ℕ) → (codeAt forms (startAt rules r) ≡ nonTerminalKind → ⊥) → (Fits G (formOf (G .rules) r) (from (q .given .F) i) → ⊥)
         → Applies G (from (q .given .F) i) s r → ⊥
     no-chain-not s k n (chain B is y) = no-chain-view k B none none is
     no-chain-not s k n (no-chain p f) = n f
 
   -- what the code of `applies` comes to
   module _ {r : ℕ} (q : AsksRule rules forms body masks i r) {start code : ℕ} (es : start ≡ startAt rules r) (ec : code ≡ codeAt forms start) where
-    rule-of : (a : Asks rules forms body masks i) → r < length (a .given .G)
+    rule-of : (a : Asks rules forms body masks i) → r < length (a .given .G .rules)
     rule-of a = omega (arith, q .is-rule, rules-count (q .asks), rules-count a)
 
     abbrev code-is : code ≡ codeAt forms (startAt rules r)
@@ -102,7 +100,7 @@ module _ {rules forms body masks : List ℕ} {i : ℕ} where
       complete = λ a e. no-chain-not a r (rule-of a) s (λ e2. k (code-is ∙ e2)) (m .complete (record { asks = a; is-rule = rule-of a; no-chain = p a }) e);
     }
       where
-        p : (a : Asks rules forms body masks i) → NoChain (formOf (a .given .G) r)
+        p : (a : Asks rules forms body masks i) → NoChain (formOf (a .given .G .rules) r)
         p a = no-chain-view a r (rule-of a) (λ e. k (code-is ∙ e))
 
     module _ (k : code ≡ nonTerminalKind) {x : ℕ} (ex : x ≡ valueAt forms start) where
@@ -120,9 +118,10 @@ module _ {rules forms body masks : List ℕ} {i : ℕ} where
 -- no rule below r can be used, unless its non-terminal is in s
 pub record Before (rules forms body masks : List ℕ) (i s count r : ℕ) : Type 0 where
   pub asks : Asks rules forms body masks i
-  pub all : (q : Asks rules forms body masks i) → count ≡ length (q .given .G)
+  pub all : (q : Asks rules forms body masks i) → count ≡ length (q .given .G .rules)
   pub bound : r ≤ count
-  pub none-yet : (q : Asks rules forms body masks i) (k : ℕ) → k < r → Applies (q .given .G) (from (q .given .F) i) s k → has s (headOf (q .given .G) k) ≡ true
+  pub none-yet : (q : Asks rules forms body masks i) (k : ℕ) → k < r → Applies (q .given .G) (from (q .given .F) i) s k
+      → has s (headOf (q .given .G .rules) k) ≡ true
 
 module _ {rules forms body masks : List ℕ} {i s : ℕ} where
   pub before-start : Asks rules forms body masks i → {count : ℕ} → count ≡ length rules / 2 → Before rules forms body masks i s count 0
@@ -137,18 +136,18 @@ module _ {rules forms body masks : List ℕ} {i s : ℕ} where
     }
 
     module _ (h : r < count) where
-      is-rule : (a : Asks rules forms body masks i) → r < length (a .given .G)
+      is-rule : (a : Asks rules forms body masks i) → r < length (a .given .G .rules)
       is-rule a = omega (arith, v .all a)
 
       pub asks-rule : AsksRule rules forms body masks i r
       asks-rule = record { asks = v .asks; is-rule = is-rule (v .asks) }
 
-      step : ((a : Asks rules forms body masks i) → Applies (a .given .G) (from (a .given .F) i) s r → has s (headOf (a .given .G) r) ≡ true)
+      step : ((a : Asks rules forms body masks i) → Applies (a .given .G) (from (a .given .F) i) s r → has s (headOf (a .given .G .rules) r) ≡ true)
           → Before rules forms body masks i s count (r + 1)
       step f = record { asks = v .asks; all = v .all; bound = omega arith; none-yet = λ a k l. go a k l (ℕ-discrete k r) }
         where
           go : (a : Asks rules forms body masks i) (k : ℕ) → k < r + 1 → Dec (k ≡ r) → Applies (a .given .G) (from (a .given .F) i) s k
-              → has s (headOf (a .given .G) k) ≡ true
+              → has s (headOf (a .given .G .rules) k) ≡ true
           go a k l (yes e) = rw e (f a)
           go a k l (no e) = v .none-yet a k (omega arith)
 
@@ -157,7 +156,7 @@ module _ {rules forms body masks : List ℕ} {i s : ℕ} where
         known-low = omega (arith, ex, head-low (v .asks) r (is-rule (v .asks)))
 
         module _ {b : Bool} (eb : b ≡ has s x) where
-          same : (a : Asks rules forms body masks i) → b ≡ has s (headOf (a .given .G) r)
+          same : (a : Asks rules forms body masks i) → b ≡ has s (headOf (a .given .G .rules) r)
           same a = eb ∙ ap (has s) (ex ∙ head-is a r (is-rule a))
 
           pub before-known : b ≡ true → Before rules forms body masks i s count (r + 1)

@@ -10,14 +10,16 @@ use Rattle.forest.specs.Forest.{Forest, none, tree, count, size, join, from, fi
 use Rattle.terms.specs.Labels.{Label, Terms}
 use Rattle.terms.specs.Nodes.{Plain, codeAt, sizeAt, valueAt}
 use Rattle.terms.proofs.Bodies.{Says, plain-at}
-use Rattle.forest.proofs.Laws.{count-size, Tree, tree-of-count, tree-of-size, tree-at, count-tree, size-tree, count-node, size-zero, count-zero, inside, from-one, from-over, join-assoc, size-join, count-join, size-from}
-use Rattle.grammar.specs.Derivation.{Item, anyArgument, anyLiteral, nonTerminal, the, Rule, formOf, Proper, done}
-use Rattle.grammar.specs.Tables.{rightSides, itemCode, nonTerminalKind}
+use Rattle.forest.proofs.Laws.{count-join, count-node, count-size, count-tree, count-zero, from-one, from-over, inside, join-assoc, Tree, size-from, size-join}
+use Rattle.forest.proofs.Laws.{size-tree, size-zero, tree-at, tree-of-count, tree-of-size}
+use Rattle.grammar.specs.Derivation.{Item, LeafFits, nonTerminal, the, formOf, Proper, done, Grammar}
+use Rattle.grammar.specs.Tables.{rightSides, itemCode, itemValue, nonTerminalKind}
 use Rattle.grammar.specs.Columns.{startAt, has, alike}
 use Rattle.grammar.specs.Steps.{AsksNoChain, Matched, Fits, DerivesAt}
 use Rattle.grammar.proofs.RuleRows.{RuleAt, rule-at}
 use Rattle.grammar.proofs.Meta.{fits-hole-to, fits-hole-rest, fits-hole, fits-node-to, fits-node}
-use Rattle.grammar.proofs.Likeness.{Alike, NotHole, alike-sound, alike-complete, label-kind, proper-bare, proper-on}
+use Rattle.grammar.proofs.Leaves.{fit-at}
+use Rattle.grammar.proofs.Likeness.{Alike, NotHole, alike-sound, alike-complete, hole-item, proper-bare, proper-on}
 use Rattle.grammar.proofs.Reading.{ItemSays, body-length, body-says, forms-length, item-says}
 
 pub size-node : {L : Type 0} (l : L) (ps qs : Forest L) → size (tree l ps qs) ≡ suc (size ps + size qs)
@@ -25,17 +27,17 @@ unfolding size
 size-node l ps qs = refl
 
 module _ {rules forms body masks : List ℕ} {i r : ℕ} (q : AsksNoChain rules forms body masks i r) where
-  abbrev pub G : List Rule
+  abbrev pub G : Grammar
   G = q .asks .given .G
 
   abbrev pub F : Terms
   F = q .asks .given .F
 
   abbrev pub P : Forest Item
-  P = formOf G r
+  P = formOf (G .rules) r
 
-  abbrev pub where-rule : RuleAt rules G r
-  where-rule = rule-at G (q .asks .given .holds .is-rules) r (q .is-rule)
+  abbrev pub where-rule : RuleAt rules (G .rules) r
+  where-rule = rule-at (G .rules) (q .asks .given .holds .is-rules) r (q .is-rule)
 
   -- the node of the rules' table past rule r
   abbrev pub end : ℕ
@@ -44,7 +46,7 @@ module _ {rules forms body masks : List ℕ} {i r : ℕ} (q : AsksNoChain rules 
   -- `left` is what is left of the rule at node p of the rules, j the node of the body that it is held against
   pub record At (p j : ℕ) : Type 0 where
     pub left : Forest Item
-    pub is : from (rightSides G) p ≡ join left (where-rule .rest)
+    pub is : from (rightSides (G .rules)) p ≡ join left (where-rule .rest)
     pub ends : p + size left ≡ end
     pub enough : count left ≤ count (from F j)
     pub prop : Proper 16 left
@@ -85,7 +87,7 @@ module _ {rules forms body masks : List ℕ} {i r : ℕ} (q : AsksNoChain rules 
     -- what the two nodes' numbers say
     pub rule-says : (l : Item) (ps qs : Forest Item) → a .left ≡ tree l ps qs → ItemSays forms p l ps
     unfolding join
-    rule-says l ps qs e = item-says (rightSides G) (q .asks .given .holds .is-forms) (a .is ∙ ap (λ (x : Forest Item). join x (where-rule .rest)) e)
+    rule-says l ps qs e = item-says (rightSides (G .rules)) (q .asks .given .holds .is-forms) (a .is ∙ ap (λ (x : Forest Item). join x (where-rule .rest)) e)
 
     pub node-says : (l : Label) (ts us : Terms) → from F j ≡ tree l ts us → Says body j l ts
     node-says l ts us e = body-says F (q .asks .given .holds .is-body) e
@@ -93,11 +95,14 @@ module _ {rules forms body masks : List ℕ} {i r : ℕ} (q : AsksNoChain rules 
     plain-here : Plain (body-tree .l)
     plain-here = plain-at F j (body-tree .l) (body-tree .ops) (body-tree .rest) (q .asks .given .holds .plain) (body-tree .is)
 
+    fits-here : LeafFits (G .arguments) (body-tree .l)
+    fits-here = fit-at (G .arguments) F j (body-tree .l) (body-tree .ops) (body-tree .rest) (q .asks .given .holds .leaves) (body-tree .is)
+
     -- the rule goes one node on
-    pub on : (l : Item) (ps qs : Forest Item) → a .left ≡ tree l ps qs → from (rightSides G) (p + 1) ≡ join (join ps qs) (where-rule .rest)
+    pub on : (l : Item) (ps qs : Forest Item) → a .left ≡ tree l ps qs → from (rightSides (G .rules)) (p + 1) ≡ join (join ps qs) (where-rule .rest)
     unfolding join
     on l ps qs e =
-        from-one (rightSides G) p l ps (join qs (where-rule .rest)) (a .is ∙ ap (λ (x : Forest Item). join x (where-rule .rest)) e)
+        from-one (rightSides (G .rules)) p l ps (join qs (where-rule .rest)) (a .is ∙ ap (λ (x : Forest Item). join x (where-rule .rest)) e)
         ∙ sym (join-assoc ps qs (where-rule .rest))
 
     -- a non-terminal of the rule
@@ -111,22 +116,19 @@ module _ {rules forms body masks : List ℕ} {i r : ℕ} (q : AsksNoChain rules 
 
     pub hole-view : codeAt forms p ≡ nonTerminalKind → HoleAt
     unfolding Proper
-    hole-view k = go (rule-tree .l) (rule-tree .ops) (rule-tree .rest) (rule-tree .is)
-      where
-        go : (l : Item) (ps qs : Forest Item) → a .left ≡ tree l ps qs → HoleAt
-        go (the l) ps qs e = absurd (omega (arith, rule-says (the l) ps qs e .code, label-kind l))
-        go (anyLiteral s) ps qs e = absurd (omega (arith, rule-says (anyLiteral s) ps qs e .code))
-        go (anyArgument s) ps qs e = absurd (omega (arith, rule-says (anyArgument s) ps qs e .code))
-        go (nonTerminal A) ps qs e =
-            let pr = subst (Proper 16) e (a .prop) in
-            record {
-              A = A;
-              qs = qs;
-              is = e ∙ ap (λ (x : Forest Item). tree (nonTerminal A) x qs) (pr .1);
-              low = pr .0;
-              value = rule-says (nonTerminal A) ps qs e .value;
-              prop = pr .2;
-            }
+    hole-view k =
+        let t = rule-tree in
+        let says = rule-says (t .l) (t .ops) (t .rest) (t .is) in
+        let e = t .is ∙ ap (λ (x : Item). tree x (t .ops) (t .rest)) (hole-item (t .l) (sym (says .code) ∙ k)) in
+        let pr = subst (Proper 16) e (a .prop) in
+        record {
+          A = itemValue (t .l);
+          qs = t .rest;
+          is = e ∙ ap (λ (x : Forest Item). tree (nonTerminal (itemValue (t .l))) x (t .rest)) (pr .1);
+          low = pr .0;
+          value = says .value;
+          prop = pr .2;
+        }
 
     pub hole-low : codeAt forms p ≡ nonTerminalKind → valueAt forms p < 16
     hole-low k = let v = hole-view k in omega (arith, v .low, v .value)
@@ -167,7 +169,7 @@ module _ {rules forms body masks : List ℕ} {i r : ℕ} (q : AsksNoChain rules 
     not-hole k A e = k (rule-says (rule-tree .l) (rule-tree .ops) (rule-tree .rest) (rule-tree .is) .code ∙ ap itemCode e)
 
     unfoldable pub step-alike : (l : Item) (ps qs : Forest Item) (m : Label) (ts us : Terms) → a .left ≡ tree l ps qs → from F j ≡ tree m ts us
-        → NotHole l → Alike l m → count ts ≡ count ps → At (p + 1) (j + 1)
+        → NotHole l → Alike (G .arguments) l m → count ts ≡ count ps → At (p + 1) (j + 1)
     step-alike l ps qs m ts us eP eF n al ec =
         let eF1 : from F (j + 1) ≡ join ts us = from-one F j m ts us eF in
         let pr = subst (Proper 16) eP (a .prop) in
@@ -191,7 +193,7 @@ module _ {rules forms body masks : List ℕ} {i r : ℕ} (q : AsksNoChain rules 
         let b = body-tree in
         let x = rule-says (l .l) (l .ops) (l .rest) (l .is) in
         let y = node-says (b .l) (b .ops) (b .rest) (b .is) in
-        let z = alike-sound x y plain-here 16 (l .rest) (not-hole k) (subst (Proper 16) (l .is) (a .prop)) w in
+        let z = alike-sound x y plain-here fits-here 16 (l .rest) (not-hole k) (subst (Proper 16) (l .is) (a .prop)) w in
         step-alike (l .l) (l .ops) (l .rest) (b .l) (b .ops) (b .rest) (l .is) (b .is) (not-hole k) (z .0) (z .1)
 
     pub fail-node : (codeAt forms p ≡ nonTerminalKind → ⊥) → alike forms p body j ≡ false → Fits G P (from F i) → ⊥
@@ -216,9 +218,9 @@ module _ {rules forms body masks : List ℕ} {i r : ℕ} (q : AsksNoChain rules 
         let x = size-from F j in
         let y = size-tree b in
         let z = body-length F (q .asks .given .holds .is-body) in
-        let u = forms-length (rightSides G) (q .asks .given .holds .is-forms) in
+        let u = forms-length (rightSides (G .rules)) (q .asks .given .holds .is-forms) in
         record {
-          in-forms = omega (arith, ap size (a .is), size-join (a .left) (where-rule .rest), size-from (rightSides G) p, size-tree rule-tree);
+          in-forms = omega (arith, ap size (a .is), size-join (a .left) (where-rule .rest), size-from (rightSides (G .rules)) p, size-tree rule-tree);
           in-body = omega arith;
           over = omega arith;
         }
@@ -242,7 +244,7 @@ module _ {rules forms body masks : List ℕ} {i r : ℕ} where
       go l ps qs e =
           let z : qs ≡ none = count-zero qs (omega (arith, q .asks .given .admitted .single r (q .is-rule), ap count e, count-node l ps qs)) in
           let x =
-          item-says (rightSides (G q)) (q .asks .given .holds .is-forms)
+          item-says (rightSides (G q .rules)) (q .asks .given .holds .is-forms)
           (where-rule q .is ∙ ap (λ (o : Forest Item). join o (where-rule q .rest)) e) in
           omega (arith, x .size, ap size e, ap size z)
 
@@ -250,10 +252,10 @@ module _ {rules forms body masks : List ℕ} {i r : ℕ} where
   end-fits q =
       omega (
         arith,
-        forms-length (rightSides (G q)) (q .asks .given .holds .is-forms),
+        forms-length (rightSides (G q .rules)) (q .asks .given .holds .is-forms),
         ap size (where-rule q .is),
         size-join (P q) (where-rule q .rest),
-        size-from (rightSides (G q)) (startAt rules r),
+        size-from (rightSides (G q .rules)) (startAt rules r),
         count-size (P q),
         q .asks .given .admitted .single r (q .is-rule),
       )

@@ -7,7 +7,7 @@ use lib.ListN.{length, replicate}
 use lib.Seq.{sets}
 use Rattle.forest.specs.Forest.{Forest, count, none, size, tree}
 use Rattle.terms.specs.Labels.{Terms}
-use Rattle.grammar.specs.Derivation.{Derives, Item, Rule, Simple, nonTerminal}
+use Rattle.grammar.specs.Derivation.{Derives, Grammar, Item, Simple, nonTerminal}
 use Rattle.grammar.specs.Tables.{Given}
 
 -- The form that is the start alone: "The first is the start".
@@ -39,19 +39,20 @@ pub record DerivePre (rules forms body : List ℕ) (k : ℕ) (area : List ℕ) :
   pub function : k < 8
 
 -- The rules ds derive the body, with no non-terminal twice at one place, and function k's list in the area shows them.
-pub record Shown (G : List Rule) (F : Terms) (k : ℕ) (area areaAfter : List ℕ) : Type 0 where
+pub record Shown (G : Grammar) (F : Terms) (k : ℕ) (area areaAfter : List ℕ) : Type 0 where
   pub ds : List ℕ
   pub derivation : Simple G [] start F ds
   pub few : length ds ≤ listSize
   pub shown : areaAfter ≡ sets area (listSize * k) (listOf ds)
 
 -- No list of rules, of any length, derives the body; and the area is as it was.
-pub record NotDerived (G : List Rule) (F : Terms) (area areaAfter : List ℕ) : Type 0 where
+pub record NotDerived (G : Grammar) (F : Terms) (area areaAfter : List ℕ) : Type 0 where
   pub none-derives : (ds : List ℕ) → Derives G start F ds → ⊥
   pub unchanged : areaAfter ≡ area
 
 -- The answer is yes, and a derivation is shown; or it is no, and there is none.
-pub record DerivePost (rules forms body : List ℕ) (k : ℕ) (area : List ℕ) (p : DerivePre rules forms body k area) (areaAfter : List ℕ) (answer : Bool) : Type 0 where
+pub record DerivePost (rules forms body : List ℕ) (k : ℕ) (area : List ℕ) (p : DerivePre rules forms body k area) (areaAfter : List ℕ)
+    (answer : Bool) : Type 0 where
   pub yes! : answer ≡ true → Shown (p .given .G) (p .given .F) k area areaAfter
   pub no! : answer ≡ false → NotDerived (p .given .G) (p .given .F) area areaAfter
 

@@ -2,9 +2,10 @@
 use mathlib.Core.Path.{_≡_}
 use Prim.Native.Nat.{ℕ, zero, suc, _<_, _≤_}
 use mathlib.Core.List.{List, [], _∷_, _++_}
-use lib.ListN.{length}
+use lib.ListN.{getD, length}
+use Rattle.bits.specs.Sorts.{Fit}
 use Rattle.forest.specs.Forest.{Forest, count, none, tree}
-use Rattle.terms.specs.Labels.{Label, Terms, literal, name}
+use Rattle.terms.specs.Labels.{Label, Terms, defined, function, literal, name, operator}
 use Rattle.terms.specs.Nodes.{Plain}
 
 -- What stands at a node of a rule. "A rule is `(Constant σ)`, `(Variable σ)` or a binder-free term", in which non-terminals stand.
@@ -22,35 +23,45 @@ pub data Item : Type 0 where
 abbrev pub SameLabel : Label → Label → Type 0
 SameLabel l m = l ≡ m
 
+-- Argument k of a function whose arguments have these sorts, in their order: there is one, and its sort is s.
+pub record Argument (arguments : List ℕ) (s k : ℕ) : Type 0 where
+  pub declared : k < length arguments
+  pub sort : getD arguments k 0 ≡ s
+
 -- "`(Constant σ)` derives any literal of sort σ; `(Variable σ)` any argument of that function of sort σ."
-pub data AnyLeaf : Item → Label → Type 0 where
-  constant : {s v w : ℕ} → AnyLeaf (anyLiteral s) (literal s v w)
-  variable : {s k : ℕ} → AnyLeaf (anyArgument s) (name s k)
+pub data AnyLeaf (arguments : List ℕ) : Item → Label → Type 0 where
+  constant : {s v w : ℕ} → Fit s v → AnyLeaf arguments (anyLiteral s) (literal s v w)
+  variable : {s k : ℕ} → Argument arguments s k → AnyLeaf arguments (anyArgument s) (name s k)
 
 -- A rule of the non-terminal A.
 pub data Rule : Type 0 where
   rule : (A : ℕ) → (form : Forest Item) → Rule
 
+-- The grammar of a function: the sorts of the function's arguments, in their order, and the rules.
+pub record Grammar : Type 0 where
+  pub arguments : List ℕ
+  pub rules : List Rule
+
 -- The non-terminal of rule r: "Rules are numbered from 0 through the whole grammar."
 unfoldable pub headOf : List Rule → ℕ → ℕ
 headOf [] r = 0
-headOf (rule A form ∷ G) zero = A
-headOf (rule A form ∷ G) (suc r) = headOf G r
+headOf (rule A form ∷ more) zero = A
+headOf (rule A form ∷ more) (suc r) = headOf more r
 
 -- The right side of rule r.
 unfoldable pub formOf : List Rule → ℕ → Forest Item
 formOf [] r = none
-formOf (rule A form ∷ G) zero = form
-formOf (rule A form ∷ G) (suc r) = formOf G r
+formOf (rule A form ∷ more) zero = form
+formOf (rule A form ∷ more) (suc r) = formOf more r
 
--- The forms P derive the terms T, tree by tree, by the rules ds, leftmost first. "A non-terminal derives a term if one of its rules does: a term rule when the term
--- equals the rule with each non-terminal replaced, place by place, by a term it derives .. The definition doesn't bound a derivation's length."
-pub data Derives (G : List Rule) : Forest Item → Terms → List ℕ → Type 0 where
+-- The forms P derive the terms T, tree by tree, by the rules ds, leftmost first. "A non-terminal derives a term if one of its rules does: a term rule when the
+-- term equals the rule with each non-terminal replaced, place by place, by a term it derives .. The definition doesn't bound a derivation's length."
+pub data Derives (G : Grammar) : Forest Item → Terms → List ℕ → Type 0 where
   done : Derives G none none []
-  use-rule : {A : ℕ} {ps : Forest Item} {l : Label} {ts us : Terms} {ds es : List ℕ} (r : ℕ) → r < length G → headOf G r ≡ A
-      → Derives G (formOf G r) (tree l ts none) ds → Derives G ps us es
+  use-rule : {A : ℕ} {ps : Forest Item} {l : Label} {ts us : Terms} {ds es : List ℕ} (r : ℕ) → r < length (G .rules) → headOf (G .rules) r ≡ A
+      → Derives G (formOf (G .rules) r) (tree l ts none) ds → Derives G ps us es
       → Derives G (tree (nonTerminal A) none ps) (tree l ts us) (r ∷ (ds ++ es))
-  leaf : {i : Item} {l : Label} {ps : Forest Item} {us : Terms} {es : List ℕ} → AnyLeaf i l
+  leaf : {i : Item} {l : Label} {ps : Forest Item} {us : Terms} {es : List ℕ} → AnyLeaf (G .arguments) i l
       → Derives G ps us es → Derives G (tree i none ps) (tree l none us) es
   same : {l m : Label} {ps qs : Forest Item} {ts us : Terms} {ds es : List ℕ} → SameLabel l m
       → Derives G ps ts ds → Derives G qs us es
@@ -62,19 +73,20 @@ Fresh A [] = Unit {0}
 Fresh A (B ∷ bs) = (A ≡ B → ⊥) × Fresh A bs
 
 -- The same, where "No non-terminal is used twice at the same place of the body": those of `seen` were used at the place of the first tree.
-pub data Simple (G : List Rule) : List ℕ → Forest Item → Terms → List ℕ → Type 0 where
+pub data Simple (G : Grammar) : List ℕ → Forest Item → Terms → List ℕ → Type 0 where
   s-done : {seen : List ℕ} → Simple G seen none none []
   s-rule : {seen : List ℕ} {A : ℕ} {ps : Forest Item} {l : Label} {ts us : Terms} {ds es : List ℕ} (r : ℕ)
-      → r < length G → headOf G r ≡ A → Fresh A seen
-      → Simple G (A ∷ seen) (formOf G r) (tree l ts none) ds → Simple G [] ps us es
+      → r < length (G .rules) → headOf (G .rules) r ≡ A → Fresh A seen
+      → Simple G (A ∷ seen) (formOf (G .rules) r) (tree l ts none) ds → Simple G [] ps us es
       → Simple G seen (tree (nonTerminal A) none ps) (tree l ts us) (r ∷ (ds ++ es))
-  s-leaf : {seen : List ℕ} {i : Item} {l : Label} {ps : Forest Item} {us : Terms} {es : List ℕ} → AnyLeaf i l
+  s-leaf : {seen : List ℕ} {i : Item} {l : Label} {ps : Forest Item} {us : Terms} {es : List ℕ} → AnyLeaf (G .arguments) i l
       → Simple G [] ps us es → Simple G seen (tree i none ps) (tree l none us) es
   s-same : {seen : List ℕ} {l m : Label} {ps qs : Forest Item} {ts us : Terms} {ds es : List ℕ} → SameLabel l m
       → Simple G [] ps ts ds → Simple G [] qs us es
       → Simple G seen (tree (the l) ps qs) (tree m ts us) (ds ++ es)
 
--- Non-terminals are below k, and neither they nor `(Constant σ)` and `(Variable σ)`, whose sorts are below 128, have operands; labels are told by their numbers.
+-- Non-terminals are below k, and neither they nor `(Constant σ)` and `(Variable σ)`, whose sorts are below 128, have operands; labels are told by their
+-- numbers.
 unfoldable pub Proper : ℕ → Forest Item → Type 0
 Proper k none = Unit {0}
 Proper k (tree (the l) ps qs) = Plain l × Proper k ps × Proper k qs
@@ -82,9 +94,22 @@ Proper k (tree (nonTerminal A) ps qs) = (A < k) × (ps ≡ none) × Proper k qs
 Proper k (tree (anyLiteral s) ps qs) = (s < 128) × (ps ≡ none) × Proper k qs
 Proper k (tree (anyArgument s) ps qs) = (s < 128) × (ps ≡ none) × Proper k qs
 
+-- A literal is a value of its sort, and a name an argument of the function, of its sort.
+abbrev pub LeafFits : (arguments : List ℕ) → Label → Type 0
+LeafFits arguments (literal s v w) = Fit s v
+LeafFits arguments (name s k) = Argument arguments s k
+LeafFits arguments (operator o i j) = Unit {0}
+LeafFits arguments (defined k) = Unit {0}
+LeafFits arguments (function k) = Unit {0}
+
+-- Each literal and each name of the terms is such.
+unfoldable pub LeavesFit : (arguments : List ℕ) → Terms → Type 0
+LeavesFit arguments none = Unit {0}
+LeavesFit arguments (tree l ops rest) = LeafFits arguments l × LeavesFit arguments ops × LeavesFit arguments rest
+
 -- The rules that document 01 admits: "16 non-terminals and 128 rules a grammar", each right side one term.
-pub record Admitted (G : List Rule) : Type 0 where
-  pub few : length G ≤ 128
-  pub low : (r : ℕ) → r < length G → headOf G r < 16
-  pub proper : (r : ℕ) → r < length G → Proper 16 (formOf G r)
-  pub single : (r : ℕ) → r < length G → count (formOf G r) ≡ 1
+pub record Admitted (G : Grammar) : Type 0 where
+  pub few : length (G .rules) ≤ 128
+  pub low : (r : ℕ) → r < length (G .rules) → headOf (G .rules) r < 16
+  pub proper : (r : ℕ) → r < length (G .rules) → Proper 16 (formOf (G .rules) r)
+  pub single : (r : ℕ) → r < length (G .rules) → count (formOf (G .rules) r) ≡ 1

@@ -7,18 +7,18 @@ use lib.ListN.{length, getD}
 use lib.Seq.{sets}
 use Rattle.forest.specs.Forest.{Forest, none, tree, count, size, from, first}
 use Rattle.terms.specs.Labels.{Terms}
-use Rattle.grammar.specs.Derivation.{Item, nonTerminal, Rule, headOf, formOf, Derives, Simple}
+use Rattle.grammar.specs.Derivation.{Item, nonTerminal, Grammar, headOf, formOf, Derives, Simple}
 use Rattle.grammar.specs.Tables.{Given}
 use Rattle.grammar.specs.Columns.{has}
 use Rattle.grammar.specs.Answer.{start}
 
 -- A derives the first tree of F.
-unfoldable pub DerivesAt : List Rule → ℕ → Terms → Type 0
+unfoldable pub DerivesAt : Grammar → ℕ → Terms → Type 0
 DerivesAt G A none = ⊥
 DerivesAt G A (tree s ts us) = (ds : List ℕ) × Derives G (tree (nonTerminal A) none none) (tree s ts none) ds
 
 -- P derives the first trees of F, as many as P has.
-unfoldable pub Fits : List Rule → Forest Item → Terms → Type 0
+unfoldable pub Fits : Grammar → Forest Item → Terms → Type 0
 Fits G P F = (ds : List ℕ) × Derives G P (first (count P) F) ds
 
 -- The form does not begin with a non-terminal: its rule is no chain rule.
@@ -31,7 +31,7 @@ pub record Puts (m a r : ℕ) : Type 0 where
   pub off : (b : ℕ) → (b ≡ a → ⊥) → has r b ≡ has m b
 
 -- The mask m is the set of the non-terminals that derive the first tree of F.
-pub record ExactAt (G : List Rule) (F : Terms) (m : ℕ) : Type 0 where
+pub record ExactAt (G : Grammar) (F : Terms) (m : ℕ) : Type 0 where
   pub sound : (A : ℕ) → A < 16 → has m A ≡ true → DerivesAt G A F
   pub complete : (A : ℕ) → A < 16 → DerivesAt G A F → has m A ≡ true
 
@@ -45,17 +45,17 @@ pub record Asks (rules forms body masks : List ℕ) (i : ℕ) : Type 0 where
 -- And r is a rule.
 pub record AsksRule (rules forms body masks : List ℕ) (i r : ℕ) : Type 0 where
   pub asks : Asks rules forms body masks i
-  pub is-rule : r < length (asks .given .G)
+  pub is-rule : r < length (asks .given .G .rules)
 
 -- And no chain rule.
 pub record AsksNoChain (rules forms body masks : List ℕ) (i r : ℕ) : Type 0 where
   pub asks : Asks rules forms body masks i
-  pub is-rule : r < length (asks .given .G)
-  pub no-chain : NoChain (formOf (asks .given .G) r)
+  pub is-rule : r < length (asks .given .G .rules)
+  pub no-chain : NoChain (formOf (asks .given .G .rules) r)
 
 -- Rule r derives the tree at node i.
 abbrev pub FitsHere : {rules forms body masks : List ℕ} {i : ℕ} → Asks rules forms body masks i → ℕ → Type 0
-FitsHere {i = i} q r = Fits (q .given .G) (formOf (q .given .G) r) (from (q .given .F) i)
+FitsHere {i = i} q r = Fits (q .given .G) (formOf (q .given .G .rules) r) (from (q .given .F) i)
 
 -- The answer b says whether rule r derives the tree at node i.
 pub record Matched (rules forms body masks : List ℕ) (i r : ℕ) (b : Bool) : Type 0 where
@@ -63,9 +63,9 @@ pub record Matched (rules forms body masks : List ℕ) (i r : ℕ) (b : Bool) : 
   pub complete : (q : AsksNoChain rules forms body masks i r) → b ≡ false → FitsHere (q .asks) r → ⊥
 
 -- Rule r can be used at the place of F's first tree, where the set s is known to be derived.
-pub data Applies (G : List Rule) (F : Terms) (s r : ℕ) : Type 0 where
-  chain : (B : ℕ) → formOf G r ≡ tree (nonTerminal B) none none → has s B ≡ true → Applies G F s r
-  no-chain : NoChain (formOf G r) → Fits G (formOf G r) F → Applies G F s r
+pub data Applies (G : Grammar) (F : Terms) (s r : ℕ) : Type 0 where
+  chain : (B : ℕ) → formOf (G .rules) r ≡ tree (nonTerminal B) none none → has s B ≡ true → Applies G F s r
+  no-chain : NoChain (formOf (G .rules) r) → Fits G (formOf (G .rules) r) F → Applies G F s r
 
 -- Rule r can be used at node i.
 abbrev pub AppliesHere : {rules forms body masks : List ℕ} {i : ℕ} → Asks rules forms body masks i → (s r : ℕ) → Type 0
@@ -78,18 +78,18 @@ pub record Answers (rules forms body masks : List ℕ) (i s r : ℕ) (b : Bool) 
 
 -- r is the first rule that can be used and whose non-terminal is not in s; the number of rules if there is none.
 pub record Finds (rules forms body masks : List ℕ) (i s r : ℕ) : Type 0 where
-  pub bound : (q : Asks rules forms body masks i) → r ≤ length (q .given .G)
-  pub found : (q : Asks rules forms body masks i) → r < length (q .given .G) → AppliesHere q s r × (has s (headOf (q .given .G) r) ≡ false)
-  pub none-left : (q : Asks rules forms body masks i) → r ≡ length (q .given .G)
-      → (k : ℕ) → k < length (q .given .G) → AppliesHere q s k → has s (headOf (q .given .G) k) ≡ true
+  pub bound : (q : Asks rules forms body masks i) → r ≤ length (q .given .G .rules)
+  pub found : (q : Asks rules forms body masks i) → r < length (q .given .G .rules) → AppliesHere q s r × (has s (headOf (q .given .G .rules) r) ≡ false)
+  pub none-left : (q : Asks rules forms body masks i) → r ≡ length (q .given .G .rules)
+      → (k : ℕ) → k < length (q .given .G .rules) → AppliesHere q s k → has s (headOf (q .given .G .rules) k) ≡ true
 
 -- Following the choices from A at the place of F's first tree takes k rules to a rule that is no chain rule.
-pub data Chain (G : List Rule) (F : Terms) (s : ℕ) (chosen : List ℕ) : ℕ → ℕ → Type 0 where
-  stop : {A : ℕ} → has s A ≡ true → getD chosen A 0 < length G → headOf G (getD chosen A 0) ≡ A
-      → NoChain (formOf G (getD chosen A 0)) → Fits G (formOf G (getD chosen A 0)) F
+pub data Chain (G : Grammar) (F : Terms) (s : ℕ) (chosen : List ℕ) : ℕ → ℕ → Type 0 where
+  stop : {A : ℕ} → has s A ≡ true → getD chosen A 0 < length (G .rules) → headOf (G .rules) (getD chosen A 0) ≡ A
+      → NoChain (formOf (G .rules) (getD chosen A 0)) → Fits G (formOf (G .rules) (getD chosen A 0)) F
       → Chain G F s chosen A 1
-  more : {A k : ℕ} (B : ℕ) → has s A ≡ true → getD chosen A 0 < length G → headOf G (getD chosen A 0) ≡ A
-      → formOf G (getD chosen A 0) ≡ tree (nonTerminal B) none none → Chain G F s chosen B k
+  more : {A k : ℕ} (B : ℕ) → has s A ≡ true → getD chosen A 0 < length (G .rules) → headOf (G .rules) (getD chosen A 0) ≡ A
+      → formOf (G .rules) (getD chosen A 0) ≡ tree (nonTerminal B) none none → Chain G F s chosen B k
       → Chain G F s chosen A (suc k)
 
 -- s is the exact set at node i, and the choices lead from each of its members to a derivation.
@@ -128,10 +128,10 @@ pub record FollowPost (rules forms chosen : List ℕ) (a : ℕ) (shown : List �
   pub wrote : shown' ≡ sets shown at ws
   pub next : at' ≡ at + length ws
   pub few : length ws ≤ f .k
-  pub is-rule : r < length (f .asks .given .G)
-  pub no-chain : NoChain (formOf (f .asks .given .G) r)
-  pub fits : Fits (f .asks .given .G) (formOf (f .asks .given .G) r) (from (f .asks .given .F) (f .i))
-  pub back : (es : List ℕ) → Simple (f .asks .given .G) [] (formOf (f .asks .given .G) r) (first 1 (from (f .asks .given .F) (f .i))) es
+  pub is-rule : r < length (f .asks .given .G .rules)
+  pub no-chain : NoChain (formOf (f .asks .given .G .rules) r)
+  pub fits : Fits (f .asks .given .G) (formOf (f .asks .given .G .rules) r) (from (f .asks .given .F) (f .i))
+  pub back : (es : List ℕ) → Simple (f .asks .given .G) [] (formOf (f .asks .given .G .rules) r) (first 1 (from (f .asks .given .F) (f .i))) es
       → Simple (f .asks .given .G) [] (tree (nonTerminal a) none none) (first 1 (from (f .asks .given .F) (f .i))) (ws ++ es)
 
 -- The same, for whatever the tables hold.
@@ -162,14 +162,15 @@ Emits rules forms body masks i a shown at shown' at' =
 -- Rule r, which is no chain rule, derives the tree at node i, and the list has room.
 pub record SpreadPre (rules forms body masks : List ℕ) (i r : ℕ) (shown : List ℕ) (at : ℕ) : Type 0 where
   pub rule-asks : AsksNoChain rules forms body masks i r
-  pub fits : Fits (rule-asks .asks .given .G) (formOf (rule-asks .asks .given .G) r) (from (rule-asks .asks .given .F) i)
+  pub fits : Fits (rule-asks .asks .given .G) (formOf (rule-asks .asks .given .G .rules) r) (from (rule-asks .asks .given .F) i)
   pub room : at + 16 * size (first 1 (from (rule-asks .asks .given .F) i)) ≤ length shown + 16
 
 -- Derivations for the places of the rule were written.
 pub record SpreadPost (rules forms body masks : List ℕ) (i r : ℕ) (shown : List ℕ) (at : ℕ) (e : SpreadPre rules forms body masks i r shown at)
     (shown' : List ℕ) (at' : ℕ) : Type 0 where
   pub ds : List ℕ
-  pub derivation : Simple (e .rule-asks .asks .given .G) [] (formOf (e .rule-asks .asks .given .G) r) (first 1 (from (e .rule-asks .asks .given .F) i)) ds
+  pub derivation : Simple (e .rule-asks .asks .given .G) [] (formOf (e .rule-asks .asks .given .G .rules) r)
+      (first 1 (from (e .rule-asks .asks .given .F) i)) ds
   pub wrote : shown' ≡ sets shown at ds
   pub next : at' ≡ at + length ds
   pub few : length ds + 16 ≤ 16 * size (first 1 (from (e .rule-asks .asks .given .F) i))

@@ -6,7 +6,7 @@ use Rattle.forest.specs.Forest.{Forest, Node, count, join, nodesOf, none, size}
 use Rattle.forest.specs.Rows.{rows}
 use Rattle.terms.specs.Labels.{Terms}
 use Rattle.terms.specs.Nodes.{AllPlain, codeOf, nodeTable, valueOf}
-use Rattle.grammar.specs.Derivation.{Admitted, Item, Rule, anyArgument, anyLiteral, nonTerminal, rule, the}
+use Rattle.grammar.specs.Derivation.{Admitted, Grammar, Item, LeavesFit, Rule, anyArgument, anyLiteral, nonTerminal, rule, the}
 
 -- The kind of a non-terminal in the table; the kinds before it are those of labels.
 abbrev pub nonTerminalKind : ℕ
@@ -45,23 +45,25 @@ formTable F = rows itemRow (nodesOf F)
 -- The right sides of all rules, one after the other.
 unfoldable pub rightSides : List Rule → Forest Item
 rightSides [] = none
-rightSides (rule A form ∷ G) = join form (rightSides G)
+rightSides (rule A form ∷ more) = join form (rightSides more)
 
 -- Two numbers for each rule: the node where its right side starts, and its non-terminal.
 unfoldable pub ruleTable : ℕ → List Rule → List ℕ
 ruleTable start [] = []
-ruleTable start (rule A form ∷ G) = start ∷ A ∷ ruleTable (start + size form) G
+ruleTable start (rule A form ∷ more) = start ∷ A ∷ ruleTable (start + size form) more
 
--- The three slices hold the rules G, their right sides, and the body F.
-pub record Holds (rules forms body : List ℕ) (G : List Rule) (F : Terms) : Type 0 where
-  pub is-rules : rules ≡ ruleTable 0 G
-  pub is-forms : forms ≡ formTable (rightSides G)
+-- The three slices hold the rules of G, their right sides, and the body F, whose labels are told by their numbers, whose literals are values of their sorts and
+-- whose names are arguments of G's function.
+pub record Holds (rules forms body : List ℕ) (G : Grammar) (F : Terms) : Type 0 where
+  pub is-rules : rules ≡ ruleTable 0 (G .rules)
+  pub is-forms : forms ≡ formTable (rightSides (G .rules))
   pub is-body : body ≡ nodeTable F
   pub plain : AllPlain F
+  pub leaves : LeavesFit (G .arguments) F
 
 -- The grammar and the body that the tables hold.
 pub record Given (rules forms body : List ℕ) : Type 0 where
-  pub G : List Rule
+  pub G : Grammar
   pub F : Terms
   pub holds : Holds rules forms body G F
   pub admitted : Admitted G

@@ -47,10 +47,10 @@ fn copy(list: &[u16], area: &mut [u16], at: usize)
     }
 }
 
-// Whether the start derives the body; if so, function k's list in the area gets a derivation, and its other entries are unused.
-pub fn derive(rules: &[u64], forms: &[u64], body: &[u64], k: usize, area: &mut [u16]) -> bool
-    requires { ⌜ DerivePre (now rules) (now forms) (now body) k (now area) ⌝ }
-    ensures { λ r. ⌜ Decides (now (rules .entry)) (now (forms .entry)) (now (body .entry)) k (now (area .entry)) (now (area .exit)) r ⌝ }
+// Whether the start derives the body; if so, the function's list in the area gets a derivation, and its other entries are unused.
+pub fn derive(rules: &[u64], forms: &[u64], body: &[u64], function: usize, area: &mut [u16]) -> bool
+    requires { ⌜ DerivePre (now rules) (now forms) (now body) function (now area) ⌝ }
+    ensures { λ r. ⌜ Decides (now (rules .entry)) (now (forms .entry)) (now (body .entry)) function (now (area .entry)) (now (area .exit)) r ⌝ }
 {
     let count = body.len() / ROW;
     let mut masks = no_masks();
@@ -58,6 +58,6 @@ pub fn derive(rules: &[u64], forms: &[u64], body: &[u64], k: usize, area: &mut [
     if !showing::show(rules, forms, body, &mut masks[..count], &mut list) {
         return false;
     }
-    copy(&list, area, LIST * k);
+    copy(&list, area, LIST * function);
     true
 }

@@ -13,7 +13,7 @@ use Rattle.terms.specs.Labels.{Terms}
 use Rattle.terms.specs.Sorts.{Definition}
 use Rattle.terms.specs.Values.{called, definedValue, functionValue}
 use Rattle.terms.specs.declared.Value.{Value}
-use Rattle.meaning.specs.Tables.{BodiesAt, CallsDefined, CallsEarlier, CallsKnown, FewArguments, Holds, Stands, mostArguments, mostDefined}
+use Rattle.meaning.specs.Tables.{BodiesAt, CallsDefined, CallsEarlier, CallsKnown, FewArguments, TablesHold, Stands, mostArguments, mostDefined}
 
 -- `define-fun`s that a body sees stand in the tables.
 pub record Seen (all : Terms) (bodies : List ℕ) (defs : List Definition) : Type 0 where
@@ -146,7 +146,7 @@ pub none-calls : (defs : ℕ) → CallsDefined defs []
 unfolding CallsDefined
 none-calls defs = tt
 
-module _ {nodes bodies : List ℕ} {defs funs : List Definition} (h : Holds nodes bodies defs funs) where
+module _ {nodes bodies : List ℕ} {defs funs : List Definition} (h : TablesHold nodes bodies defs funs) where
   -- The `define-fun`s that tables hold.
   seen : Seen (h .all) bodies defs
   seen = record { at = h .defined-at; few = h .few-defined; calls = h .defined-calls; most = h .defined-most }
@@ -160,7 +160,7 @@ module _ {nodes bodies : List ℕ} {defs funs : List Definition} (h : Holds node
   held-function k l = function-body defs funs seen (h .functions-at) (h .few-functions) (h .function-calls) k l
 
   -- The tables hold what a body sees.
-  abbrev pub held-seen : {sees : List Definition} → Seen (h .all) bodies sees → Holds nodes bodies sees []
+  abbrev pub held-seen : {sees : List Definition} → Seen (h .all) bodies sees → TablesHold nodes bodies sees []
   held-seen {sees} s =
       record {
         all = h .all;

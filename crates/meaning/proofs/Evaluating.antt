@@ -19,14 +19,14 @@ use Rattle.terms.specs.Labels.{defined, function, literal, name, operator}
 use Rattle.terms.specs.Nodes.{Plain, codeAt, codeOf, literalKind, nameKind, operatorKind, sizeAt, valueAt, valueOf}
 use Rattle.terms.specs.Values.{Meaning, definedValue, labelValue, meaningAt, numbersIn, sortsIn, value, valuesAt}
 use Rattle.terms.specs.declared.Value.{Value}
-use Rattle.meaning.specs.Steps.{Evaluable, Names, OperandsAre, OperandsEvaluable, OperatorGave, OperatorReady}
+use Rattle.meaning.specs.Steps.{Evaluable, Evaluated, Names, OperandsAre, OperandsEvaluable, OperandsEvaluated, OperatorGave, OperatorReady}
 use Rattle.meaning.specs.Tables.{Stands, bodyPlace, mostArguments}
 use Rattle.meaning.proofs.Arguments.{stored, stored-front}
 use Rattle.meaning.proofs.LabelValues.{Operator, call-label, literal-label, name-label, no-functions, operator-few, operator-label, same-length}
 use Rattle.meaning.proofs.Bodies.{Body, held-seen}
 use Rattle.meaning.proofs.Cursors.{tree-within}
 use Rattle.meaning.proofs.Fitting.{Called, called-body, values-fit}
-use Rattle.meaning.proofs.Parts.{Parts, label-known, parts, values-count}
+use Rattle.meaning.proofs.Parts.{TreeParts, label-known, tree-parts, values-count}
 
 module _ {nodes bodies env : List ℕ} {i left : ℕ} (e : Evaluable nodes bodies env i left) where
   -- What names and functions mean.
@@ -34,16 +34,16 @@ module _ {nodes bodies env : List ℕ} {i left : ℕ} (e : Evaluable nodes bodie
   meaning = meaningAt (e .defs) (e .funs) (e .point)
 
   -- The values of the term's operands.
-  pub split : Parts meaning (e .stands .label) (e .stands .operands) none (e .v ∷ [])
-  split = parts meaning _ _ none (rw (e .stands .is) at (e .has))
+  pub split : TreeParts meaning (e .stands .label) (e .stands .operands) none (e .v ∷ [])
+  split = tree-parts meaning _ _ none (rw (e .stands .is) at (e .has))
 
   -- The value of its label over them is its own.
   pub labelled : labelValue meaning (e .stands .label) (split .operands) ≡ some (e .v)
-  labelled = let q : split .v ≡ e .v = cc (split .all) in split .label ∙ ap some q
+  labelled = let q : split .first ≡ e .v = cc (split .together) in split .label ∙ ap some q
 
   -- They are of their sorts.
   pub operands-fit : AllFit (sortsIn (split .operands)) (numbersIn (split .operands))
-  operands-fit = values-fit (e .defs) (e .funs) (e .point) (e .fits) (e .stands .operands) (split .ops-values)
+  operands-fit = values-fit (e .defs) (e .funs) (e .point) (e .fits) (e .stands .operands) (split .ops-have)
 
   -- What the table says of its first node.
   said : Says nodes i (e .stands .label) (e .stands .operands)
@@ -128,7 +128,7 @@ module _ {nodes bodies env : List ℕ} {i left : ℕ} (e : Evaluable nodes bodie
 
       -- So are the terms that have them.
       pub operands-few : count (e .stands .operands) ≤ mostArguments
-      operands-few = omega (arith, values-few, values-count meaning (e .stands .operands) (split .ops-values))
+      operands-few = omega (arith, values-few, values-count meaning (e .stands .operands) (split .ops-have))
 
       module _ {n : ℕ} (n-is : n ≡ sizeAt nodes i) where
         -- They stand behind the term's first node.
@@ -159,92 +159,100 @@ module _ {nodes bodies env : List ℕ} {i left : ℕ} (e : Evaluable nodes bodie
               ends = operands-end;
               few = operands-few;
               vs = split .operands;
-              has = split .ops-values;
+              has = split .ops-have;
               cost = operands-cost;
             }
 
-      module _ {after : List ℕ} {one two : ℕ} (are : OperandsAre (replicate 8 0) after one two (split .operands)) where
-        -- There is room for their numbers.
-        numbers-few : length (numbersIn (split .operands)) ≤ 8
-        numbers-few = omega (arith, values-few, length-map (split .operands) (λ (u : Value). u .number))
+        module _ {after : List ℕ} {one two : ℕ} (got : OperandsEvaluated nodes bodies env (i + 1) (i + n) (left - 1) (replicate 8 0) after one two) where
+          -- The numbers and the sorts are those of the operands.
+          pub are : OperandsAre (replicate 8 0) after one two (split .operands)
+          are = got operands-evaluable
 
-        -- The arguments are the numbers of the operands.
-        pub argument-at : (k : ℕ) → getD after k 0 ≡ getD (numbersIn (split .operands)) k 0
-        argument-at k = ap (λ (l : List ℕ). getD l k 0) (are .numbers) ∙ stored (numbersIn (split .operands)) numbers-few k
+          -- There is room for their numbers.
+          numbers-few : length (numbersIn (split .operands)) ≤ 8
+          numbers-few = omega (arith, values-few, length-map (split .operands) (λ (u : Value). u .number))
 
-        -- There are eight.
-        pub arguments-long : length after ≡ 8
-        arguments-long = ap length (are .numbers) ∙ length-sets (replicate 8 0) 0 (numbersIn (split .operands))
+          -- The arguments are the numbers of the operands.
+          pub argument-at : (k : ℕ) → getD after k 0 ≡ getD (numbersIn (split .operands)) k 0
+          argument-at k = ap (λ (l : List ℕ). getD l k 0) (are .numbers) ∙ stored (numbersIn (split .operands)) numbers-few k
 
-        -- They are the names in the body.
-        pub arguments-names : Names after (split .operands)
-        arguments-names =
-            let l : length (numbersIn (split .operands)) ≡ length (split .operands) = length-map (split .operands) _ in
-            ap₂ take (sym l) (are .numbers) ∙ stored-front (numbersIn (split .operands)) numbers-few
+          -- There are eight.
+          pub arguments-eight : 8 ≡ length after
+          arguments-eight = sym (ap length (are .numbers) ∙ length-sets (replicate 8 0) 0 (numbersIn (split .operands)))
 
-        module _ (k : code % 16 ≡ operatorKind) where
-          -- The label's value has the numbers of `(_ extract i j)`.
-          pub operator-numbers : v ≡ 64 * the-operator k .i + the-operator k .j
-          operator-numbers = value-of ∙ the-operator k .value-is
+          -- They are the names in the body.
+          pub arguments-names : Names after (split .operands)
+          arguments-names =
+              let l : length (numbersIn (split .operands)) ≡ length (split .operands) = length-map (split .operands) _ in
+              ap₂ take (sym l) (are .numbers) ∙ stored-front (numbersIn (split .operands)) numbers-few
 
-          -- The operator is the one that the code says.
-          operator-is : code / 16 ≡ the-operator k .o
-          operator-is = ap (λ (c : ℕ). c / 16) code-of ∙ the-operator k .code
+          module _ (k : code % 16 ≡ operatorKind) where
+            -- The label's value has the numbers of `(_ extract i j)`.
+            pub operator-numbers : v ≡ 64 * the-operator k .i + the-operator k .j
+            operator-numbers = value-of ∙ the-operator k .value-is
 
-          -- It has a sort over the sorts of the operands.
-          pub operator-sorted : operatorSort (code / 16) (the-operator k .i) (the-operator k .j) (sortsIn (split .operands)) ≡ some (the-operator k .sort)
-          operator-sorted = rw operator-is (the-operator k .sorted)
+            -- The operator is the one that the code says.
+            operator-is : code / 16 ≡ the-operator k .o
+            operator-is = ap (λ (c : ℕ). c / 16) code-of ∙ the-operator k .code
 
-          -- An operator is given the operands' sorts and numbers.
-          abbrev pub operator-ready : OperatorReady (code / 16) v one two (getD after 0 0) (getD after 1 0) (getD after 2 0)
-          operator-ready =
-              record {
-                i = the-operator k .i;
-                j = the-operator k .j;
-                v-is = operator-numbers;
-                small = the-operator k .small;
-                vs = split .operands;
-                fit = operands-fit;
-                sort = the-operator k .sort;
-                sorted = operator-sorted;
-                sort-one = are .sort-one;
-                sort-two = are .sort-two;
-                is-one = argument-at 0;
-                is-two = argument-at 1;
-                is-three = argument-at 2;
-              }
+            -- It has a sort over the sorts of the operands.
+            pub operator-sorted : operatorSort (code / 16) (the-operator k .i) (the-operator k .j) (sortsIn (split .operands)) ≡ some (the-operator k .sort)
+            operator-sorted = rw operator-is (the-operator k .sorted)
 
-          -- What it gives is the term's value.
-          pub operator-result : {r : Value} → OperatorGave (code / 16) v one two (getD after 0 0) (getD after 1 0) (getD after 2 0) r → r ≡ e .v
-          operator-result g =
-              g operator-ready ∙ rw operator-is (the-operator k .is)
+            -- An operator is given the operands' sorts and numbers.
+            abbrev pub operator-ready : OperatorReady (code / 16) v one two (getD after 0 0) (getD after 1 0) (getD after 2 0)
+            operator-ready =
+                record {
+                  high = the-operator k .i;
+                  low = the-operator k .j;
+                  bounds-are = operator-numbers;
+                  small = the-operator k .small;
+                  vs = split .operands;
+                  fit = operands-fit;
+                  sort = the-operator k .sort;
+                  sorted = operator-sorted;
+                  sort-one = are .sort-one;
+                  sort-two = are .sort-two;
+                  is-one = argument-at 0;
+                  is-two = argument-at 1;
+                  is-three = argument-at 2;
+                }
 
-        module _ (k : code % 16 ≡ operatorKind → ⊥) {place b : ℕ} (place-is : place ≡ bodyPlace code v) (b-is : b ≡ getD bodies place 0) where
-          -- The body stands where the tables say.
-          pub body-stands : Stands (e .holds .all) b (the-body k .d .body)
-          body-stands = rw (b-is ∙ ap (λ (p : ℕ). getD bodies p 0) (place-is ∙ ap₂ bodyPlace code-of value-of)) (the-body k .stands)
+            -- What it gives is the term's value.
+            pub operator-result : {r : Value} → OperatorGave (code / 16) v one two (getD after 0 0) (getD after 1 0) (getD after 2 0) r → r ≡ e .v
+            operator-result g =
+                g operator-ready ∙ rw operator-is (the-operator k .is)
 
-          -- It has the term's value.
-          pub body-value : valuesAt (the-body k .sees) [] (split .operands) (the-body k .d .body) ≡ some (e .v ∷ [])
-          body-value = sym (no-functions (the-body k .sees) (split .operands) (the-body k .d .body)) ∙ called-with k .body
+          module _ (k : code % 16 ≡ operatorKind → ⊥) {place b : ℕ} (place-is : place ≡ bodyPlace code v) (b-is : b ≡ getD bodies place 0) where
+            -- The body stands where the tables say.
+            pub body-stands : Stands (e .holds .all) b (the-body k .d .body)
+            body-stands = rw (b-is ∙ ap (λ (p : ℕ). getD bodies p 0) (place-is ∙ ap₂ bodyPlace code-of value-of)) (the-body k .stands)
 
-          -- It costs less than the term.
-          pub body-cost : costOf (the-body k .sees) [] (the-body k .d .body) ≤ left - 1
-          body-cost = omega (arith, cost-by-parts, the-body k .cost-is)
+            -- It has the term's value.
+            pub body-value : valuesAt (the-body k .sees) [] (split .operands) (the-body k .d .body) ≡ some (e .v ∷ [])
+            body-value = sym (no-functions (the-body k .sees) (split .operands) (the-body k .d .body)) ∙ called-with k .body
 
-          -- So it can be evaluated, with the arguments as its names.
-          abbrev pub body-evaluable : Evaluable nodes bodies after b (left - 1)
-          body-evaluable =
-              record {
-                defs = the-body k .sees;
-                funs = [];
-                holds = held-seen (e .holds) (the-body k .seen);
-                point = split .operands;
-                names = arguments-names;
-                fits = operands-fit;
-                t = the-body k .d .body;
-                stands = body-stands;
-                v = e .v;
-                has = body-value;
-                cost = body-cost;
-              }
+            -- It costs less than the term.
+            pub body-cost : costOf (the-body k .sees) [] (the-body k .d .body) ≤ left - 1
+            body-cost = omega (arith, cost-by-parts, the-body k .cost-is)
+
+            -- So it can be evaluated, with the arguments as its names.
+            abbrev pub body-evaluable : Evaluable nodes bodies after b (left - 1)
+            body-evaluable =
+                record {
+                  defs = the-body k .sees;
+                  funs = [];
+                  holds = held-seen (e .holds) (the-body k .seen);
+                  point = split .operands;
+                  names = arguments-names;
+                  fits = operands-fit;
+                  t = the-body k .d .body;
+                  stands = body-stands;
+                  v = e .v;
+                  has = body-value;
+                  cost = body-cost;
+                }
+
+            -- What it gives is the term's value.
+            pub body-result : {r : Value} → Evaluated nodes bodies after b (left - 1) r → r ≡ e .v
+            body-result g = g body-evaluable

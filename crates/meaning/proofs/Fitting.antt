@@ -2,25 +2,24 @@
 use Prim.Native.Nat.{ℕ}
 use native.Mathlib.Omega.{arith}
 use mathlib.Core.Path.{_≡_, refl}
-use mathlib.Core.Bool.{Bool, true, false, cond, _&&_}
+use mathlib.Core.Bool.{Bool, true, false, cond}
 use mathlib.Core.List.{List, [], _∷_}
 use mathlib.Core.Option.{Option, none as nothing, some}
-use borrow.Author.Tests.{eqb-true, leb-true, ltb-true}
-use lib.Dec.{eqb, leb, ltb}
-use lib.ListN.{getD, length, length-map}
-use Rattle.forest.proofs.Bools.{and-left, and-right}
+use lib.Dec.{eqb}
+use lib.ListN.{length}
 use Rattle.forest.proofs.Options.{never, passed}
 use Rattle.forest.specs.Forest.{none, tree}
 use Rattle.bits.proofs.Closed.{closed}
 use Rattle.bits.specs.Operators.{operatorSort, operatorValue}
-use Rattle.bits.specs.Sorts.{Fit, maxWidth, valuesOf}
+use Rattle.bits.specs.Sorts.{Fit}
 use Rattle.bits.specs.Sorts.AllFit.{nothing as no-more, also}
-use Rattle.terms.proofs.Sound.{Fits, fit-at}
+use Rattle.terms.proofs.Sound.{Fits, fit-at, literal-fits, name-fits}
 use Rattle.terms.specs.Labels.{Label, Terms, defined, function, literal, name, operator}
 use Rattle.terms.specs.Sorts.{Definition, sameSorts}
-use Rattle.terms.specs.Values.{Meaning, called, definedValue, functionValue, labelValue, numbersIn, operatorGives, resultOf, sortsIn, value, valueWhen, valuesAt, valuesIn}
+use Rattle.terms.specs.Values.{Meaning, called, definedValue, functionValue, labelValue, numbersIn, operatorGives, resultOf, sortsIn, value, valueWhen}
+use Rattle.terms.specs.Values.{valuesAt, valuesIn}
 use Rattle.terms.specs.declared.Value.{Value}
-use Rattle.meaning.proofs.Parts.{parts}
+use Rattle.meaning.proofs.Parts.{tree-parts}
 
 -- A value of its sort.
 record OfSort (v : Value) : Type 0 where
@@ -53,23 +52,8 @@ module _ {meaning : Meaning} (suits : Suits meaning) where
   -- The value of a label is of its sort.
   label-fits : (l : Label) (vs : List Value) {v : Value} → Fits vs → labelValue meaning l vs ≡ some v → OfSort v
   unfolding labelValue
-  label-fits (literal s v w) vs f h =
-      let sort = leb s maxWidth in
-      let below = ltb v (valuesOf s) in
-      let empty = eqb (length vs) 0 in
-      fit-when (sort && below && empty) h
-      (λ t.
-      let p = and-left (sort && below) empty t in
-      record { sort = leb-true _ _ (and-left sort below p); value = ltb-true _ _ (and-right sort below p) })
-  label-fits (name s k) vs f h =
-      let known = ltb k (length (meaning .names)) in
-      let same = eqb (getD (sortsIn (meaning .names)) k 0) s in
-      let empty = eqb (length vs) 0 in
-      fit-when (known && same && empty) h
-      (λ t.
-      let p = and-left (known && same) empty t in
-      let e : getD (sortsIn (meaning .names)) k 0 ≡ s = eqb-true _ _ (and-right known same p) in
-      rw e at (fit-at (suits .names) k (rw length-map (ltb-true _ _ (and-left known same p)))))
+  label-fits (literal s v w) vs f h = fit-when _ h (literal-fits s v (eqb (length vs) 0))
+  label-fits (name s k) vs f h = fit-when _ h (name-fits (meaning .names) s k (eqb (length vs) 0) (suits .names))
   label-fits (operator o i j) vs f h =
       fit-operator (operatorSort o i j (sortsIn vs)) (operatorValue o i j (sortsIn vs) (numbersIn vs)) h (λ s e. closed o i j f e)
   label-fits (defined k) vs f h = suits .defined .fits k vs f h
@@ -80,8 +64,8 @@ module _ {meaning : Meaning} (suits : Suits meaning) where
   unfolding valuesIn
   terms-fit none {vs} h = let e : [] ≡ vs = cc in rw (← e) no-more
   terms-fit (tree l ops rest) h =
-      let p = parts meaning l ops rest h in
-      rw (← p .all) (also (label-fits l (p .operands) (terms-fit ops (p .ops-values)) (p .label) .fit) (terms-fit rest (p .rest-values)))
+      let p = tree-parts meaning l ops rest h in
+      rw (← p .together) (also (label-fits l (p .operands) (terms-fit ops (p .ops-have)) (p .label) .fit) (terms-fit rest (p .rest-have)))
 
 -- The value of a body is the one value that it has.
 pub result-one : (result : ℕ) (m : Option (List Value)) {v : Value} → resultOf result m ≡ some v → m ≡ some (v ∷ [])

@@ -20,7 +20,7 @@ use Rattle.meaning.specs.Steps.{Evaluable, Evaluated, OperandsAre, Opera
 use Rattle.meaning.specs.Tables.{mostArguments}
 use Rattle.meaning.proofs.Arguments.{number-more, sort-more}
 use Rattle.meaning.proofs.Cursors.{tree-within}
-use Rattle.meaning.proofs.Parts.{Parts, parts}
+use Rattle.meaning.proofs.Parts.{TreeParts, tree-parts}
 
 -- A tree that has a value, by itself.
 pub tree-value : (meaning : Meaning) (l : Label) (ops : Terms) {vs : List Value} {v : Value} → labelValue meaning l vs ≡ some v → valuesIn meaning ops ≡ some vs
@@ -85,7 +85,7 @@ module _ {nodes bodies env : List ℕ} {i stop left : ℕ} (e : OperandsEvaluabl
       pub ends : stop ≡ j + suc (size ops + size more)
       pub room : suc (k + count more) ≤ mostArguments
       pub cost : costOf (e .defs) (e .funs) (tree label ops more) ≤ left
-      pub values : Parts (meaningAt (e .defs) (e .funs) (e .point)) label ops more (r .vs)
+      pub values : TreeParts (meaningAt (e .defs) (e .funs) (e .point)) label ops more (r .vs)
 
     -- Where a node is left, an operand stands there.
     pub first : j < stop → First
@@ -100,13 +100,13 @@ module _ {nodes bodies env : List ℕ} {i stop left : ℕ} (e : OperandsEvaluabl
           ends = omega (arith, r .ends, ap size (t .is));
           room = omega (arith, r .room, ap count (t .is));
           cost = rw (t .is) at (r .cost);
-          values = parts _ (t .l) (t .ops) (t .rest) (rw (t .is) at (r .has));
+          values = tree-parts _ (t .l) (t .ops) (t .rest) (rw (t .is) at (r .has));
         }
 
     module _ (h : j < stop) where
       -- It has a value.
-      pub first-value : valuesAt (e .defs) (e .funs) (e .point) (tree (first h .label) (first h .ops) none) ≡ some (first h .values .v ∷ [])
-      first-value = let f = first h in tree-value _ (f .label) (f .ops) (f .values .label) (f .values .ops-values)
+      pub first-value : valuesAt (e .defs) (e .funs) (e .point) (tree (first h .label) (first h .ops) none) ≡ some (first h .values .first ∷ [])
+      first-value = let f = first h in tree-value _ (f .label) (f .ops) (f .values .label) (f .values .ops-have)
 
       -- And it costs no more than what is left.
       pub first-cost : costOf (e .defs) (e .funs) (tree (first h .label) (first h .ops) none) ≤ left
@@ -136,7 +136,7 @@ module _ {nodes bodies env : List ℕ} {i stop left : ℕ} (e : OperandsEvaluabl
               at = first h .at;
               is = refl;
             };
-            v = first h .values .v;
+            v = first h .values .first;
             has = first-value;
             cost = first-cost;
           }
@@ -164,7 +164,7 @@ module _ {nodes bodies env : List ℕ} {i stop left : ℕ} (e : OperandsEvaluabl
             → Done e args (set after k (v .number)) one′ two′ (j + n) (k + 1)
         one-done {v} got s t =
             let f = first h in
-            let v-is : v ≡ f .values .v = got operand-evaluable in
+            let v-is : v ≡ f .values .first = got operand-evaluable in
             record {
               operands = f .more;
               at = rw (n-is ∙ said .size) (from-over (e .holds .all) j (f .label) (f .ops) (join (f .more) (e .rest)) (f .at));
@@ -173,8 +173,8 @@ module _ {nodes bodies env : List ℕ} {i stop left : ℕ} (e : OperandsEvaluabl
               cost = more-cost;
               done = r .done ++ (v ∷ []);
               vs = f .values .others;
-              has = f .values .rest-values;
-              all = rw (append-assoc, v-is, f .values .all) (r .all);
+              has = f .values .rest-have;
+              all = rw (append-assoc, v-is, f .values .together) (r .all);
               number = omega (arith, length-append (r .done) (v ∷ []), r .number);
               numbers = number-more args (r .done) v (r .number) (r .numbers);
               sort-one = sort-more 0 (r .done) v (r .number) (r .sort-one) s;

@@ -8,25 +8,25 @@ use Rattle.bits.specs.Steps.{Applied, Operable, ResultSort, Sortable}
 use Rattle.terms.specs.Values.{numbersIn, sortsIn, value}
 use Rattle.meaning.specs.Steps.{OperatorGave, OperatorReady}
 
-module _ {o v one two a b c : ℕ} (e : OperatorReady o v one two a b c) where
+module _ {operator bounds sortOne sortTwo one two three : ℕ} (e : OperatorReady operator bounds sortOne sortTwo one two three) where
   -- The first number of `(_ extract i j)`, by the label's value.
-  high : v / 64 ≡ e .i
-  high = omega (arith, e .v-is, e .small)
+  high : bounds / 64 ≡ e .high
+  high = omega (arith, e .bounds-are, e .small)
 
   -- The second.
-  low : v % 64 ≡ e .j
-  low = omega (arith, e .v-is, e .small)
+  low : bounds % 64 ≡ e .low
+  low = omega (arith, e .bounds-are, e .small)
 
   -- The operator's sort over the sorts of the values.
-  pub sorted : operatorSort o (v / 64) (v % 64) (sortsIn (e .vs)) ≡ some (e .sort)
+  pub sorted : operatorSort operator (bounds / 64) (bounds % 64) (sortsIn (e .vs)) ≡ some (e .sort)
   sorted = rw (high, low) (e .sorted)
 
   -- The operator takes the sorts.
-  abbrev pub sortable : Sortable o (v / 64) (v % 64) one two
+  abbrev pub sortable : Sortable operator (bounds / 64) (bounds % 64) sortOne sortTwo
   sortable = record { sorts = sortsIn (e .vs); result = e .sort; sorted = sorted; sort-one = e .sort-one; sort-two = e .sort-two }
 
   -- It takes the operands.
-  abbrev pub operable : Operable o (v / 64) (v % 64) one two a b c
+  abbrev pub operable : Operable operator (bounds / 64) (bounds % 64) sortOne sortTwo one two three
   operable =
       record {
         sorts = sortsIn (e .vs);
@@ -42,6 +42,7 @@ module _ {o v one two a b c : ℕ} (e : OperatorReady o v one two a b c) where
       }
 
 -- The sort and the number are those of its value.
-pub gave : {o v one two a b c sort number : ℕ} → ResultSort o (v / 64) (v % 64) one two sort → Applied o (v / 64) (v % 64) one two a b c number
-    → OperatorGave o v one two a b c (value sort number)
-gave {o} s n e = ap₂ value (s (sortable e)) (n (operable e) ∙ rw (high e, low e))
+pub gave : {operator bounds sortOne sortTwo one two three sort number : ℕ} → ResultSort operator (bounds / 64) (bounds % 64) sortOne sortTwo sort
+    → Applied operator (bounds / 64) (bounds % 64) sortOne sortTwo one two three number
+    → OperatorGave operator bounds sortOne sortTwo one two three (value sort number)
+gave s n e = ap₂ value (s (sortable e)) (n (operable e) ∙ rw (high e, low e))

@@ -1,81 +1,45 @@
--- What it says of a tree that it has a value: of its label, its operands and the trees that follow.
+-- Trees that have values, and the functions that they apply.
 use Prim.Native.Nat.{ℕ, suc, _<_}
 use native.Mathlib.Omega.{arith}
 use mathlib.Core.Path.{_≡_, refl, ap}
 use mathlib.Core.Bool.{Bool, true, false, cond}
 use mathlib.Core.List.{List, [], _∷_}
-use mathlib.Core.Option.{Option, none as nothing, some}
+use mathlib.Core.Option.{Option, some}
 use borrow.Author.Tests.{eqb-true}
 use lib.Dec.{eqb}
 use lib.ListN.{length}
 use Rattle.forest.proofs.Options.{never}
 use Rattle.forest.specs.Forest.{count, none, tree}
+use Rattle.terms.proofs.Parts.{Joining, Parts, parts}
 use Rattle.terms.specs.Labels.{Label, Terms, defined, function, literal, name, operator}
 use Rattle.terms.specs.Sorts.{Definition}
 use Rattle.terms.specs.Values.{Meaning, definedValue, functionValue, labelValue, valueOver, valuesAt, valuesIn, withValue}
 use Rattle.terms.specs.declared.Value.{Value}
 use Rattle.meaning.specs.Tables.{CallsKnown, Known}
 
--- A label with a value has operands with values, over which it has that value.
-record Over (give : List Value → Option Value) (m : Option (List Value)) (v : Value) : Type 0 where
-  operands : List Value
-  is : m ≡ some operands
-  label : give operands ≡ some v
+-- How values are joined.
+joining : Joining valueOver withValue
+unfolding valueOver withValue
+joining =
+    record { over-none = λ rule. refl; over-some = λ rule vs. refl; with-none = λ more. refl; with-no-more = λ v. refl; with-some = λ v vs. refl }
 
--- So it is where there is a value.
-over : (give : List Value → Option Value) (m : Option (List Value)) {v : Value} → valueOver give m ≡ some v → Over give m v
-unfolding valueOver
-over give nothing h = never h
-over give (some vs) h = record { operands = vs; is = refl; label = h }
+-- What it says of the parts of a tree, and of the trees that follow, that they have values.
+abbrev pub TreeParts : (meaning : Meaning) → Label → (ops rest : Terms) → (vs : List Value) → Type 0
+TreeParts meaning l ops rest vs = Parts (labelValue meaning l) (valuesIn meaning ops) (valuesIn meaning rest) vs
 
--- Values of which there is a first are the first one and the others.
-record With (first : Option Value) (more : Option (List Value)) (vs : List Value) : Type 0 where
-  v : Value
-  others : List Value
-  is : first ≡ some v
-  rest : more ≡ some others
-  all : v ∷ others ≡ vs
-
--- So it is where there are values.
-with-first : (first : Option Value) (more : Option (List Value)) {vs : List Value} → withValue first more ≡ some vs → With first more vs
-unfolding withValue
-with-first nothing more h = never h
-with-first (some v) nothing h = never h
-with-first (some v) (some us) h = record { v = v; others = us; is = refl; rest = refl; all = cc }
-
--- The value of a tree, the values of its operands and those of the trees that follow.
-pub record Parts (meaning : Meaning) (l : Label) (ops rest : Terms) (vs : List Value) : Type 0 where
-  pub v : Value
-  pub operands : List Value
-  pub others : List Value
-  pub label : labelValue meaning l operands ≡ some v
-  pub ops-values : valuesIn meaning ops ≡ some operands
-  pub rest-values : valuesIn meaning rest ≡ some others
-  pub all : v ∷ others ≡ vs
-
--- A tree that has a value has these.
-pub parts : (meaning : Meaning) (l : Label) (ops rest : Terms) {vs : List Value} → valuesIn meaning (tree l ops rest) ≡ some vs → Parts meaning l ops rest vs
+-- The value of a tree that has one, the values of its operands and those of the trees that follow.
+pub tree-parts : (meaning : Meaning) (l : Label) (ops rest : Terms) {vs : List Value} → valuesIn meaning (tree l ops rest) ≡ some vs
+    → TreeParts meaning l ops rest vs
 unfolding valuesIn
-parts meaning l ops rest h =
-    let w = with-first (valueOver (labelValue meaning l) (valuesIn meaning ops)) (valuesIn meaning rest) h in
-    let o = over (labelValue meaning l) (valuesIn meaning ops) (w .is) in
-    record {
-      v = w .v;
-      operands = o .operands;
-      others = w .others;
-      label = o .label;
-      ops-values = o .is;
-      rest-values = w .rest;
-      all = w .all;
-    }
+tree-parts meaning l ops rest h = parts joining (labelValue meaning l) (valuesIn meaning ops) (valuesIn meaning rest) h
 
 -- There are as many values as terms.
 pub values-count : (meaning : Meaning) (t : Terms) {vs : List Value} → valuesIn meaning t ≡ some vs → length vs ≡ count t
 unfolding valuesIn count
 values-count meaning none {vs} h = let e : vs ≡ [] = cc in ap length e
 values-count meaning (tree l ops rest) h =
-    let p = parts meaning l ops rest h in
-    omega (arith, values-count meaning rest (p .rest-values), ap length (p .all))
+    let p = tree-parts meaning l ops rest h in
+    omega (arith, values-count meaning rest (p .rest-have), ap length (p .together))
 
 -- A number whose value is that of function n, or that of others, which are below n, is at most n.
 at-most-last : (k n : ℕ) (last others : Option Value) {v : Value} → cond (eqb k n) last others ≡ some v → (others ≡ some v → k < n) → k < suc n
@@ -114,5 +78,5 @@ module _ (defs funs : List Definition) (point : List Value) where
   unfolding CallsKnown
   calls-known none h = tt
   calls-known (tree l ops rest) h =
-      let p = parts (record { names = point; defined = definedValue defs; functions = functionValue defs funs }) l ops rest h in
-      (label-known l (p .operands) (p .label), calls-known ops (p .ops-values), calls-known rest (p .rest-values))
+      let p = tree-parts (record { names = point; defined = definedValue defs; functions = functionValue defs funs }) l ops rest h in
+      (label-known l (p .operands) (p .label), calls-known ops (p .ops-have), calls-known rest (p .rest-have))

@@ -16,7 +16,7 @@ use Rattle.terms.specs.declared.Value.{Value}
 use Rattle.meaning.specs.Budget.{Priced, held}
 use Rattle.meaning.specs.Points.{pointAt, pointCount}
 use Rattle.meaning.specs.Running.{runPoints, runTerms}
-use Rattle.meaning.specs.Tables.{CallsKnown, Holds, Stands, mostArguments, mostDefined, mostFunctions}
+use Rattle.meaning.specs.Tables.{CallsKnown, TablesHold, Stands, mostArguments, mostDefined, mostFunctions}
 use Rattle.meaning.specs.declared.Ran.{Ran}
 
 -- The numbers at the front of `env` are those of the point.
@@ -27,7 +27,7 @@ Names env point = take (length point) env ≡ numbersIn point
 pub record Evaluable (nodes bodies env : List ℕ) (i left : ℕ) : Type 0 where
   pub defs : List Definition
   pub funs : List Definition
-  pub holds : Holds nodes bodies defs funs
+  pub holds : TablesHold nodes bodies defs funs
   pub point : List Value
   pub names : Names env point
   pub fits : AllFit (sortsIn point) (numbersIn point)
@@ -45,7 +45,7 @@ Evaluated nodes bodies env i left r = (e : Evaluable nodes bodies env i left) �
 pub record OperandsEvaluable (nodes bodies env : List ℕ) (i stop left : ℕ) : Type 0 where
   pub defs : List Definition
   pub funs : List Definition
-  pub holds : Holds nodes bodies defs funs
+  pub holds : TablesHold nodes bodies defs funs
   pub point : List Value
   pub names : Names env point
   pub fits : AllFit (sortsIn point) (numbersIn point)
@@ -66,34 +66,37 @@ pub record OperandsAre (args after : List ℕ) (one two : ℕ) (vs : List Value)
 
 -- The values of the operands.
 abbrev pub OperandsEvaluated : (nodes bodies env : List ℕ) (i stop left : ℕ) (args after : List ℕ) (one two : ℕ) → Type 0
-OperandsEvaluated nodes bodies env i stop left args after one two = (e : OperandsEvaluable nodes bodies env i stop left) → OperandsAre args after one two (e .vs)
+OperandsEvaluated nodes bodies env i stop left args after one two =
+    (e : OperandsEvaluable nodes bodies env i stop left) → OperandsAre args after one two (e .vs)
 
--- Operands of values that operator o gives a value: the sorts of the first two and the numbers of the first three; what is not there is 0.
-pub record OperatorReady (o v one two a b c : ℕ) : Type 0 where
-  pub i : ℕ
-  pub j : ℕ
-  pub v-is : v ≡ 64 * i + j
-  pub small : j < 64
+-- Operands of values that an operator gives a value, with the numbers of an `extract`: the sorts of the first two and the numbers of the first three; what is
+-- not there is 0.
+pub record OperatorReady (operator bounds sortOne sortTwo one two three : ℕ) : Type 0 where
+  pub high : ℕ
+  pub low : ℕ
+  pub bounds-are : bounds ≡ 64 * high + low
+  pub small : low < 64
   pub vs : List Value
   pub fit : AllFit (sortsIn vs) (numbersIn vs)
   pub sort : ℕ
-  pub sorted : operatorSort o i j (sortsIn vs) ≡ some sort
-  pub sort-one : one ≡ getD (sortsIn vs) 0 0
-  pub sort-two : two ≡ getD (sortsIn vs) 1 0
-  pub is-one : a ≡ getD (numbersIn vs) 0 0
-  pub is-two : b ≡ getD (numbersIn vs) 1 0
-  pub is-three : c ≡ getD (numbersIn vs) 2 0
+  pub sorted : operatorSort operator high low (sortsIn vs) ≡ some sort
+  pub sort-one : sortOne ≡ getD (sortsIn vs) 0 0
+  pub sort-two : sortTwo ≡ getD (sortsIn vs) 1 0
+  pub is-one : one ≡ getD (numbersIn vs) 0 0
+  pub is-two : two ≡ getD (numbersIn vs) 1 0
+  pub is-three : three ≡ getD (numbersIn vs) 2 0
 
 -- The value that it gives them.
-abbrev pub OperatorGave : (o v one two a b c : ℕ) (r : Value) → Type 0
-OperatorGave o v one two a b c r =
-    (e : OperatorReady o v one two a b c) → r ≡ value (e .sort) (operatorValue o (e .i) (e .j) (sortsIn (e .vs)) (numbersIn (e .vs)))
+abbrev pub OperatorGave : (operator bounds sortOne sortTwo one two three : ℕ) (r : Value) → Type 0
+OperatorGave operator bounds sortOne sortTwo one two three r =
+    (e : OperatorReady operator bounds sortOne sortTwo one two three)
+    → r ≡ value (e .sort) (operatorValue operator (e .high) (e .low) (sortsIn (e .vs)) (numbersIn (e .vs)))
 
 -- A term stands at node i, and the costs of the bodies that it calls are known.
 pub record Costing (nodes bodies costs : List ℕ) (i : ℕ) : Type 0 where
   pub defs : List Definition
   pub funs : List Definition
-  pub holds : Holds nodes bodies defs funs
+  pub holds : TablesHold nodes bodies defs funs
   pub priced : Priced costs defs funs
   pub t : Terms
   pub stands : Stands (holds .all) i t
@@ -147,7 +150,7 @@ AllValued defs funs point (t ∷ ts) = HasTruth defs funs point t × AllValued d
 pub record Runnable (nodes bodies costs places env : List ℕ) : Type 0 where
   pub defs : List Definition
   pub funs : List Definition
-  pub holds : Holds nodes bodies defs funs
+  pub holds : TablesHold nodes bodies defs funs
   pub priced : Priced costs defs funs
   pub point : List Value
   pub names : Names env point
@@ -165,7 +168,7 @@ TermsRan nodes bodies costs places env p left r =
 pub record PointsRunnable (nodes bodies costs places sorts numbers : List ℕ) : Type 0 where
   pub defs : List Definition
   pub funs : List Definition
-  pub holds : Holds nodes bodies defs funs
+  pub holds : TablesHold nodes bodies defs funs
   pub priced : Priced costs defs funs
   pub terms : List Terms
   pub terms-at : TermsAt (holds .all) places terms
@@ -183,7 +186,7 @@ PointsRan nodes bodies costs places sorts numbers budget r =
 pub record Pricing (nodes bodies : List ℕ) (definedCount functionCount : ℕ) : Type 0 where
   pub defs : List Definition
   pub funs : List Definition
-  pub holds : Holds nodes bodies defs funs
+  pub holds : TablesHold nodes bodies defs funs
   pub defined-are : definedCount ≡ length defs
   pub functions-are : functionCount ≡ length funs
 

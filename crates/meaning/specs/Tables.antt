@@ -64,7 +64,7 @@ FewArguments [] = Unit {0}
 FewArguments (d ∷ earlier) = (length (d .signature .arguments) ≤ mostArguments) × FewArguments earlier
 
 -- Tables that hold these `define-fun`s and synthesized functions, the last first.
-pub record Holds (nodes bodies : List ℕ) (defs funs : List Definition) : Type 0 where
+pub record TablesHold (nodes bodies : List ℕ) (defs funs : List Definition) : Type 0 where
   pub all : Terms
   pub rest : List ℕ
   pub nodes-are : nodes ≡ nodeTable all ++ rest

@@ -11,30 +11,34 @@ ghost use Rattle.meaning.specs.Steps.{Cost, Costing, FilledIn, Filling, 
 ghost use Rattle.meaning.specs.Tables.{bodyPlace};
 
 // How many `define-fun`s there may be; the bodies of synthesized functions have their places behind these.
-pub const MOST_DEFINED: usize = 32;
+const MOST_DEFINED: usize = 32;
 
 // A place that no body has.
-pub const NO_PLACE: usize = 40;
+const NO_PLACE: usize = 40;
 
-// a + b, or 2^64 - 1 where that is less.
-fn saturating(a: u64, b: u64) -> u64
-    ensures { λ r. ⌜ r ≡ min (a + b) (2 ^ 64 - 1) ⌝ }
+// sum + more, or 2^64 - 1 where that is less.
+fn saturating(sum: u64, more: u64) -> u64
+    ensures { λ r. ⌜ r ≡ min (sum + more) (2 ^ 64 - 1) ⌝ }
 {
-    if b <= u64::MAX - a { a + b } else { u64::MAX }
+    if more <= u64::MAX - sum {
+        sum + more
+    } else {
+        u64::MAX
+    }
 }
 
-// Number `i` of a list, 0 past its end.
-pub fn number_in(list: &[u64], i: usize) -> u64
-    ensures { λ r. ⌜ r ≡ getD (now (list .entry)) i 0 ⌝ }
+// A number of a list, 0 past its end.
+pub(crate) fn number_in(list: &[u64], index: usize) -> u64
+    ensures { λ r. ⌜ r ≡ getD (now (list .entry)) index 0 ⌝ }
 {
-    if i < list.len() {
-        return list[i];
+    if index < list.len() {
+        return list[index];
     }
     0
 }
 
 // The place of the body of the function that a label applies; `NO_PLACE` for a label that applies none.
-pub fn body_place(code: u64, value: u64) -> usize
+pub(crate) fn body_place(code: u64, value: u64) -> usize
     ensures { λ r. ⌜ r ≡ bodyPlace code value ⌝ }
 {
     let kind = code % 16;
@@ -47,15 +51,15 @@ pub fn body_place(code: u64, value: u64) -> usize
     NO_PLACE
 }
 
-// What is held of the cost of the term at node `i`: its nodes, and the bodies that they apply.
-pub fn cost_at(nodes: &[u64], bodies: &[u64], costs: &[u64], i: usize) -> u64
-    requires { ⌜ Costing (now nodes) (now bodies) (now costs) i ⌝ }
-    ensures { λ r. ⌜ Cost (now (nodes .entry)) (now (bodies .entry)) (now (costs .entry)) i r ⌝ }
+// What is held of the cost of the term at a node: its nodes, and the bodies that they apply.
+pub fn cost_at(nodes: &[u64], bodies: &[u64], costs: &[u64], node: usize) -> u64
+    requires { ⌜ Costing (now nodes) (now bodies) (now costs) node ⌝ }
+    ensures { λ r. ⌜ Cost (now (nodes .entry)) (now (bodies .entry)) (now (costs .entry)) node r ⌝ }
 {
-    let size = size_at(nodes, i);
-    let stop = i + size;
+    let size = size_at(nodes, node);
+    let stop = node + size;
     let mut sum = (size - 1) as u64;
-    let mut j = i;
+    let mut j = node;
     while j < stop {
         let place = body_place(code_at(nodes, j), value_at(nodes, j));
         if place < NO_PLACE {

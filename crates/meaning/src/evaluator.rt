@@ -1,5 +1,4 @@
 //! The evaluator: the term evaluator calls an operand evaluator, which calls it back, and the cost left falls.
-use crate::Sorts;
 use crate::costs::body_place;
 use crate::costs::number_in;
 use bits::operators::apply;
@@ -16,17 +15,23 @@ ghost use mathlib.Core.Bool.{cond};
 ghost use lib.Dec.{eqb};
 ghost use Rattle.meaning.specs.Steps.{Evaluable, Evaluated, OperandsEvaluable, OperandsEvaluated, OperatorGave, OperatorReady};
 
-// The sorts, with that of operand `k` where it is one of the first two.
-fn with_sort(sorts: Sorts, k: usize, sort: u64) -> Sorts
-    ensures { λ r. ⌜ (r .one ≡ cond (eqb k 0) sort (sorts .one)) × (r .two ≡ cond (eqb k 1) sort (sorts .two)) ⌝ }
+// The sorts of the first two operands; what is not there is 0.
+struct Sorts {
+    one: u64,
+    two: u64,
+}
+
+// The sorts, with that of the operand at an index where it is one of the first two.
+fn with_sort(sorts: Sorts, index: usize, sort: u64) -> Sorts
+    ensures { λ r. ⌜ (r .one ≡ cond (eqb index 0) sort (sorts .one)) × (r .two ≡ cond (eqb index 1) sort (sorts .two)) ⌝ }
 {
-    if k == 0 {
+    if index == 0 {
         return Sorts {
             one: sort,
             two: sorts.two,
         };
     }
-    if k == 1 {
+    if index == 1 {
         return Sorts {
             one: sorts.one,
             two: sort,
@@ -35,28 +40,29 @@ fn with_sort(sorts: Sorts, k: usize, sort: u64) -> Sorts
     sorts
 }
 
-// The value that operator `o`, whose label has the value `v`, gives its operands: the sorts of the first two, and the numbers of the first three.
-fn operator_value(o: u64, v: u64, sorts: Sorts, a: u64, b: u64, c: u64) -> Value
-    requires { ⌜ OperatorReady o v (sorts .one) (sorts .two) a b c ⌝ }
-    ensures { λ r. ⌜ OperatorGave o v (sorts .one) (sorts .two) a b c r ⌝ }
+// The value that an operator, whose label has the numbers of an `extract` as 64 * high + low, gives its operands: the sorts of the first two, and the numbers
+// of the first three.
+fn operator_value(operator: u64, bounds: u64, sorts: Sorts, one: u64, two: u64, three: u64) -> Value
+    requires { ⌜ OperatorReady operator bounds (sorts .one) (sorts .two) one two three ⌝ }
+    ensures { λ r. ⌜ OperatorGave operator bounds (sorts .one) (sorts .two) one two three r ⌝ }
 {
-    let number = o as usize;
-    let i = v / 64;
-    let j = v % 64;
-    let sort = result_sort(number, i, j, sorts.one, sorts.two);
+    let number = operator as usize;
+    let high = bounds / 64;
+    let low = bounds % 64;
+    let sort = result_sort(number, high, low, sorts.one, sorts.two);
     Value {
         sort: sort,
-        number: apply(number, i, j, sorts.one, sorts.two, a, b, c),
+        number: apply(number, high, low, sorts.one, sorts.two, one, two, three),
     }
 }
 
-// The value of the term at node `i`, whose cost is at most `left`; `env` has the values of the names in its scope.
-pub fn eval_term(nodes: &[u64], bodies: &[u64], env: &[u64], i: usize, left: u64) -> Value
-    requires { ⌜ Evaluable (now nodes) (now bodies) (now env) i left ⌝ }
-    ensures { λ r. ⌜ Evaluated (now (nodes .entry)) (now (bodies .entry)) (now (env .entry)) i left r ⌝ }
+// The value of the term at a node, whose cost is at most `left`; `env` has the values of the names in its scope.
+pub fn eval_term(nodes: &[u64], bodies: &[u64], env: &[u64], node: usize, left: u64) -> Value
+    requires { ⌜ Evaluable (now nodes) (now bodies) (now env) node left ⌝ }
+    ensures { λ r. ⌜ Evaluated (now (nodes .entry)) (now (bodies .entry)) (now (env .entry)) node left r ⌝ }
 {
-    let code = code_at(nodes, i);
-    let value = value_at(nodes, i);
+    let code = code_at(nodes, node);
+    let value = value_at(nodes, node);
     let kind = code % 16;
     let head = code / 16;
     if kind == LITERAL {
@@ -72,8 +78,8 @@ pub fn eval_term(nodes: &[u64], bodies: &[u64], env: &[u64], i: usize, left: u64
         };
     }
     let mut args = [0u64; 8];
-    let stop = i + size_at(nodes, i);
-    let sorts = eval_operands(nodes, bodies, env, i + 1, stop, &mut args, left - 1);
+    let stop = node + size_at(nodes, node);
+    let sorts = eval_operands(nodes, bodies, env, node + 1, stop, &mut args, left - 1);
     if kind == OPERATOR {
         return operator_value(head, value, sorts, args[0], args[1], args[2]);
     }
@@ -81,26 +87,27 @@ pub fn eval_term(nodes: &[u64], bodies: &[u64], env: &[u64], i: usize, left: u64
     eval_term(nodes, bodies, &args, body, left - 1)
 }
 
-// Puts the values of the operands from node `i` up to node `stop` at the front of `args`.
+// Puts the values of the operands from node `start` up to node `stop` at the front of `args`.
 fn eval_operands(
     nodes: &[u64],
     bodies: &[u64],
     env: &[u64],
-    i: usize,
+    start: usize,
     stop: usize,
     args: &mut [u64; 8],
     left: u64,
 ) -> Sorts
-    requires { ⌜ OperandsEvaluable (now nodes) (now bodies) (now env) i stop left ⌝ }
-    ensures { λ r. ⌜ OperandsEvaluated (now (nodes .entry)) (now (bodies .entry)) (now (env .entry)) i stop left (now (args .entry)) (now (args .exit)) (r .one) (r .two) ⌝ }
+    requires { ⌜ OperandsEvaluable (now nodes) (now bodies) (now env) start stop left ⌝ }
+    ensures { λ r. ⌜ OperandsEvaluated (now (nodes .entry)) (now (bodies .entry)) (now (env .entry)) start stop left
+        (now (args .entry)) (now (args .exit)) (r .one) (r .two) ⌝ }
 {
     let mut sorts = Sorts { one: 0, two: 0 };
-    let mut j = i;
+    let mut j = start;
     let mut k: usize = 0;
     while j < stop {
-        let v = eval_term(nodes, bodies, env, j, left);
-        args[k] = v.number;
-        sorts = with_sort(sorts, k, v.sort);
+        let value = eval_term(nodes, bodies, env, j, left);
+        args[k] = value.number;
+        sorts = with_sort(sorts, k, value.sort);
         j += size_at(nodes, j);
         k += 1;
     }

@@ -4,12 +4,6 @@ pub mod evaluator;
 pub mod points;
 pub mod running;
 
-// The sorts of the first two operands; what is not there is 0.
-pub struct Sorts {
-    pub one: u64,
-    pub two: u64,
-}
-
 // How many points a list is, or the place of its fault.
 pub enum PointList {
     Good(usize),

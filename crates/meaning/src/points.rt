@@ -15,27 +15,27 @@ fn fits(sort: u64, number: u64) -> bool
     if sort == 0 {
         return number < 2;
     }
-    number <= bits::vectors::ones(sort)
+    number <= bits::ones(sort)
 }
 
-// How many points a list of `size` numbers is, where there are `n` variables.
-pub fn point_count(n: usize, size: usize) -> usize
-    ensures { λ r. ⌜ r ≡ pointCount n size ⌝ }
+// How many points a list of `size` numbers is, by how many variables there are.
+pub(crate) fn point_count(variables: usize, size: usize) -> usize
+    ensures { λ r. ⌜ r ≡ pointCount variables size ⌝ }
 {
-    if n == 0 {
+    if variables == 0 {
         return 1;
     }
-    size / n
+    size / variables
 }
 
 // Whether a list of `size` numbers is no whole number of points.
-fn cut_short(n: usize, size: usize) -> bool
-    ensures { λ r. ⌜ r ≡ cutShort n size ⌝ }
+fn cut_short(variables: usize, size: usize) -> bool
+    ensures { λ r. ⌜ r ≡ cutShort variables size ⌝ }
 {
-    if n == 0 {
+    if variables == 0 {
         return size != 0;
     }
-    size % n != 0
+    size % variables != 0
 }
 
 // The index of the first number that is no value of its variable's sort; past the last where there is none.

@@ -31,18 +31,18 @@ pub fn all_passed(ran: Ran) -> bool
     }
 }
 
-// Runs the terms that begin at the nodes of `places`, one after the other, at point `p`, whose values `env` has.
-pub fn run_terms(
+// Runs the terms that begin at the nodes of `places`, one after the other, at a point, whose values `env` has.
+fn run_terms(
     nodes: &[u64],
     bodies: &[u64],
     costs: &[u64],
     places: &[u64],
     env: &[u64],
-    p: usize,
+    point: usize,
     budget: u64,
 ) -> Ran
     requires { ⌜ Runnable (now nodes) (now bodies) (now costs) (now places) (now env) ⌝ }
-    ensures { λ r. ⌜ TermsRan (now (nodes .entry)) (now (bodies .entry)) (now (costs .entry)) (now (places .entry)) (now (env .entry)) p budget r ⌝ }
+    ensures { λ r. ⌜ TermsRan (now (nodes .entry)) (now (bodies .entry)) (now (costs .entry)) (now (places .entry)) (now (env .entry)) point budget r ⌝ }
 {
     let mut left = budget;
     let mut k = 0;
@@ -50,12 +50,12 @@ pub fn run_terms(
         let i = places[k] as usize;
         let cost = cost_at(nodes, bodies, costs, i);
         if left <= cost {
-            return Ran::Ended(p, k, left);
+            return Ran::Ended(point, k, left);
         }
-        let v = eval_term(nodes, bodies, env, i, left);
+        let value = eval_term(nodes, bodies, env, i, left);
         left = left - cost - 1;
-        if v.number != 1 {
-            return Ran::False(p, k, left);
+        if value.number != 1 {
+            return Ran::False(point, k, left);
         }
         k += 1;
     }
@@ -73,21 +73,30 @@ pub fn run_points(
     budget: u64,
 ) -> Ran
     requires { ⌜ PointsRunnable (now nodes) (now bodies) (now costs) (now places) (now sorts) (now numbers) ⌝ }
-    ensures { λ r. ⌜ PointsRan (now (nodes .entry)) (now (bodies .entry)) (now (costs .entry)) (now (places .entry)) (now (sorts .entry)) (now (numbers .entry)) budget r ⌝ }
+    ensures { λ r. ⌜ PointsRan (now (nodes .entry)) (now (bodies .entry)) (now (costs .entry))
+        (now (places .entry)) (now (sorts .entry)) (now (numbers .entry)) budget r ⌝ }
 {
     let width = sorts.len();
     let count = point_count(width, numbers.len());
     let mut left = budget;
-    let mut p = 0;
-    while p < count {
-        let start = p * width;
+    let mut point = 0;
+    while point < count {
+        let start = point * width;
         let end = start + width;
-        let ran = run_terms(nodes, bodies, costs, places, &numbers[start..end], p, left);
+        let ran = run_terms(
+            nodes,
+            bodies,
+            costs,
+            places,
+            &numbers[start..end],
+            point,
+            left,
+        );
         if !all_passed(ran) {
             return ran;
         }
         left = left_of(ran);
-        p += 1;
+        point += 1;
     }
     Ran::Passed(left)
 }

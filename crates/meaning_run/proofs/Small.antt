@@ -13,13 +13,14 @@ use Rattle.bits.specs.Sorts.AllFit.{nothing, also}
 use Rattle.terms.specs.Costs.{costOf, costs, definedCost, functionCost}
 use Rattle.terms.specs.Nodes.{AllPlain, nodeTable}
 use Rattle.terms.specs.Sorts.{sameSorts}
-use Rattle.terms.specs.Values.{called, definedValue, functionValue, labelValue, numbersIn, operatorGives, resultOf, value, valueOver, valuesAt, valuesIn, withValue}
+use Rattle.terms.specs.Values.{called, definedValue, functionValue, labelValue, numbersIn, operatorGives, resultOf, value, valueOver, valuesAt, valuesIn}
+use Rattle.terms.specs.Values.{withValue}
 use Rattle.meaning.specs.Budget.{Priced, held}
 use Rattle.meaning.specs.Points.{pointAt, valuesBy}
 use Rattle.meaning.specs.Running.{isTrue, runPoints, runTerms}
 use Rattle.meaning.specs.declared.Ran.the-variants.{Ended, False}
 use Rattle.meaning.specs.Steps.{AllValued, Costing, Evaluable, PointsRunnable, Pricing, TermsAt}
-use Rattle.meaning.specs.Tables.{BodiesAt, CallsDefined, CallsEarlier, CallsKnown, FewArguments, Holds, Stands, mostDefined}
+use Rattle.meaning.specs.Tables.{BodiesAt, CallsDefined, CallsEarlier, CallsKnown, FewArguments, TablesHold, Stands, mostDefined}
 use Rattle.meaning_run.specs.Case.{all, constraints, d0, defs, f0, funs, numbers, places, shifted, small, sorts}
 
 -- The labels are told by their numbers.
@@ -144,7 +145,7 @@ shifted-held = refl
 
 module _ {nodes bodies : List ℕ} (nodes-are : nodes ≡ nodeTable all) (bodies-are : bodies ≡ set (replicate 40 0) 32 3) where
   -- The tables hold the functions.
-  abbrev pub holds : Holds nodes bodies defs funs
+  abbrev pub holds : TablesHold nodes bodies defs funs
   holds =
       record {
         all = all;

@@ -8,19 +8,19 @@ use meaning::running::run_points;
 ghost use Rattle.meaning.specs.Steps.{Evaluable, PointsRunnable, Pricing};
 ghost use Rattle.grammar.specs.Answer.{DerivePre};
 
-// The number of the value of the term at node `i`.
+// The number of the value of the term at a node.
 #[no_mangle]
 pub extern "C" fn sverdhyll_measured_eval(
     nodes: &[u64],
     bodies: &[u64],
     env: &[u64],
-    i: usize,
+    node: usize,
     left: u64,
 ) -> u64
-    requires { ⌜ Evaluable (now nodes) (now bodies) (now env) i left ⌝ }
+    requires { ⌜ Evaluable (now nodes) (now bodies) (now env) node left ⌝ }
 {
-    let v = eval_term(nodes, bodies, env, i, left);
-    v.number
+    let value = eval_term(nodes, bodies, env, node, left);
+    value.number
 }
 
 // Runs the terms at `places` at each point, with the costs that are lent; puts what is left of the budget into `left`, and says whether all were true.
@@ -57,16 +57,16 @@ pub extern "C" fn sverdhyll_measured_cost(
     if place < 40 { costs[place] } else { 0 }
 }
 
-// Whether the rules derive the body of function `k`, whose list is then shown in the area.
+// Whether the rules derive the body of a function, whose list is then shown in the area.
 #[no_mangle]
 pub extern "C" fn sverdhyll_measured_derive(
     rules: &[u64],
     forms: &[u64],
     body: &[u64],
-    k: usize,
+    function: usize,
     area: &mut [u16],
 ) -> bool
-    requires { ⌜ DerivePre (now rules) (now forms) (now body) k (now area) ⌝ }
+    requires { ⌜ DerivePre (now rules) (now forms) (now body) function (now area) ⌝ }
 {
-    grammar::derive(rules, forms, body, k, area)
+    grammar::derive(rules, forms, body, function, area)
 }

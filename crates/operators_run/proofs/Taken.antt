@@ -2,7 +2,7 @@
 use Prim.Native.Nat.{ℕ, _+_, _-_, _%_, _^_, _≤_, _<_}
 use native.Mathlib.Nat.{mod-lt}
 use native.Mathlib.Omega.{arith}
-use mathlib.Core.Path.{_≡_, refl, sym, subst⁻¹, _∙_}
+use mathlib.Core.Path.{_≡_, refl, sym, ap, subst⁻¹, _∙_}
 use mathlib.Core.Bool.{Bool, true, false, cond, _||_}
 use mathlib.Core.List.{List, [], _∷_}
 use mathlib.Core.Option.{some}
@@ -11,9 +11,10 @@ use lib.Dec.{eqb, ltb}
 use lib.ListN.{getD, getD-replicate, length}
 use borrow.Author.Tests.{eq-eqb, eqb-true, le-leb, lt-ltb}
 use Rattle.bits.specs.Operators.{Operator, operatorAt, operatorCount, operatorSort, operators}
-use Rattle.bits.specs.Sorts.{AllFit, Fit, Rule, allAre, bool, choice, cutting, equality, joining, logic, order, ruleNumber, sortBy, width}
+use Rattle.bits.specs.Sorts.{AllFit, Fit, SortRule, allAre, bool, choice, cutting, equality, joining, logic, order, ruleNumber, sortBy, width}
 use Rattle.bits.specs.Sorts.AllFit.{nothing, also}
 use Rattle.bits.specs.Steps.{Operable, Width, Word}
+use Rattle.bits.proofs.Results.{rule-at, ruleAt}
 use Rattle.bits.proofs.Rules.{givesBool, word-fits}
 use Rattle.bits.proofs.Table.{column}
 
@@ -22,7 +23,7 @@ pub low-word : (x : ℕ) {n m : ℕ} → Width n → m ≡ 2 ^ n - 1 → Word n 
 low-word x {n} w e = record { width = w; below = rw e (mask-lt x n) }
 
 -- How many operands a row with a rule has.
-usual : Rule → ℕ → Bool
+usual : SortRule → ℕ → Bool
 usual choice k = eqb k 3
 usual joining k = eqb k 2
 usual cutting k = eqb k 1
@@ -32,34 +33,21 @@ usual width k = eqb k 1 || eqb k 2
 usual order k = eqb k 1 || eqb k 2
 
 -- Every operator has as many.
-all-usual : {o : ℕ} → o < operatorCount → usual (operatorAt o .rule) (operatorAt o .operands) ≡ true
+all-usual : {operator : ℕ} → operator < operatorCount → usual (operatorAt operator .rule) (operatorAt operator .operands) ≡ true
 unfolding operators usual
-all-usual {o} h = sym (column (λ (r : Operator). usual (r .rule) (r .operands)) o) ∙ getD-replicate operatorCount o true false h
-
--- The rule that has a number.
-abbrev pub ruleOf : ℕ → Rule
-ruleOf k = getD (logic ∷ equality ∷ choice ∷ width ∷ order ∷ joining ∷ cutting ∷ []) k logic
-
--- A rule is the one that has its number.
-numbered : (r : Rule) {k : ℕ} → k ≡ ruleNumber r → r ≡ ruleOf k
-numbered logic e = rw e
-numbered equality e = rw e
-numbered choice e = rw e
-numbered width e = rw e
-numbered order e = rw e
-numbered joining e = rw e
-numbered cutting e = rw e
+all-usual {operator} h = sym (column (λ (r : Operator). usual (r .rule) (r .operands)) operator) ∙ getD-replicate operatorCount operator true false h
 
 -- Operands of the right number, to which the rule gives a sort.
-operable : {o i j : ℕ} → o < operatorCount → (r : ℕ) (ss vs : List ℕ) → length ss ≡ operatorAt o .operands → sortBy (operatorAt o .rule) i j ss ≡ some r → AllFit ss vs
-    → Operable o i j (getD ss 0 0) (getD ss 1 0) (getD vs 0 0) (getD vs 1 0) (getD vs 2 0)
+operable : {operator high low : ℕ} → operator < operatorCount → (r : ℕ) (ss vs : List ℕ) → length ss ≡ operatorAt operator .operands
+    → sortBy (operatorAt operator .rule) high low ss ≡ some r → AllFit ss vs
+    → Operable operator high low (getD ss 0 0) (getD ss 1 0) (getD vs 0 0) (getD vs 1 0) (getD vs 2 0)
 unfolding operatorSort
-operable {o} low r ss vs l h f =
+operable {operator} known r ss vs l h f =
     record {
       sorts = ss;
       values = vs;
       result = r;
-      sorted = rw (lt-ltb o operatorCount low, eq-eqb _ _ l) h;
+      sorted = rw (lt-ltb operator operatorCount known, eq-eqb _ _ l) h;
       fit = f;
       width-one = refl;
       width-two = refl;
@@ -74,28 +62,32 @@ bit-fits w = record { sort = omega arith; value = w .below }
 
 -- A second operand, or 0 where there is none.
 abbrev second : ℕ → ℕ → ℕ
-second o b = cond (ltb (operatorAt o .operands) 2) 0 b
+second operator operand = cond (ltb (operatorAt operator .operands) 2) 0 operand
 
 -- One operand or two of the sort s.
-module _ {o : ℕ} (low : o < operatorCount) (p : ℕ) {s a b : ℕ} (h : (more : List ℕ) → allAre s more ≡ true → sortBy (operatorAt o .rule) 0 0 (s ∷ more) ≡ some p) (f : Fit s a)
-    (g : Fit s b) where
-  alike : (eqb (operatorAt o .operands) 1 || eqb (operatorAt o .operands) 2) ≡ true → Operable o 0 0 s (second o s) a (second o b) 0
-  alike e = go (eqb (operatorAt o .operands) 1) refl e
+module _ {operator : ℕ} (known : operator < operatorCount) (p : ℕ) {s a b : ℕ}
+    (h : (more : List ℕ) → allAre s more ≡ true → sortBy (operatorAt operator .rule) 0 0 (s ∷ more) ≡ some p) (f : Fit s a) (g : Fit s b) where
+  -- What an operator is then given.
+  abbrev Taken : Type 0
+  Taken = Operable operator 0 0 s (second operator s) a (second operator b) 0
+
+  alike : (eqb (operatorAt operator .operands) 1 || eqb (operatorAt operator .operands) 2) ≡ true → Taken
+  alike e = go (eqb (operatorAt operator .operands) 1) refl e
     where
-      go : (t : Bool) → eqb (operatorAt o .operands) 1 ≡ t → (t || eqb (operatorAt o .operands) 2) ≡ true → Operable o 0 0 s (second o s) a (second o b) 0
+      go : (t : Bool) → eqb (operatorAt operator .operands) 1 ≡ t → (t || eqb (operatorAt operator .operands) 2) ≡ true → Taken
       go true q e =
-          let one : operatorAt o .operands ≡ 1 = eqb-true _ _ q in
-          rw one (operable low p (s ∷ []) (a ∷ []) (sym one) (h [] refl) (also f nothing))
+          let one : operatorAt operator .operands ≡ 1 = eqb-true _ _ q in
+          rw one (operable known p (s ∷ []) (a ∷ []) (sym one) (h [] refl) (also f nothing))
       go false q e =
-          let two : operatorAt o .operands ≡ 2 = eqb-true _ _ e in
-          rw two (operable low p (s ∷ s ∷ []) (a ∷ b ∷ []) (sym two) (h (s ∷ []) (rw (eq-eqb s s refl))) (also f (also g nothing)))
+          let two : operatorAt operator .operands ≡ 2 = eqb-true _ _ e in
+          rw two (operable known p (s ∷ s ∷ []) (a ∷ b ∷ []) (sym two) (h (s ∷ []) (rw (eq-eqb s s refl))) (also f (also g nothing)))
 
 -- The rule of an operator, by its number.
-pub rule-is : (o : ℕ) {k l : ℕ} → k ≡ ruleNumber (operatorAt o .rule) → k ≡ l → operatorAt o .rule ≡ ruleOf l
-rule-is o e q = numbered (operatorAt o .rule) (sym q ∙ e)
+pub rule-is : (operator : ℕ) {k l : ℕ} → k ≡ ruleNumber (operatorAt operator .rule) → k ≡ l → operatorAt operator .rule ≡ ruleAt l
+rule-is operator e q = rule-at (operatorAt operator .rule) ∙ ap ruleAt (sym e ∙ q)
 
 -- An operator has as many operands as its rule says.
-counted : {o : ℕ} {r : Rule} → o < operatorCount → operatorAt o .rule ≡ r → usual r (operatorAt o .operands) ≡ true
+counted : {operator : ℕ} {r : SortRule} → operator < operatorCount → operatorAt operator .rule ≡ r → usual r (operatorAt operator .operands) ≡ true
 counted h e = rw e at (all-usual h)
 
 -- Where every operand is 0, so is a second one.
@@ -104,20 +96,20 @@ nothing-second true = refl
 nothing-second false = refl
 
 -- The operands of `not` to `=>`.
-pub logic-taken : {o k x y b : ℕ} → o < operatorCount → k ≡ ruleNumber (operatorAt o .rule) → k ≡ 0 → Word 1 x → Word 1 y → b ≡ second o y
-    → Operable o 0 0 0 0 x b 0
+pub logic-taken : {operator k x y b : ℕ} → operator < operatorCount → k ≡ ruleNumber (operatorAt operator .rule) → k ≡ 0 → Word 1 x → Word 1 y
+    → b ≡ second operator y → Operable operator 0 0 0 0 x b 0
 unfolding sortBy usual
-logic-taken {o} {x = x} {b = b} l e q v w d =
-    let r = rule-is o e q in
-    subst⁻¹ (λ (m : ℕ). Operable o 0 0 0 m x b 0) (nothing-second (ltb (operatorAt o .operands) 2))
+logic-taken {operator} {x = x} {b = b} l e q v w d =
+    let r = rule-is operator e q in
+    subst⁻¹ (λ (m : ℕ). Operable operator 0 0 0 m x b 0) (nothing-second (ltb (operatorAt operator .operands) 2))
     (rw d (alike l 0 (λ more h. rw (r, h)) (bit-fits v) (bit-fits w) (counted l r)))
 
 -- The operands of `ite`.
-pub choice-taken : {o k n c a b : ℕ} → o < operatorCount → k ≡ ruleNumber (operatorAt o .rule) → k ≡ 2 → Word 1 c → Word n a → Word n b
-    → Operable o 0 0 0 n c a b
+pub choice-taken : {operator k n c a b : ℕ} → operator < operatorCount → k ≡ ruleNumber (operatorAt operator .rule) → k ≡ 2 → Word 1 c → Word n a → Word n b
+    → Operable operator 0 0 0 n c a b
 unfolding sortBy usual
-choice-taken {o} {n = n} {c} {a} {b} l e q u v w =
-    let r = rule-is o e q in
+choice-taken {operator} {n = n} {c} {a} {b} l e q u v w =
+    let r = rule-is operator e q in
     operable l n (0 ∷ n ∷ n ∷ []) (c ∷ a ∷ b ∷ []) (sym (eqb-true _ _ (counted l r))) (rw (r, eq-eqb n n refl))
     (also (bit-fits u) (also (word-fits (v .width) (v .below)) (also (word-fits (w .width) (w .below)) nothing)))
 
@@ -130,20 +122,21 @@ pub room : (y : ℕ) {n a : ℕ} → Word n a → (n ≡ 64 → ⊥) → Width (
 room y w h = record { least = omega arith; most = omega (arith, within y w h) }
 
 -- The operands of `concat`.
-pub joined-taken : (y : ℕ) {o n a b : ℕ} → o < operatorCount → operatorAt o .rule ≡ joining → Word n a → (n ≡ 64 → ⊥) → Word (1 + y % (64 - n)) b
-    → Operable o 0 0 n (1 + y % (64 - n)) a b 0
+pub joined-taken : (y : ℕ) {operator n a b : ℕ} → operator < operatorCount → operatorAt operator .rule ≡ joining → Word n a → (n ≡ 64 → ⊥)
+    → Word (1 + y % (64 - n)) b → Operable operator 0 0 n (1 + y % (64 - n)) a b 0
 unfolding sortBy usual
-joined-taken y {o} {n} {a} {b} l r v h w =
+joined-taken y {operator} {n} {a} {b} l r v h w =
     let m : ℕ = 1 + y % (64 - n) in
     operable l (n + m) (n ∷ m ∷ []) (a ∷ b ∷ []) (sym (eqb-true _ _ (counted l r)))
     (rw (r, lt-ltb 0 n (v .width .least), lt-ltb 0 m (w .width .least), le-leb (n + m) 64 (within y v h)))
     (also (word-fits (v .width) (v .below)) (also (word-fits (w .width) (w .below)) nothing))
 
 -- The operand of `(_ extract i j)`.
-pub cut-taken : {o i j n a : ℕ} → o < operatorCount → operatorAt o .rule ≡ cutting → Word n a → j ≤ i → i < n → Operable o i j n 0 a 0 0
+pub cut-taken : {operator high low n a : ℕ} → operator < operatorCount → operatorAt operator .rule ≡ cutting → Word n a → low ≤ high → high < n
+    → Operable operator high low n 0 a 0 0
 unfolding sortBy usual
-cut-taken {o} {i} {j} {n} {a} l r v h g =
-    operable l (i - j + 1) (n ∷ []) (a ∷ []) (sym (eqb-true _ _ (counted l r))) (rw (r, le-leb j i h, lt-ltb i n g))
+cut-taken {operator} {high} {low} {n} {a} l r v h g =
+    operable l (high - low + 1) (n ∷ []) (a ∷ []) (sym (eqb-true _ _ (counted l r))) (rw (r, le-leb low high h, lt-ltb high n g))
     (also (word-fits (v .width) (v .below)) nothing)
 
 -- A number of none of the rules `logic`, `choice`, `joining` and `cutting`.
@@ -151,7 +144,7 @@ abbrev pub Plain : ℕ → Type 0
 Plain k = (((Unit × (k ≡ 0 → ⊥)) × (k ≡ 2 → ⊥)) × (k ≡ 5 → ⊥)) × (k ≡ 6 → ⊥)
 
 -- The other rules take one operand or two of one width.
-plain : (r : Rule) {k n : ℕ} → k ≡ ruleNumber r → Plain k → Width n → (more : List ℕ) → allAre n more ≡ true
+plain : (r : SortRule) {k n : ℕ} → k ≡ ruleNumber r → Plain k → Width n → (more : List ℕ) → allAre n more ≡ true
     → sortBy r 0 0 (n ∷ more) ≡ some (cond (givesBool r) bool n)
 unfolding sortBy
 plain logic e p w more h = absurd (p .0 .0 .0 .1 e)
@@ -163,7 +156,7 @@ plain width {n = n} e p w more h = rw (lt-ltb 0 n (w .least), h)
 plain order {n = n} e p w more h = rw (lt-ltb 0 n (w .least), h)
 
 -- Their operators have one operand or two.
-plain-count : (r : Rule) (c : ℕ) {k : ℕ} → k ≡ ruleNumber r → Plain k → usual r c ≡ true → (eqb c 1 || eqb c 2) ≡ true
+plain-count : (r : SortRule) (c : ℕ) {k : ℕ} → k ≡ ruleNumber r → Plain k → usual r c ≡ true → (eqb c 1 || eqb c 2) ≡ true
 unfolding usual
 plain-count logic c e p h = h
 plain-count choice c e p h = absurd (p .0 .0 .1 e)
@@ -174,12 +167,12 @@ plain-count width c e p h = h
 plain-count order c e p h = h
 
 -- The operands of `=`, `distinct` and `bvnot` to `bvult`.
-pub plain-taken : {o k n m a b c : ℕ} → o < operatorCount → k ≡ ruleNumber (operatorAt o .rule) → Plain k → Word n a → Word n b
-    → m ≡ second o n → c ≡ second o b → Operable o 0 0 n m a c 0
-plain-taken {o} l e p v w d f =
+pub plain-taken : {operator k n m a b c : ℕ} → operator < operatorCount → k ≡ ruleNumber (operatorAt operator .rule) → Plain k → Word n a → Word n b
+    → m ≡ second operator n → c ≡ second operator b → Operable operator 0 0 n m a c 0
+plain-taken {operator} l e p v w d f =
     rw (d, f)
-    (alike l _ (plain (operatorAt o .rule) e p (v .width)) (word-fits (v .width) (v .below)) (word-fits (w .width) (w .below))
-    (plain-count (operatorAt o .rule) _ e p (all-usual l)))
+    (alike l _ (plain (operatorAt operator .rule) e p (v .width)) (word-fits (v .width) (v .below)) (word-fits (w .width) (w .below))
+    (plain-count (operatorAt operator .rule) _ e p (all-usual l)))
 
 -- A remainder by i + 1 is at most i.
 pub at-most : (z i : ℕ) → z % (i + 1) ≤ i

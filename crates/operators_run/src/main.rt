@@ -1,10 +1,10 @@
 //! Runs every operator at every width, on edge operands and on pseudo-random ones, and prints for each width a hash of the values of each operator.
 //! tests/operators.py computes the same lines from SMT-LIB's meaning of the operators.
+use bits::ones;
 use bits::operators::OPERATORS;
 use bits::operators::apply;
 use bits::operators::operands_of;
 use bits::operators::rule_of;
-use bits::vectors::ones;
 use libc::STDOUT_FILENO;
 ghost use mathlib.Core.Bool.{cond};
 ghost use mathlib.Core.Path.{_≡_};
@@ -17,11 +17,11 @@ ghost use Rattle.bits.specs.Steps.{Width, Word};
 // How many pseudo-random pairs of operands each operator runs on at each width.
 const PAIRS: u64 = 10_000;
 
-// The number after `x` in a pseudo-random sequence: Marsaglia's xorshift of 64 bits.
-fn next(x: u64) -> u64 {
-    let a = x ^ (x << 13);
-    let b = a ^ (a >> 7);
-    b ^ (b << 17)
+// The number after another in a pseudo-random sequence: Marsaglia's xorshift of 64 bits.
+fn next(number: u64) -> u64 {
+    let first = number ^ (number << 13);
+    let second = first ^ (first >> 7);
+    second ^ (second << 17)
 }
 
 // A hash with one value more.
@@ -29,118 +29,146 @@ fn fold(hash: u64, value: u64) -> u64 {
     std::num::wrapping_add_u64(next(hash ^ value), 0x9e37_79b9_7f4a_7c15)
 }
 
-// The low n bits of `x`.
-fn low(x: u64, n: u64) -> u64
-    requires { ⌜ Width n ⌝ }
-    ensures { λ r. ⌜ Word n r ⌝ }
+// The low bits of a number.
+fn low(number: u64, width: u64) -> u64
+    requires { ⌜ Width width ⌝ }
+    ensures { λ r. ⌜ Word width r ⌝ }
 {
-    x & ones(n)
+    number & ones(width)
 }
 
-// The edge operand `k` of width n, in its low n bits: 0, 1, all ones, or the highest bit alone.
-fn edge(k: u64, n: u64) -> u64
-    requires { ⌜ Width n ⌝ }
+// An edge operand, in its low bits: 0, 1, all ones, or the highest bit of the width alone.
+fn edge(index: u64, width: u64) -> u64
+    requires { ⌜ Width width ⌝ }
 {
-    match k {
+    match index {
         0 => 0,
         1 => 1,
         2 => u64::MAX,
-        _ => 1 << (n - 1),
+        _ => 1 << (width - 1),
     }
 }
 
-// `x` where operator `o` has a second operand, else 0.
-fn second(o: usize, x: u64) -> u64
-    ensures { λ r. ⌜ r ≡ cond (ltb (operatorAt o .operands) 2) 0 x ⌝ }
+// The operand where the operator has a second one, else 0.
+fn second(operator: usize, operand: u64) -> u64
+    ensures { λ r. ⌜ r ≡ cond (ltb (operatorAt operator .operands) 2) 0 operand ⌝ }
 {
-    if operands_of(o) < 2 {
+    if operands_of(operator) < 2 {
         return 0;
     }
-    x
+    operand
 }
 
-// The value of `concat` over `a`, of width n, and bits of `y`, of a width that `y` chooses; 0 where `a` leaves no room.
-fn joined(o: usize, n: u64, a: u64, y: u64) -> u64
-    requires { ⌜ (o < operatorCount) × (operatorAt o .rule ≡ joining) × Word n a ⌝ }
+// The value of `concat` over a value of the width and bits of `source`, of a width that `source` chooses; 0 where the first leaves no room.
+fn joined(operator: usize, width: u64, value: u64, source: u64) -> u64
+    requires { ⌜ (operator < operatorCount) × (operatorAt operator .rule ≡ joining) × Word width value ⌝ }
 {
-    if n == 64 {
+    if width == 64 {
         return 0;
     }
-    let m = 1 + y % (64 - n);
-    apply(o, 0, 0, n, m, a, low(y, m), 0)
+    let other = 1 + source % (64 - width);
+    apply(operator, 0, 0, width, other, value, low(source, other), 0)
 }
 
-// The value of `(_ extract i j)` over `a`, of width n, where `y` chooses i and j.
-fn extracted(o: usize, n: u64, a: u64, y: u64) -> u64
-    requires { ⌜ (o < operatorCount) × (operatorAt o .rule ≡ cutting) × Word n a ⌝ }
+// The value of `(_ extract high lowest)` over a value of the width, where `source` chooses both numbers.
+fn extracted(operator: usize, width: u64, value: u64, source: u64) -> u64
+    requires { ⌜ (operator < operatorCount) × (operatorAt operator .rule ≡ cutting) × Word width value ⌝ }
 {
-    let i = y % n;
-    let j = (y >> 8) % (i + 1);
-    apply(o, i, j, n, 0, a, 0, 0)
+    let high = source % width;
+    let lowest = (source >> 8) % (high + 1);
+    apply(operator, high, lowest, width, 0, value, 0, 0)
 }
 
-// The value of operator `o` over operands that are made of `x` and `y`, at width n where they are vectors.
-fn value(o: usize, n: u64, x: u64, y: u64) -> u64
-    requires { ⌜ (o < operatorCount) × Width n ⌝ }
+// The value of an operator over operands that are made of `left` and `right`, of the width where they are vectors.
+fn value(operator: usize, width: u64, left: u64, right: u64) -> u64
+    requires { ⌜ (operator < operatorCount) × Width width ⌝ }
 {
-    let a = low(x, n);
-    let b = low(y, n);
-    match rule_of(o) {
-        0 => apply(o, 0, 0, 0, 0, low(x, 1), second(o, low(y, 1)), 0),
-        2 => apply(o, 0, 0, 0, n, low(x, 1), a, b),
-        5 => joined(o, n, a, y),
-        6 => extracted(o, n, a, y),
-        _ => apply(o, 0, 0, n, second(o, n), a, second(o, b), 0),
+    let one = low(left, width);
+    let two = low(right, width);
+    match rule_of(operator) {
+        0 => apply(
+            operator,
+            0,
+            0,
+            0,
+            0,
+            low(left, 1),
+            second(operator, low(right, 1)),
+            0,
+        ),
+        2 => apply(operator, 0, 0, 0, width, low(left, 1), one, two),
+        5 => joined(operator, width, one, right),
+        6 => extracted(operator, width, one, right),
+        _ => apply(
+            operator,
+            0,
+            0,
+            width,
+            second(operator, width),
+            one,
+            second(operator, two),
+            0,
+        ),
     }
 }
 
-// The hash of operator `o` over all pairs of edge operands of width n.
-fn edges(o: usize, n: u64) -> u64
-    requires { ⌜ (o < operatorCount) × Width n ⌝ }
+// The hash of an operator over all pairs of edge operands of a width.
+fn edges(operator: usize, width: u64) -> u64
+    requires { ⌜ (operator < operatorCount) × Width width ⌝ }
 {
     let mut hash = 0;
     let mut k = 0;
     while k < 16 {
-        hash = fold(hash, value(o, n, edge(k / 4, n), edge(k % 4, n)));
+        hash = fold(
+            hash,
+            value(operator, width, edge(k / 4, width), edge(k % 4, width)),
+        );
         k += 1;
     }
     hash
 }
 
 // That hash with the values over pseudo-random pairs, of which the second has any number of bits, so that shifts and quotients are seldom 0.
-fn pairs(o: usize, n: u64, start: u64) -> u64
-    requires { ⌜ (o < operatorCount) × Width n ⌝ }
+fn pairs(operator: usize, width: u64, start: u64) -> u64
+    requires { ⌜ (operator < operatorCount) × Width width ⌝ }
 {
     let mut hash = start;
-    let mut x = n;
+    let mut left = width;
     let mut k = 0;
     while k < PAIRS {
-        let y = next(x);
-        hash = fold(hash, value(o, n, x, y >> (x >> 32) % 64));
-        x = next(y);
+        let right = next(left);
+        hash = fold(
+            hash,
+            value(operator, width, left, right >> (left >> 32) % 64),
+        );
+        left = next(right);
         k += 1;
     }
     hash
 }
 
 // Prints a width and the hash of each operator at it.
-fn line(n: u64)
-    requires { ⌜ Width n ⌝ }
+fn line(width: u64)
+    requires { ⌜ Width width ⌝ }
 {
-    io::print_decimal(STDOUT_FILENO, n);
-    let mut o = 0;
-    while o < OPERATORS {
+    io::print_decimal(STDOUT_FILENO, width);
+    let mut operator = 0;
+    while operator < OPERATORS {
         io::write_all(STDOUT_FILENO, b" ");
-        io::print_hex(STDOUT_FILENO, pairs(o, n, edges(o, n)), 16);
-        o += 1;
+        io::print_hex(
+            STDOUT_FILENO,
+            pairs(operator, width, edges(operator, width)),
+            16,
+        );
+        operator += 1;
     }
     io::write_all(STDOUT_FILENO, b"\n");
 }
 
 fn main() {
-    let mut n = 1;
-    while n <= 64 {
-        line(n);
-        n += 1;
+    let mut width = 1;
+    while width <= 64 {
+        line(width);
+        width += 1;
     }
 }

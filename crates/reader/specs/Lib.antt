@@ -1,9 +1,3 @@
-pub mod Reserved
-pub mod Lists
-pub mod Shapes
-pub mod Carried
-pub mod Terms
-pub mod Scopes
 pub mod Limits
 pub mod Naming
 pub mod Sorting

@@ -5,17 +5,16 @@ use mathlib.Core.List.{List, [], _∷_, _++_}
 use lib.Dec.{eqb, ltb}
 use lib.ListN.{drop, length}
 use Rattle.forest.specs.Forest.{count, none, tree}
-use Rattle.forest.specs.Lists.{spelling}
-use Rattle.bits.specs.Operators.{sameBytes}
+use Rattle.forest.specs.Lists.{sameBytes, spelling}
 use Rattle.terms.specs.Labels.{Terms}
 use Rattle.words.specs.Trees.{list, literal, numeral, symbol, wordOf}
-use Rattle.reader.specs.Carried.{anyUncarried}
+use Rattle.shapes.specs.Carried.{anyUncarried}
 use Rattle.reader.specs.Limits.{Counts, headerPast, nodePast}
-use Rattle.reader.specs.Lists.{Items, closeOf, inside, is, isList, item}
+use Rattle.lexemes.specs.Lists.{Items, closeOf, inside, is, isList, item}
 use Rattle.reader.specs.Naming.{termNames}
-use Rattle.reader.specs.Scopes.{Defined, Function, Named, View}
+use Rattle.naming.specs.Scopes.{Defined, Function, Named, View}
 use Rattle.reader.specs.Script.{termOf}
-use Rattle.reader.specs.Shapes.{defineFunShape}
+use Rattle.shapes.specs.Shapes.{defineFunShape}
 use Rattle.reader.specs.Sorting.{bodyFault}
 
 -- The words of a header.
@@ -101,8 +100,8 @@ abbrev pub withBody : Body → Answered → Answered
 withBody t (refused number place) = refused number place
 withBody t (bodies ts) = bodies (t ∷ ts)
 
--- A `define-fun` of a response for the function f: "the response's commands likewise, each `define-fun` being shape and limits, header 12, then 7 and 8"; what follows
--- where it passes is `later`.
+-- A `define-fun` of a response for the function f: "the response's commands likewise, each `define-fun` being shape and limits, header 12, then 7 and 8";
+-- what follows where it passes is `later`.
 unfoldable pub judgedBody : Counts → (nowhere : ℕ) → (defs : List Defined) → Function → (at : ℕ) → Items → (later : Answered) → Answered
 judgedBody counts nowhere defs f at c later =
     let view = responseView defs f in

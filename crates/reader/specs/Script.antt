@@ -5,22 +5,26 @@ use mathlib.Core.List.{List, [], _∷_, _++_, map}
 use lib.Dec.{eqb, ltb}
 use lib.ListN.{length}
 use Rattle.forest.specs.Forest.{Forest, none, tree}
+use Rattle.bits.specs.Operators.{operatorCount}
 use Rattle.terms.specs.Labels.{Label, Terms, operator}
 use Rattle.terms.specs.Sorts.{Definition, Signature}
 use Rattle.grammar.specs.Derivation.{Item, anyArgument, anyLiteral, nonTerminal, the}
 use Rattle.words.specs.Trees.{Lexeme, wordOf}
-use Rattle.reader.specs.Carried.{notCarried}
-use Rattle.reader.specs.Grammars.{formOf, grammarMisfit, grammarOf, namedBy}
-use Rattle.reader.specs.Limits.{Counts, commandPast, grammarPast, headerPast, nodePast, widthPast, leastIn}
-use Rattle.reader.specs.Lists.{Items, inside, is, isList, item, nameOf}
-use Rattle.reader.specs.Naming.{groupNames, headerNames, newName, newPairs, sortName, termNames}
-use Rattle.reader.specs.Scopes.{Defined, Function, Named, View, definedNames, functionNames, namesOf}
-use Rattle.reader.specs.Shapes.{commandShape}
-use Rattle.reader.specs.Sorting.{bodyFault, groupFault, headerFault, pairZero, sortOf, zeroWidth}
-use Rattle.reader.specs.Terms.{rawTerm}
+use Rattle.shapes.specs.Carried.{notCarried}
+use Rattle.reader.specs.Grammars.{grammarMisfit, grammarOf}
+use Rattle.reader.specs.Limits.{Counts, commandPast, grammarPast, headerPast, nodePast}
+use Rattle.lexemes.specs.Lists.{Items, inside, is, isList, item, nameOf}
+use Rattle.reader.specs.Naming.{grammarNames, headerNames, termNames}
+use Rattle.declaring.specs.New.{namedBy, newName}
+use Rattle.naming.specs.Scopes.{Defined, Function, Named, View, definedNames, formOf, functionNames, namesOf, sortsOf}
+use Rattle.shapes.specs.Shapes.{commandShape}
+use Rattle.reader.specs.Sorting.{bodyFault, grammarFault}
+use Rattle.gathering.specs.Terms.{rawTerm}
+use Rattle.sorts.specs.Written.{headerPlace, sortOf, sortPlace}
+use Rattle.sorts.specs.declared.Fault.the-variants.{TooWide, Unknown, Empty}
 
--- What the commands before have said: whether the logic was set and `check-synth` was met; variables and constraints in script order; `define-fun`s and functions, the
--- last first.
+-- What the commands before have said: whether the logic was set and `check-synth` was met; variables and constraints in script order; `define-fun`s and
+-- functions, the last first.
 pub record Known : Type 0 where
   pub logic : Bool
   pub ended : Bool
@@ -57,7 +61,8 @@ argumentsOf c = namedBy (inside 2 c)
 abbrev pub viewOf : Known → Items → View
 viewOf k c = ruleView k (argumentsOf c) (namedBy (inside 4 c))
 
--- "those two out of place (the first command if it isn't `set-logic`; whatever follows `check-synth`)", a second `set-logic`, and `check-synth` before any `synth-fun`.
+-- "those two out of place (the first command if it isn't `set-logic`; whatever follows `check-synth`)", a second `set-logic`, and `check-synth` before any
+-- `synth-fun`.
 abbrev pub outOfPlace : Known → Items → Bool
 outOfPlace k c =
     k .ended
@@ -78,7 +83,7 @@ byCommand c nowhere declared defined synthesized constrained =
 unfoldable pub limitPlace : Counts → (nowhere : ℕ) → Known → (at : ℕ) → Items → ℕ
 limitPlace counts nowhere k at c =
     byCommand c nowhere
-    (min (commandPast nowhere (counts .variables) (length (k .variables)) at) (widthPast nowhere (item 2 c) (inside 2 c)))
+    (min (commandPast nowhere (counts .variables) (length (k .variables)) at) (sortPlace TooWide nowhere (item 2 c) (inside 2 c)))
     (min (commandPast nowhere (counts .defined) (length (k .defined)) at) (min (headerPast counts nowhere c) (nodePast counts nowhere (item 4 c) (inside 4 c))))
     (min (commandPast nowhere (counts .functions) (length (k .functions)) at) (min (headerPast counts nowhere c) (grammarPast counts nowhere c)))
     (min (commandPast nowhere (counts .constraints) (length (k .constraints)) at) (nodePast counts nowhere (item 1 c) (inside 1 c)))
@@ -87,19 +92,18 @@ limitPlace counts nowhere k at c =
 unfoldable pub namePlace : (nowhere : ℕ) → Known → Items → ℕ
 namePlace nowhere k c =
     byCommand c nowhere
-    (min (newName nowhere (scope k) (item 1 c)) (sortName nowhere (item 2 c)))
+    (min (newName nowhere (scope k) (item 1 c)) (sortPlace Unknown nowhere (item 2 c) (inside 2 c)))
     (min (headerNames nowhere (scope k) c) (termNames nowhere (bodyView k (argumentsOf c)) (item 4 c) (inside 4 c)))
-    (min (headerNames nowhere (scope k) c)
-    (min (newPairs nowhere (namesOf (argumentsOf c) ++ nameOf (item 1 c) ∷ scope k) (inside 4 c)) (leastIn nowhere (groupNames nowhere (viewOf k c)) (inside 5 c))))
+    (min (headerNames nowhere (scope k) c) (grammarNames nowhere (namesOf (argumentsOf c) ++ nameOf (item 1 c) ∷ scope k) (viewOf k c) c))
     (termNames nowhere (constraintView k) (item 1 c) (inside 1 c))
 
 -- 8 in a command.
-unfoldable pub sortPlace : (nowhere : ℕ) → Known → Items → ℕ
-sortPlace nowhere k c =
+unfoldable pub sortingPlace : (nowhere : ℕ) → Known → Items → ℕ
+sortingPlace nowhere k c =
     byCommand c nowhere
-    (zeroWidth nowhere (item 2 c) (inside 2 c))
-    (min (headerFault nowhere c) (bodyFault nowhere (bodyView k (argumentsOf c)) (sortOf (item 3 c) (inside 3 c)) (item 4 c) (inside 4 c)))
-    (min (headerFault nowhere c) (min (leastIn nowhere (pairZero nowhere) (inside 4 c)) (leastIn nowhere (groupFault nowhere (viewOf k c)) (inside 5 c))))
+    (sortPlace Empty nowhere (item 2 c) (inside 2 c))
+    (min (headerPlace Empty nowhere c) (bodyFault nowhere (bodyView k (argumentsOf c)) (sortOf (item 3 c) (inside 3 c)) (item 4 c) (inside 4 c)))
+    (min (headerPlace Empty nowhere c) (grammarFault nowhere (viewOf k c) c))
     (bodyFault nowhere (constraintView k) 0 (item 1 c) (inside 1 c))
 
 -- 9 in a command.
@@ -118,16 +122,16 @@ judged counts nowhere k at c said =
     (cond (not (commandShape c) || outOfPlace k c) (refused 5 at)
     (cond (ltb (limitPlace counts nowhere k at c) nowhere) (refused 4 (limitPlace counts nowhere k at c))
     (cond (ltb (namePlace nowhere k c) nowhere) (refused 7 (namePlace nowhere k c))
-    (cond (ltb (sortPlace nowhere k c) nowhere) (refused 8 (sortPlace nowhere k c))
+    (cond (ltb (sortingPlace nowhere k c) nowhere) (refused 8 (sortingPlace nowhere k c))
     (cond (ltb (grammarPlace nowhere k c) nowhere) (refused 9 (grammarPlace nowhere k c))
     (passed said))))))
 
 -- The label that a form's node is; in a body or a constraint there are no others.
 abbrev pub labelOf : Item → Label
 labelOf (the l) = l
-labelOf (nonTerminal A) = operator 0 0 0
-labelOf (anyLiteral s) = operator 0 0 0
-labelOf (anyArgument s) = operator 0 0 0
+labelOf (nonTerminal A) = operator operatorCount 0 0
+labelOf (anyLiteral s) = operator operatorCount 0 0
+labelOf (anyArgument s) = operator operatorCount 0 0
 
 -- The terms that forms without non-terminals are.
 unfoldable pub termsIn : Forest Item → Terms
@@ -141,7 +145,7 @@ termOf view l ops = termsIn (formOf view (rawTerm l ops))
 -- What is known after a command that passes, which is one of the six that are carried.
 unfoldable pub knownAfter : Known → Items → Known
 knownAfter k c =
-    let header : Signature = record { arguments = map (λ (a : Named). a .sort) (argumentsOf c); result = sortOf (item 3 c) (inside 3 c) } in
+    let header : Signature = record { arguments = sortsOf (argumentsOf c); result = sortOf (item 3 c) (inside 3 c) } in
     let variable : Named = record { name = nameOf (item 1 c); sort = sortOf (item 2 c) (inside 2 c) } in
     let definition : Definition = record { signature = header; body = termOf (bodyView k (argumentsOf c)) (item 4 c) (inside 4 c) } in
     let function : Function = record {
@@ -149,7 +153,7 @@ knownAfter k c =
       arguments = argumentsOf c;
       result = sortOf (item 3 c) (inside 3 c);
       nonTerminals = namedBy (inside 4 c);
-      grammar = grammarOf (viewOf k c) 0 (inside 5 c);
+      grammar = record { arguments = header .arguments; rules = grammarOf (viewOf k c) (inside 5 c) };
       before = length (k .defined);
     } in
     record {
@@ -166,8 +170,10 @@ abbrev pub andThen : Read → (Known → Read) → Read
 andThen (refused number place) next = refused number place
 andThen (passed k) next = next k
 
--- The commands of a script, one after the other: "commands, the first faulty one"; "where no command holds it .. that word; text length if the text ends early".
+-- The commands of a script, one after the other: "commands, the first faulty one"; "where no command holds it .. that word; text length if the text ends
+-- early". `nowhere` is the number of the script's words: it is past each of them, and as a place it is the end of the text.
 unfoldable pub readAll : Counts → (nowhere : ℕ) → Known → Items → Read
 readAll counts nowhere k none = cond (k .ended) (passed k) (refused 5 nowhere)
 readAll counts nowhere k (tree l c more) =
-    cond (isList l) (andThen (judged counts nowhere k (wordOf l) c (knownAfter k c)) (λ (later : Known). readAll counts nowhere later more)) (refused 5 (wordOf l))
+    let next : Known → Read = λ (later : Known). readAll counts nowhere later more in
+    cond (isList l) (andThen (judged counts nowhere k (wordOf l) c (knownAfter k c)) next) (refused 5 (wordOf l))

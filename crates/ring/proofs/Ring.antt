@@ -4,36 +4,29 @@ use Prim.Native.Nat.{ℕ, zero, suc, _<_}
 use native.Mathlib.Omega.{arith}
 use mathlib.Core.List.{List, [], _∷_}
 use lib.ListN.{length}
-use Rattle.forest.specs.Forest.{none, tree, count, size, join, nodesOf}
+use Rattle.forest.specs.Forest.{count, size, join, nodesOf}
 use Rattle.forest.specs.Rows.{rows}
-use Rattle.terms.specs.Labels.{Label, name}
 use Rattle.terms.specs.Nodes.{AllPlain, nodeTable}
-use Rattle.grammar.specs.Derivation.{the, nonTerminal, Rule, rule, headOf, formOf, Proper}
+use Rattle.grammar.specs.Derivation.{LeavesFit, Proper, formOf, headOf}
 use Rattle.grammar.specs.Tables.{formTable, rightSides, ruleTable}
 use Rattle.grammar.specs.Answer.{DerivePre, areaSize}
+use Rattle.grammar.proofs.Bench.{ring, ringBody}
 
--- the argument x, of 32 bits
-abbrev x : Label
-x = name 32 0
-
-abbrev G : List Rule
-G = rule 0 (tree (nonTerminal 1) none none) ∷ rule 1 (tree (nonTerminal 0) none none) ∷ rule 1 (tree (the x) none none) ∷ []
-
-low : (r : ℕ) → r < 3 → headOf G r < 16
+low : (r : ℕ) → r < 3 → headOf (ring .rules) r < 16
 unfolding headOf
 low zero h = omega arith
 low (suc zero) h = omega arith
 low (suc (suc zero)) h = omega arith
 low (suc (suc (suc r))) h = absurd (omega arith)
 
-proper : (r : ℕ) → r < 3 → Proper 16 (formOf G r)
+proper : (r : ℕ) → r < 3 → Proper 16 (formOf (ring .rules) r)
 unfolding formOf Proper
 proper zero h = (omega arith, refl, tt)
 proper (suc zero) h = (omega arith, refl, tt)
 proper (suc (suc zero)) h = (tt, tt, tt)
 proper (suc (suc (suc r))) h = absurd (omega arith)
 
-single : (r : ℕ) → r < 3 → count (formOf G r) ≡ 1
+single : (r : ℕ) → r < 3 → count (formOf (ring .rules) r) ≡ 1
 unfolding formOf count
 single zero h = refl
 single (suc zero) h = refl
@@ -42,12 +35,18 @@ single (suc (suc (suc r))) h = absurd (omega arith)
 
 pub ring-pre : {k : ℕ} {area : List ℕ} → k < 8 → length area ≡ areaSize
     → DerivePre (0 ∷ 0 ∷ 1 ∷ 1 ∷ 2 ∷ 1 ∷ []) (5 ∷ 1 ∷ 0 ∷ 1 ∷ 5 ∷ 0 ∷ 0 ∷ 1 ∷ 513 ∷ 0 ∷ 0 ∷ 1 ∷ []) (513 ∷ 0 ∷ 0 ∷ 1 ∷ []) k area
-unfolding AllPlain count formTable join nodeTable nodesOf rightSides rows ruleTable size
+unfolding AllPlain LeavesFit count formTable join nodeTable nodesOf rightSides rows ruleTable size
 ring-pre k sized = record {
   given = record {
-    G = G;
-    F = tree x none none;
-    holds = record { is-rules = refl; is-forms = refl; is-body = refl; plain = (tt, tt, tt) };
+    G = ring;
+    F = ringBody;
+    holds = record {
+      is-rules = refl;
+      is-forms = refl;
+      is-body = refl;
+      plain = (tt, tt, tt);
+      leaves = (record { declared = omega arith; sort = refl }, tt, tt);
+    };
     admitted = record { few = omega arith; low = low; proper = proper; single = single };
   };
   one = refl;

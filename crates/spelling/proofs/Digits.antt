@@ -63,7 +63,8 @@ module _ (base : ℕ) (w : List ℕ) (i v d : ℕ) (h : i < length w) (e : d ≡
         let p : base ^ (i + 1) ≤ base ^ length w = pow-le-pow-right z n in
         omega arith
 
-pub spell-mul : (base : ℕ) (w : List ℕ) (i v : ℕ) → i < length w → digitsBelow base (drop i w) ≡ true → v < base ^ i → base ^ length w ≤ 2 ^ 64 → v * base < 2 ^ 64
+pub spell-mul : (base : ℕ) (w : List ℕ) (i v : ℕ) → i < length w → digitsBelow base (drop i w) ≡ true → v < base ^ i → base ^ length w ≤ 2 ^ 64
+    → v * base < 2 ^ 64
 spell-mul base w i v h below hv top = omega (arith, spell-add base w i v _ h refl below hv top)
 
 pub spell-ends : (base : ℕ) (w : List ℕ) (i v : ℕ) → length w ≤ i → spelled base v (drop i w) ≡ spelled base 0 w → v ≡ spelled base 0 w
@@ -75,7 +76,8 @@ abbrev pub digitIn : Class → (base : ℕ) → ℕ → Bool
 digitIn class base b = not (inClass class b) || ltb (digitValue b) base
 
 -- bytes of a class are digits below the base where the test passes at every byte
-pub all-below : (class : Class) (base : ℕ) → T (every 256 (digitIn class base)) → (w : List ℕ) → ((i : ℕ) → getD w i 0 < 256) → allIn class w ≡ true → digitsBelow base w ≡ true
+pub all-below : (class : Class) (base : ℕ) → T (every 256 (digitIn class base))
+    → (w : List ℕ) → ((i : ℕ) → getD w i 0 < 256) → allIn class w ≡ true → digitsBelow base w ≡ true
 unfolding allIn digitsBelow
 all-below class base t [] bytes e = refl
 all-below class base t (b ∷ w) bytes e = go (inClass class b) refl (all-below class base t w (λ i. bytes (suc i)))

@@ -154,7 +154,9 @@ module _ (w : List ℕ) (some : length w ≡ 0 → ⊥) where
   lent : take (length w - 1) (drop 1 w) ≡ drop 1 w
   lent = take-all (length w - 1) (drop 1 w) (simp length-drop (omega arith))
 
-  hashed-cut : hashed w ≡ cond (eqb (getD w 0 0) (code "x")) (literal HexDigits 4 (drop 1 w)) (cond (eqb (getD w 0 0) (code "b")) (literal BinaryDigits 1 (drop 1 w)) (Faulty BadWord))
+  hashed-cut : hashed w ≡
+      cond (eqb (getD w 0 0) (code "x")) (literal HexDigits 4 (drop 1 w))
+      (cond (eqb (getD w 0 0) (code "b")) (literal BinaryDigits 1 (drop 1 w)) (Faulty BadWord))
   unfolding hashed
   hashed-cut = ap hashed first-byte
 

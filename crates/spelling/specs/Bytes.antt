@@ -1,29 +1,9 @@
--- Kinds of bytes.
+-- Kinds of bytes of which words are made.
 use Prim.Native.Nat.{ℕ}
 use Prim.Native.Char.{code}
 use mathlib.Core.Bool.{Bool, _||_, _&&_}
 use lib.Dec.{eqb, leb}
 use Rattle.forest.specs.Lists.{among, spelling}
-
--- "White space is 9, 10, 13, 32."
-abbrev pub white : ℕ → Bool
-white b = eqb b 9 || eqb b 10 || eqb b 13 || eqb b 32
-
--- "A comment runs from `;` .."
-abbrev pub commentStart : ℕ → Bool
-commentStart b = eqb b (code ";")
-
--- ".. to the next 10 or 13 or the end, and may hold any byte."
-abbrev pub commentEnd : ℕ → Bool
-commentEnd b = eqb b 10 || eqb b 13
-
--- "A word is `(`, `)` .."
-abbrev pub bracket : ℕ → Bool
-bracket b = eqb b (code "(") || eqb b (code ")")
-
--- ".. or a longest run of bytes up to white space, a bracket, `;` or the end."
-abbrev pub delimiter : ℕ → Bool
-delimiter b = white b || bracket b || commentStart b
 
 -- "A word that begins with `"`, `|` or `:` is answer 6."
 abbrev pub uncarried : ℕ → Bool

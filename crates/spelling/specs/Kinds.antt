@@ -1,7 +1,7 @@
 -- What a word is, by its bytes.
 use Prim.Native.Nat.{ℕ, _+_, _-_, _*_, _^_}
 use Prim.Native.Char.{code}
-use mathlib.Core.Bool.{Bool, true, false, cond, _&&_, _||_, not}
+use mathlib.Core.Bool.{Bool, true, cond, _&&_, _||_, not}
 use mathlib.Core.List.{List, [], _∷_}
 use lib.ListN.{length, getD}
 use lib.Dec.{eqb, leb}
@@ -76,21 +76,3 @@ kindOf (b ∷ w) =
     (cond (digit b) (numeral (b ∷ w))
     (cond (eqb b (code "#")) (hashed w)
     (symbol (b ∷ w))))))
-
--- Whether a word is `(`.
-abbrev pub opens : Kind → Bool
-opens Open = true
-opens Close = false
-opens (Numeral v) = false
-opens (Literal width v) = false
-opens Symbol = false
-opens (Faulty fault) = false
-
--- Whether a word is `)`.
-abbrev pub closes : Kind → Bool
-closes Close = true
-closes Open = false
-closes (Numeral v) = false
-closes (Literal width v) = false
-closes Symbol = false
-closes (Faulty fault) = false

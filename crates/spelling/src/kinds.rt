@@ -11,7 +11,7 @@ ghost use mathlib.Core.Path.{_≡_};
 ghost use mathlib.Core.Bool.{true};
 ghost use Prim.Native.Nat.{_-_, _^_, _<_, _≤_};
 ghost use lib.ListN.{length};
-ghost use Rattle.spelling.specs.Kinds.{allIn, closes, digitValue, hashed, inClass, kindOf, literal, numeral, opens, spelled, symbol};
+ghost use Rattle.spelling.specs.Kinds.{allIn, digitValue, hashed, inClass, kindOf, literal, numeral, spelled, symbol};
 ghost use Rattle.spelling.specs.Steps.{Radix, digitsBelow};
 
 // A numeral's digits, a literal's bits and a symbol's bytes at the most.
@@ -22,14 +22,14 @@ const LITERAL_BITS: usize = 64;
 const SYMBOL_BYTES: usize = 64;
 
 // Whether a byte belongs to a class.
-fn in_class(class: Class, b: u8) -> bool
-    ensures { λ r. ⌜ r ≡ inClass class b ⌝ }
+fn in_class(class: Class, byte: u8) -> bool
+    ensures { λ r. ⌜ r ≡ inClass class byte ⌝ }
 {
     match class {
-        Class::Digits => is_digit(b),
-        Class::HexDigits => is_hex_digit(b),
-        Class::BinaryDigits => is_binary_digit(b),
-        Class::SymbolBytes => in_symbol(b),
+        Class::Digits => is_digit(byte),
+        Class::HexDigits => is_hex_digit(byte),
+        Class::BinaryDigits => is_binary_digit(byte),
+        Class::SymbolBytes => in_symbol(byte),
     }
 }
 
@@ -47,25 +47,25 @@ fn all_in(class: Class, word: &[u8]) -> bool
     true
 }
 
-// a - b, or 0 where b is more.
-fn less(a: u64, b: u64) -> u64
-    ensures { λ r. ⌜ r ≡ a - b ⌝ }
+// What is left of a number without another, 0 where that is more.
+fn less(number: u64, other: u64) -> u64
+    ensures { λ r. ⌜ r ≡ number - other ⌝ }
 {
-    if b <= a { a - b } else { 0 }
+    if other <= number { number - other } else { 0 }
 }
 
 // The value of a digit of base 16 or less.
-fn digit_value(b: u8) -> u64
-    ensures { λ r. ⌜ r ≡ digitValue b ⌝ }
+fn digit_value(byte: u8) -> u64
+    ensures { λ r. ⌜ r ≡ digitValue byte ⌝ }
 {
-    let d = b as u64;
-    if d <= 57 {
-        return less(d, 48);
+    let code = byte as u64;
+    if code <= 57 {
+        return less(code, 48);
     }
-    if d <= 70 {
-        return 10 + less(d, 65);
+    if code <= 70 {
+        return 10 + less(code, 65);
     }
-    10 + less(d, 97)
+    10 + less(code, 97)
 }
 
 // The number that digits spell in a base.
@@ -146,49 +146,21 @@ pub fn kind_of(word: &[u8]) -> Kind
     if word.len() == 0 {
         return Kind::Faulty(Fault::BadWord);
     }
-    let b = word[0];
-    if b == b'(' {
+    let first = word[0];
+    if first == b'(' {
         return Kind::Open;
     }
-    if b == b')' {
+    if first == b')' {
         return Kind::Close;
     }
-    if is_uncarried(b) {
+    if is_uncarried(first) {
         return Kind::Faulty(Fault::NotCarried);
     }
-    if is_digit(b) {
+    if is_digit(first) {
         return numeral_of(word);
     }
-    if b == b'#' {
+    if first == b'#' {
         return hashed_of(&word[1..]);
     }
     symbol_of(word)
-}
-
-// Whether a word is `(`.
-pub fn is_open(kind: Kind) -> bool
-    ensures { λ r. ⌜ r ≡ opens kind ⌝ }
-{
-    match kind {
-        Kind::Open => true,
-        Kind::Close => false,
-        Kind::Numeral(_) => false,
-        Kind::Literal(_, _) => false,
-        Kind::Symbol => false,
-        Kind::Faulty(_) => false,
-    }
-}
-
-// Whether a word is `)`.
-pub fn is_close(kind: Kind) -> bool
-    ensures { λ r. ⌜ r ≡ closes kind ⌝ }
-{
-    match kind {
-        Kind::Close => true,
-        Kind::Open => false,
-        Kind::Numeral(_) => false,
-        Kind::Literal(_, _) => false,
-        Kind::Symbol => false,
-        Kind::Faulty(_) => false,
-    }
 }

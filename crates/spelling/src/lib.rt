@@ -1,5 +1,5 @@
 //! Words by their bytes: what a word is, or why it is refused.
-pub mod bytes;
+mod bytes;
 pub mod kinds;
 
 // The classes of bytes of which words are made.

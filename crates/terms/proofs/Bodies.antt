@@ -15,7 +15,8 @@ use Rattle.forest.specs.Forest.{count, from, join, nodesOf, none, size, tree}
 use Rattle.forest.specs.Rows.{numberAt, rows}
 use Rattle.bits.specs.Sorts.{when}
 use Rattle.terms.specs.Labels.{Label, Terms, defined, function, literal, name, operator}
-use Rattle.terms.specs.Nodes.{AllPlain, Plain, codeAt, codeOf, definedKind, literalKind, nameKind, nodeRow, nodeTable, operandsAt, operatorKind, rowWidth, sizeAt, valueAt, valueOf}
+use Rattle.terms.specs.Nodes.{AllPlain, Plain, codeAt, codeOf, definedKind, literalKind, nameKind, nodeRow, nodeTable, operandsAt, operatorKind, rowWidth}
+use Rattle.terms.specs.Nodes.{sizeAt, valueAt, valueOf}
 use Rattle.terms.specs.Sorts.{Scope, Signature, calledSort, labelSort, sameSorts, sortsOf}
 use Rattle.terms.proofs.Sorted.{sorted, sorts-tree}
 
@@ -126,4 +127,4 @@ module _ (defs funs : List Signature) (scope : Scope) where
   sorts-more (tree l ops rest) h =
       let p = sorted scope l ops rest h in
       let label = label-more l (p .operands) (p .label) in
-      rw (← p .all) (sorts-tree (moreKnown defs funs scope) l ops rest label (sorts-more ops (p .ops-sorts)) (sorts-more rest (p .rest-sorts)))
+      rw (← p .together) (sorts-tree (moreKnown defs funs scope) l ops rest label (sorts-more ops (p .ops-have)) (sorts-more rest (p .rest-have)))

@@ -17,7 +17,8 @@ use Rattle.bits.specs.Sorts.{AllFit, Fit, maxWidth, valuesOf}
 use Rattle.bits.specs.Sorts.AllFit.{nothing as no-more, also}
 use Rattle.terms.specs.Labels.{Label, Terms, defined, function, literal, name, operator}
 use Rattle.terms.specs.Sorts.{AllSorted, BodySorted, Definition, FunctionsSorted, Scope, Signature, calledSort, labelSort, sameSorts, signatures, sortsOf}
-use Rattle.terms.specs.Values.{Meaning, called, definedValue, functionValue, labelValue, meaningAt, numbersIn, operatorGives, resultOf, sortsIn, value, valueOver, valueWhen, valuesIn, withValue}
+use Rattle.terms.specs.Values.{Meaning, called, definedValue, functionValue, labelValue, meaningAt, numbersIn, operatorGives, resultOf, sortsIn, value}
+use Rattle.terms.specs.Values.{valueOver, valueWhen, valuesIn, withValue}
 use Rattle.terms.specs.declared.Value.{Value}
 use Rattle.terms.proofs.Sorted.{sorted}
 
@@ -56,6 +57,24 @@ fit-at no-more k h = absurd (omega arith)
 fit-at (also f more) zero h = f
 fit-at (also f more) (suc k) h = fit-at more k (omega arith)
 
+-- A literal that passes its test is a value of its sort.
+pub literal-fits : (s v : ℕ) (empty : Bool) → (leb s maxWidth && ltb v (valuesOf s) && empty) ≡ true → Fit s v
+literal-fits s v empty t =
+    let sort = leb s maxWidth in
+    let below = ltb v (valuesOf s) in
+    let p = and-left (sort && below) empty t in
+    record { sort = leb-true _ _ (and-left sort below p); value = ltb-true _ _ (and-right sort below p) }
+
+-- A name that passes its test has a value of its sort.
+pub name-fits : (vs : List Value) (s k : ℕ) (empty : Bool) → Fits vs → (ltb k (length vs) && eqb (getD (sortsIn vs) k 0) s && empty) ≡ true
+    → Fit s (getD (numbersIn vs) k 0)
+name-fits vs s k empty f t =
+    let known = ltb k (length vs) in
+    let same = eqb (getD (sortsIn vs) k 0) s in
+    let p = and-left (known && same) empty t in
+    let e : getD (sortsIn vs) k 0 ≡ s = eqb-true _ _ (and-right known same p) in
+    rw e at (fit-at f k (rw length-map (ltb-true _ _ (and-left known same p))))
+
 -- A value that the test of its sort lets pass.
 given-when : (test : Bool) {s r v : ℕ} → cond test (some s) nothing ≡ some r → (test ≡ true → Fit s v) → Given (valueWhen test (value s v)) r
 given-when test {s} {r} {v} h f =
@@ -67,23 +86,9 @@ module _ {scope : Scope} {meaning : Meaning} (suits : Suits scope meaning) where
   -- A label that has a sort over the sorts of its operands has a value of that sort over their values.
   label-given : (l : Label) (vs : List Value) {s : ℕ} → Fits vs → labelSort scope l (sortsIn vs) ≡ some s → Given (labelValue meaning l vs) s
   unfolding labelSort labelValue operatorGives
-  label-given (literal s v w) vs f h =
-      let sort = leb s maxWidth in
-      let below = ltb v (valuesOf s) in
-      let empty = eqb (length vs) 0 in
-      given-when (sort && below && empty) (rw length-map at h)
-      (λ t.
-      let p = and-left (sort && below) empty t in
-      record { sort = leb-true _ _ (and-left sort below p); value = ltb-true _ _ (and-right sort below p) })
+  label-given (literal s v w) vs f h = given-when _ (rw length-map at h) (literal-fits s v (eqb (length vs) 0))
   label-given (name s k) vs f h =
-      let known = ltb k (length (meaning .names)) in
-      let same = eqb (getD (sortsIn (meaning .names)) k 0) s in
-      let empty = eqb (length vs) 0 in
-      given-when (known && same && empty) (rw (← suits .names, length-map, length-map) at h)
-      (λ t.
-      let p = and-left (known && same) empty t in
-      let e : getD (sortsIn (meaning .names)) k 0 ≡ s = eqb-true _ _ (and-right known same p) in
-      rw e at (fit-at (suits .fit) k (rw length-map (ltb-true _ _ (and-left known same p)))))
+      given-when _ (rw (← suits .names, length-map, length-map) at h) (name-fits (meaning .names) s k (eqb (length vs) 0) (suits .fit))
   label-given (operator o i j) vs f h =
       rw h (record { v = value _ (operatorValue o i j (sortsIn vs) (numbersIn vs)); is = refl; sort = refl; fit = closed o i j f h })
   label-given (defined k) vs f h = suits .defined .gives k vs f h
@@ -95,13 +100,13 @@ module _ {scope : Scope} {meaning : Meaning} (suits : Suits scope meaning) where
   terms-valued none h = record { vs = []; is = refl; sorts = cc; fit = no-more }
   terms-valued (tree l ops rest) h =
       let p = sorted scope l ops rest h in
-      let o = terms-valued ops (p .ops-sorts) in
-      let r = terms-valued rest (p .rest-sorts) in
-      let g = label-given l (o .vs) {s = p .sort} (o .fit) (rw (o .sorts) (p .label)) in
+      let o = terms-valued ops (p .ops-have) in
+      let r = terms-valued rest (p .rest-have) in
+      let g = label-given l (o .vs) {s = p .first} (o .fit) (rw (o .sorts) (p .label)) in
       record {
         vs = g .v ∷ r .vs;
         is = rw (o .is, r .is, g .is);
-        sorts = rw (g .sort, r .sorts, p .all);
+        sorts = rw (g .sort, r .sorts, p .together);
         fit = also (g .fit) (r .fit);
       }
 

@@ -13,7 +13,8 @@ use Rattle.bits.specs.Operators.{operatorSort}
 use Rattle.bits.specs.Sorts.{maxWidth, valuesOf, when}
 use Rattle.terms.specs.Labels.{Label, Terms, defined, function, literal, name, operator}
 use Rattle.terms.specs.Sorts.{Definition, Scope, Signature, calledSort, labelSort, sameSorts, signatures, sortOver, sortsOf, withSort}
-use Rattle.terms.specs.Values.{Meaning, called, definedValue, functionValue, labelValue, numbersIn, operatorGives, resultOf, sortsIn, value, valueOver, valuesAt, valuesIn, withValue}
+use Rattle.terms.specs.Values.{Meaning, called, definedValue, functionValue, labelValue, numbersIn, operatorGives, resultOf, sortsIn, value, valueOver}
+use Rattle.terms.specs.Values.{valuesAt, valuesIn, withValue}
 use Rattle.terms.specs.declared.Value.{Value}
 use Rattle.terms.proofs.Sound.{pointScope}
 

@@ -33,8 +33,8 @@ codeOf (operator o i j) = operatorKind + 16 * o
 codeOf (defined k) = definedKind
 codeOf (function k) = functionKind
 
--- The value of a label: a literal's, the numbers of `(_ extract i j)`, or which name or function it is. It tells i and j only where j is below 64 (`Plain`), which
--- the bounds of `extract` see to.
+-- The value of a label: a literal's, the numbers of `(_ extract i j)`, or which name or function it is. It tells i and j only where j is below 64
+-- (`Plain`), which the bounds of `extract` see to.
 abbrev pub valueOf : Label → ℕ
 valueOf (literal s v w) = v
 valueOf (name s k) = k

@@ -16,10 +16,11 @@ use Rattle.terms.specs.declared.Value.{Value}
 abbrev pub value : (sort number : ℕ) → Value
 value sort number = record { sort = sort; number = number }
 
--- The sorts of values, and their numbers.
+-- The sorts of values.
 abbrev pub sortsIn : List Value → List ℕ
 sortsIn vs = map (λ (v : Value). v .sort) vs
 
+-- The numbers of values.
 abbrev pub numbersIn : List Value → List ℕ
 numbersIn vs = map (λ (v : Value). v .number) vs
 
@@ -42,7 +43,8 @@ operatorGives (some s) number = some (value s number)
 unfoldable pub labelValue : Meaning → Label → (vs : List Value) → Option Value
 labelValue meaning (literal s v w) vs = valueWhen (leb s maxWidth && ltb v (valuesOf s) && eqb (length vs) 0) (value s v)
 labelValue meaning (name s k) vs =
-    valueWhen (ltb k (length (meaning .names)) && eqb (getD (sortsIn (meaning .names)) k 0) s && eqb (length vs) 0) (value s (getD (numbersIn (meaning .names)) k 0))
+    valueWhen (ltb k (length (meaning .names)) && eqb (getD (sortsIn (meaning .names)) k 0) s && eqb (length vs) 0)
+    (value s (getD (numbersIn (meaning .names)) k 0))
 labelValue meaning (operator o i j) vs = operatorGives (operatorSort o i j (sortsIn vs)) (operatorValue o i j (sortsIn vs) (numbersIn vs))
 labelValue meaning (defined k) vs = meaning .defined k vs
 labelValue meaning (function k) vs = meaning .functions k vs
@@ -70,7 +72,8 @@ resultOf result (some []) = nothing
 resultOf result (some (v ∷ [])) = valueWhen (eqb (v .sort) result) v
 resultOf result (some (v ∷ u ∷ more)) = nothing
 
--- The value of a function over arguments of the values vs: its body's, where they are of its arguments' sorts; `earlier` says what the `define-fun`s before it give.
+-- The value of a function over arguments of the values vs: its body's, where they are of its arguments' sorts; `earlier` says what the `define-fun`s
+-- before it give.
 unfoldable pub called : (earlier : ℕ → List Value → Option Value) → Definition → (vs : List Value) → Option Value
 called earlier d vs =
     cond (sameSorts (sortsIn vs) (d .signature .arguments))

@@ -1,8 +1,8 @@
 //! Records and their fields.
 use crate::report::report_text;
 use libc::STDOUT_FILENO;
-use words::response_limits;
-use words::script_limits;
+use readings::response_limits;
+use readings::script_limits;
 ghost use mathlib.Core.Path.{_≡_};
 ghost use Prim.Native.Nat.{min, _≤_, _<_, _+_};
 ghost use lib.ListN.{length};

@@ -2,12 +2,12 @@
 use crate::digest::digest_of;
 use crate::hex::decode;
 use libc::STDOUT_FILENO;
-use words::Limits;
-use words::Reading;
+use readings::Limits;
+use readings::Reading;
+use readings::answers::number_of;
+use readings::answers::passed_of;
+use readings::answers::place_of;
 use words::read_words;
-use words::scan::number_of;
-use words::scan::passed_of;
-use words::scan::place_of;
 use words::word_at;
 ghost use mathlib.Core.Path.{_≡_};
 ghost use lib.ListN.{length};

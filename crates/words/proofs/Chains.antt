@@ -8,51 +8,20 @@ use mathlib.Core.List.{List, [], _∷_, _++_, append-assoc, map, map-append}
 use borrow.Author.Tests.{eq-eqb, eqb-false, eqb-true, ne-eqb}
 use lib.Dec.{eqb}
 use lib.ListN.{length, drop, set, take, drop-of-length-le, length-append, length-drop, length-map, length-set}
-use lib.Seq.{drop-append-add, drop-at, drop-drop, length-take-le, sets, take-at}
+use lib.Seq.{drop-append-add, drop-at, drop-drop, length-take-le, take-at}
 use Rattle.forest.specs.Rows.{rows}
 use Rattle.forest.proofs.Lists.{Stands, drop-more, stands, take-more, within}
 use Rattle.forest.proofs.Rows.{length-rows, row-at, row-set}
-use Rattle.spelling.specs.Kinds.{closes, opens}
+use Rattle.words.specs.Table.{closes, opens, Entry, closeOf, entries, kindNumber, nextOf, row, wordTable}
+use Rattle.words.proofs.Offsets.{drop-past}
 use Rattle.words.specs.Steps.{Closing, Linked, Linking, Next, linkedFrom, unlinked}
-use Rattle.words.specs.Table.{Entry, closeOf, entries, kindAt, kindNumber, nextAt, nextOf, row, wordTable}
+use Rattle.readings.specs.Table.{kindAt, nextAt}
 use Rattle.words.specs.Words.{Word}
 use Rattle.spelling.specs.declared.Kind.{Kind}
-use Rattle.spelling.specs.declared.Kind.the-variants.{Open, Close, Numeral, Literal, Symbol, Faulty}
 
--- five numbers written one after the other
-pub row-written : (l : List ℕ) (i a b c d e : ℕ) → set (set (set (set (set l i a) (i + 1) b) (i + 2) c) (i + 3) d) (i + 4) e ≡ sets l i (a ∷ b ∷ c ∷ d ∷ e ∷ [])
-row-written l i a b c d e =
-    let one : i + 1 ≡ suc i = omega arith in
-    let two : i + 2 ≡ suc (suc i) = omega arith in
-    let three : i + 3 ≡ suc (suc (suc i)) = omega arith in
-    let four : i + 4 ≡ suc (suc (suc (suc i))) = omega arith in
-    rw (one, two, three, four)
-
--- ---- kinds by their numbers
-
-open-number : (kind : Kind) → opens kind ≡ eqb (kindNumber kind) 1
-open-number Open = refl
-open-number Close = refl
-open-number (Numeral v) = refl
-open-number (Literal width v) = refl
-open-number Symbol = refl
-open-number (Faulty fault) = refl
-
-close-number : (kind : Kind) → closes kind ≡ eqb (kindNumber kind) 2
-close-number Open = refl
-close-number Close = refl
-close-number (Numeral v) = refl
-close-number (Literal width v) = refl
-close-number Symbol = refl
-close-number (Faulty fault) = refl
-
+-- what is `)` is not `(`
 close-apart : (kind : Kind) → closes kind ≡ true → opens kind ≡ false
-close-apart Open e = let z : _≡_ {A = Bool} false true = e in cc
-close-apart Close e = refl
-close-apart (Numeral v) e = refl
-close-apart (Literal width v) e = refl
-close-apart Symbol e = refl
-close-apart (Faulty fault) e = refl
+close-apart kind e = rw (eqb-true (kindNumber kind) 2 e)
 
 -- ---- where lists are closed
 
@@ -60,7 +29,9 @@ close-apart (Faulty fault) e = refl
 pub close-bounds : (ws : List Word) (inner i : ℕ) → (i ≤ closeOf ws inner i) × (closeOf ws inner i ≤ i + length ws)
 unfolding closeOf
 close-bounds [] inner i = omega arith
-close-bounds (w ∷ ws) inner i = go (opens (w .kind)) (closes (w .kind)) (eqb inner 0) (close-bounds ws (inner + 1) (i + 1)) (close-bounds ws (inner - 1) (i + 1)) (close-bounds ws inner (i + 1))
+close-bounds (w ∷ ws) inner i =
+    go (opens (w .kind)) (closes (w .kind)) (eqb inner 0)
+    (close-bounds ws (inner + 1) (i + 1)) (close-bounds ws (inner - 1) (i + 1)) (close-bounds ws inner (i + 1))
   where
     Within : ℕ → Type 0
     Within x = (i + 1 ≤ x) × (x ≤ i + 1 + length ws)
@@ -71,9 +42,6 @@ close-bounds (w ∷ ws) inner i = go (opens (w .kind)) (closes (w .kind)) (eqb i
     go false true true p q r = omega arith
     go false true false p q r = omega (arith, q)
     go false false z p q r = omega (arith, r)
-
-pub drop-past : (w : Word) (ws : List Word) (i m : ℕ) → i + 1 ≤ m → drop (m - i) (w ∷ ws) ≡ drop (m - (i + 1)) ws
-drop-past w ws i m h = let q : m - i ≡ suc (m - (i + 1)) = omega arith in rw q
 
 -- past the bracket that closes the lists within, one list is still open
 deeper : (ws : List Word) (inner i : ℕ) → closeOf ws (inner + 1) i ≡ closeOf (drop (closeOf ws inner i - i) ws) 0 (closeOf ws inner i)
@@ -102,7 +70,8 @@ deeper (w ∷ ws) inner i = go (opens (w .kind)) refl (closes (w .kind)) refl (e
     go false eo false ec z ez r = rw (eo, ec) (skip inner (r inner))
 
 -- what follows a word, or the list that it begins, is in the same list
-close-next : (w : Word) (more : List Word) (i : ℕ) → closes (w .kind) ≡ false → closeOf (w ∷ more) 0 i ≡ closeOf (drop (nextOf w more i - i) (w ∷ more)) 0 (nextOf w more i)
+close-next : (w : Word) (more : List Word) (i : ℕ) → closes (w .kind) ≡ false
+    → closeOf (w ∷ more) 0 i ≡ closeOf (drop (nextOf w more i - i) (w ∷ more)) 0 (nextOf w more i)
 unfolding closeOf nextOf
 close-next w more i ec = go (opens (w .kind)) refl
   where
@@ -118,9 +87,17 @@ next-bounds w more i = go (opens (w .kind)) (close-bounds more 0 (i + 1))
     go true r = omega (arith, r)
     go false r = omega arith
 
+-- the same among all words, by index
+pub close-on : (ws : List Word) (i : ℕ) (w : Word) (more : List Word) → drop i ws ≡ w ∷ more → closes (w .kind) ≡ false → (next : ℕ) → nextOf w more i ≡ next
+    → closeOf (drop i ws) 0 i ≡ closeOf (drop next ws) 0 next
+close-on ws i w more here apart next is-next =
+    let reach : i + (next - i) ≡ next = omega (arith, next-bounds w more i) in
+    rw (here, close-next w more i apart, is-next, ← here, drop-drop (next - i) i ws, reach)
+
 -- ---- the entries of words, from an index on
 
-entries-drop : (ws : List Word) (i j : ℕ) → drop j (entries ws i) ≡ entries (drop j ws) (i + j)
+-- the words from index j on, each with the index past it
+pub entries-drop : (ws : List Word) (i j : ℕ) → drop j (entries ws i) ≡ entries (drop j ws) (i + j)
 unfolding entries
 entries-drop ws i zero = rw add-zero
 entries-drop [] i (suc j) = refl
@@ -153,7 +130,8 @@ says : {table : List ℕ} {count at : ℕ} (e : Linking table count at) (i : ℕ
 unfolding entries
 says {table} {count} {at} e i low high =
     let st = stands (e .ws) i (omega (arith, e .counted)) in
-    let entry : drop i (linkedFrom (e .ws) at) ≡ record { word = st .here; next = nextOf (st .here) (drop (i + 1) (e .ws)) i } ∷ entries (drop (i + 1) (e .ws)) (i + 1) =
+    let later = drop (i + 1) (e .ws) in
+    let entry : drop i (linkedFrom (e .ws) at) ≡ record { word = st .here; next = nextOf (st .here) later i } ∷ entries later (i + 1) =
     linked-drop (e .ws) at i low (omega (arith, e .counted)) ∙ ap (λ (l : List Word). entries l i) (st .is) in
     record {
       w = st .here;
@@ -187,7 +165,7 @@ module _ {table : List ℕ} {count at i : ℕ} (inside : Inside table count at i
     unfolding closeOf
     inside-closes c e =
         let y = says e i (inside .low) h in
-        let shut : closes (y .w .kind) ≡ true = close-number (y .w .kind) ∙ eq-eqb _ 2 (sym (y .kind-is) ∙ sym ek ∙ c) in
+        let shut : closes (y .w .kind) ≡ true = eq-eqb _ 2 (sym (y .kind-is) ∙ sym ek ∙ c) in
         let first : closeOf (drop i (e .ws)) 0 i ≡ i + 1 = rw (y .here, close-apart _ shut, shut) in
         sym first ∙ inside .same e
 
@@ -209,10 +187,8 @@ module _ {table : List ℕ} {count at i : ℕ} (inside : Inside table count at i
           goes : (e : Linking table count at) → closeOf (drop i (e .ws)) 0 i ≡ closeOf (drop next (e .ws)) 0 next
           goes e =
               let y = says e i (inside .low) h in
-              let apart : closes (y .w .kind) ≡ false = close-number (y .w .kind) ∙ ne-eqb _ 2 (λ q. other (ek ∙ y .kind-is ∙ q)) in
-              let is-next : nextOf (y .w) (y .more) i ≡ next = sym (y .next-is) ∙ sym en in
-              let reach : i + (next - i) ≡ next = omega (arith, next-bounds (y .w) (y .more) i) in
-              rw (y .here, close-next (y .w) (y .more) i apart, is-next, ← y .here, drop-drop (next - i) i (e .ws), reach)
+              let apart : closes (y .w .kind) ≡ false = ne-eqb _ 2 (λ q. other (ek ∙ y .kind-is ∙ q)) in
+              close-on (e .ws) i (y .w) (y .more) (y .here) apart next (sym (y .next-is) ∙ sym en)
 
 -- ---- a word that is to be linked
 
@@ -238,11 +214,11 @@ module _ (table : List ℕ) (count i kind : ℕ) (ek : kind ≡ kindAt table i) 
 
   pub next-open : kind ≡ 1 → (r : ℕ) → Closing table count (i + 1) r → Next table count i r
   unfolding nextOf
-  next-open c r closing e w h = rw (open-number (w .kind) ∙ eq-eqb _ 1 (sym (kind-here e w _ h) ∙ sym ek ∙ c)) (closing e)
+  next-open c r closing e w h = rw (eq-eqb _ 1 (sym (kind-here e w _ h) ∙ sym ek ∙ c)) (closing e)
 
   pub next-word : (kind ≡ 1 → ⊥) → Next table count i (i + 1)
   unfolding nextOf
-  next-word n e w h = rw (open-number (w .kind) ∙ ne-eqb _ 1 (λ q. n (ek ∙ kind-here e w _ h ∙ q)))
+  next-word n e w h = rw (ne-eqb _ 1 (λ q. n (ek ∙ kind-here e w _ h ∙ q)))
 
 -- the row of word i, linked
 link-row : (ws : List Word) (rest : List ℕ) (i : ℕ) (w : Word) → drop i ws ≡ w ∷ drop (i + 1) ws → (next : ℕ) → next ≡ nextOf w (drop (i + 1) ws) i

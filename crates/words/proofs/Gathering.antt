@@ -11,13 +11,13 @@ use lib.Dec.{eqb}
 use lib.ListN.{length, drop, drop-of-length-le}
 use lib.Seq.{drop-drop}
 use Rattle.forest.specs.Forest.{Forest, none, tree}
-use Rattle.spelling.specs.Kinds.{closes, opens}
+use Rattle.words.specs.Table.{closes, opens, closeOf, nextOf}
 use Rattle.spelling.specs.declared.Kind.{Kind}
 use Rattle.spelling.specs.declared.Kind.the-variants.{Open, Close, Numeral, Literal, Symbol, Faulty}
-use Rattle.words.specs.Table.{closeOf, nextOf}
 use Rattle.words.specs.Trees.{Level, Lexeme, bytesOf, inner, levelsAt, levelsBefore, list, literal, numeral, outer, symbol, treesFrom}
 use Rattle.words.specs.Words.{Word}
-use Rattle.words.proofs.Chains.{close-bounds, drop-past}
+use Rattle.words.proofs.Chains.{close-bounds}
+use Rattle.words.proofs.Offsets.{drop-past}
 
 -- the open lists without the n innermost and one more
 abbrev beyond : ℕ → List Level → List Level
@@ -80,7 +80,8 @@ module _ (text : List ℕ) (past : ℕ) (w : Word) (ws : List Word) (i : ℕ) wh
   past-step n (Faulty fault) e r = to-close n _ (close-other w ws n i (ap opens e) (ap closes e)) (r n)
 
 -- past the bracket that closes n lists and one more, those are open that were open around them
-past-levels : (text : List ℕ) (past : ℕ) (ws : List Word) (n i : ℕ) → beyond n (levelsAt text past ws i) ≡ levelsAt text past (drop (closeOf ws n i - i) ws) (closeOf ws n i)
+past-levels : (text : List ℕ) (past : ℕ) (ws : List Word) (n i : ℕ)
+    → beyond n (levelsAt text past ws i) ≡ levelsAt text past (drop (closeOf ws n i - i) ws) (closeOf ws n i)
 unfolding levelsAt closeOf Later
 past-levels text past [] n i = rw (sub-self i) (none-beyond n)
   where
@@ -118,7 +119,9 @@ module _ (text : List ℕ) (ws : List Word) (i : ℕ) where
     trees-symbol e = rw (here, e)
 
     pub trees-list : w .kind ≡ Open
-        → treesAt text ws i ≡ tree (list i (inner (length ws) (levelsAt text (length ws) (drop (i + 1) ws) (i + 1)) .close)) (treesAt text ws (i + 1)) (treesAt text ws (nextOf w (drop (i + 1) ws) i))
+        → treesAt text ws i ≡
+        tree (list i (inner (length ws) (levelsAt text (length ws) (drop (i + 1) ws) (i + 1)) .close)) (treesAt text ws (i + 1))
+        (treesAt text ws (nextOf w (drop (i + 1) ws) i))
     unfolding treesFrom levelsAt levelsBefore nextOf
     trees-list e =
         let close = closeOf (drop (i + 1) ws) 0 (i + 1) in

@@ -12,8 +12,7 @@ use lib.Seq.{drop-drop, getD-drop}
 use Rattle.forest.specs.Lists.{among}
 use Rattle.forest.proofs.Bools.{and-false-left, and-left, and-right, or-left, or-other, or-right}
 use Rattle.forest.proofs.Lists.{drop-next}
-use Rattle.spelling.specs.Bytes.{bracket, commentStart, delimiter, white}
-use Rattle.words.specs.Spans.{commentAfter, inRun, starts, startsFrom, wordStarts, runEnd, wordEnd}
+use Rattle.words.specs.Spans.{bracket, commentStart, delimiter, white, commentAfter, inRun, starts, startsFrom, wordStarts, runEnd, wordEnd}
 use Rattle.words.specs.Steps.{firstFrom, firstStart}
 use Rattle.words.specs.Words.{bytesAt, enquired}
 
@@ -86,9 +85,9 @@ bracket-alone b t = go (eqb b 40) refl (eqb b 41) refl t
     go false ex true ey t = rw (eqb-true b 41 ey) (refl, refl)
     go false ex false ey t = absurd (false≢true t)
 
--- what stands d bytes on, one byte less
-drop-past : (b : ℕ) (u : List ℕ) (i e : ℕ) → i + 1 ≤ e → drop (e - i) (b ∷ u) ≡ drop (e - (i + 1)) u
-drop-past b u i e h = let q : e - i ≡ suc (e - (i + 1)) = omega arith in rw q
+-- what stands from place m on, where the first stands at place i
+pub drop-past : {A : Type 0} (first : A) (more : List A) (i m : ℕ) → i + 1 ≤ m → drop (m - i) (first ∷ more) ≡ drop (m - (i + 1)) more
+drop-past first more i m h = let q : m - i ≡ suc (m - (i + 1)) = omega arith in rw q
 
 -- within a run no word starts
 run-starts : (u : List ℕ) (i : ℕ) → startsFrom u i false true ≡ startsFrom (drop (runEnd u i - i) u) (runEnd u i) false false
@@ -105,13 +104,15 @@ run-starts (b ∷ u) i = go (delimiter b) refl (run-starts u (i + 1))
         rw (t, p .0, p .1, drop-past b u i (runEnd u (i + 1)) (bounds .0)) r
 
 -- before the first start no word starts
-skip-starts : (u : List ℕ) (i : ℕ) (comment : Bool) → startsFrom u i comment false ≡ startsFrom (drop (firstFrom u i comment - i) u) (firstFrom u i comment) false false
+skip-starts : (u : List ℕ) (i : ℕ) (comment : Bool)
+    → startsFrom u i comment false ≡ startsFrom (drop (firstFrom u i comment - i) u) (firstFrom u i comment) false false
 unfolding startsFrom firstFrom
 skip-starts [] i comment = rw (sub-self i)
 skip-starts (b ∷ u) i comment = go comment (starts comment false b) refl (skip-starts u (i + 1) (commentAfter comment b))
   where
     go : (c t : Bool) → starts c false b ≡ t
-        → startsFrom u (i + 1) (commentAfter c b) false ≡ startsFrom (drop (firstFrom u (i + 1) (commentAfter c b) - (i + 1)) u) (firstFrom u (i + 1) (commentAfter c b)) false false
+        → startsFrom u (i + 1) (commentAfter c b) false ≡
+        startsFrom (drop (firstFrom u (i + 1) (commentAfter c b) - (i + 1)) u) (firstFrom u (i + 1) (commentAfter c b)) false false
         → startsFrom (b ∷ u) i c false ≡ startsFrom (drop (firstFrom (b ∷ u) i c - i) (b ∷ u)) (firstFrom (b ∷ u) i c) false false
     go true true t r = let z : _≡_ {A = Bool} false true = t in absurd (false≢true z)
     go false true t r = rw (t, sub-self i, t)
@@ -128,7 +129,8 @@ first-starts (b ∷ u) i comment h = go comment (starts comment false b) refl (f
   where
     go : (c t : Bool) → starts c false b ≡ t
         → (firstFrom u (i + 1) (commentAfter c b) < i + 1 + length u → starts false false (getD u (firstFrom u (i + 1) (commentAfter c b) - (i + 1)) 0) ≡ true)
-        → cond t i (firstFrom u (i + 1) (commentAfter c b)) < i + suc (length u) → starts false false (getD (b ∷ u) (cond t i (firstFrom u (i + 1) (commentAfter c b)) - i) 0) ≡ true
+        → cond t i (firstFrom u (i + 1) (commentAfter c b)) < i + suc (length u)
+        → starts false false (getD (b ∷ u) (cond t i (firstFrom u (i + 1) (commentAfter c b)) - i) 0) ≡ true
     go true true t r h = let z : _≡_ {A = Bool} false true = t in absurd (false≢true z)
     go false true t r h = rw (sub-self i) t
     go c false t r h =
@@ -186,6 +188,10 @@ module _ (s : List ℕ) (a e : ℕ) (ee : e ≡ wordEnd s a) where
         go true = omega arith
         go false = omega (arith, run-bounds (drop (a + 1) s) (a + 1) .1, length-drop (a + 1) s)
 
+    -- past the word that starts at a there is less
+    pub next-less : (next : ℕ) → next ≡ firstStart s e → length s - next < length s - a
+    next-less next en = omega (arith, end-past, first-reached s e next end-within en)
+
     -- the word that starts at a, and those after it
     pub word-first : Front s a → startsAt s a ≡ a ∷ startsAt s e
     unfolding startsFrom wordEnd
@@ -196,7 +202,8 @@ module _ (s : List ℕ) (a e : ℕ) (ee : e ≡ wordEnd s a) where
         go true t = let p = bracket-alone (getD s a 0) t in rw (p .1, p .0)
         go false t =
             let d : delimiter (getD s a 0) ≡ false = not-true (delimiter (getD s a 0)) (or-other (bracket (getD s a 0)) _ t (front .begun h)) in
-            rw (d, plain (getD s a 0) d .1, run-starts (drop (a + 1) s) (a + 1), drop-on s (a + 1) (runEnd (drop (a + 1) s) (a + 1)) (run-bounds (drop (a + 1) s) (a + 1) .0))
+            let on = drop-on s (a + 1) (runEnd (drop (a + 1) s) (a + 1)) (run-bounds (drop (a + 1) s) (a + 1) .0) in
+            rw (d, plain (getD s a 0) d .1, run-starts (drop (a + 1) s) (a + 1), on)
 
 -- ---- the enquiry
 
@@ -234,11 +241,12 @@ module _ (s : List ℕ) (at start : ℕ) (seeking : Seeking s at start) where
       pub seek-goes : Seeking s at next
       seek-goes =
           let inside = end-within s start end ee seek-inside in
-          let first : among at (startsAt s start) ≡ among at (startsAt s end) = rw (word-first s start end ee seek-inside (seeking .front), ne-eqb at start (λ e. omega (arith, seek-low))) in
+          let first : among at (startsAt s start) ≡ among at (startsAt s end) =
+          rw (word-first s start end ee seek-inside (seeking .front), ne-eqb at start (λ e. omega (arith, seek-low))) in
           record { front = first-front s end next inside en; same = rw (← first-same s end next inside en) (sym first ∙ seeking .same) }
 
       pub seek-less : length s - next < length s - start
-      seek-less = omega (arith, seek-inside, end-past s start end ee, first-reached s end next (end-within s start end ee seek-inside) en)
+      seek-less = next-less s start end ee seek-inside next en
 
   module _ (t : eqb start at && ltb start (length s) ≡ true) where
     pub found-inside : start < length s

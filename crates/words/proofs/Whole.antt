@@ -9,16 +9,18 @@ use lib.ListN.{length, drop, length-map}
 use lib.Seq.{drop-length, take-length}
 use Rattle.forest.specs.Rows.{rows}
 use Rattle.forest.proofs.Rows.{length-rows}
-use Rattle.words.specs.Reading.{ReadWords, passed, readingOf, roomFor, wordsRead}
+use Rattle.words.specs.Reading.{ReadWords, readingOf, roomFor, wordsRead}
+use Rattle.readings.specs.Answers.{passed}
 use Rattle.words.specs.Steps.{Linked, Linking, Scanned, linkedFrom, unlinked}
 use Rattle.words.specs.Table.{entries, row, wordTable, wordValues}
 use Rattle.spelling.specs.declared.Fault.the-variants.{TooLong}
-use Rattle.words.specs.declared.Limits.{Limits}
-use Rattle.words.specs.declared.Reading.{Reading}
-use Rattle.words.specs.declared.Reading.the-variants.{Refused}
+use Rattle.readings.specs.declared.Limits.{Limits}
+use Rattle.readings.specs.declared.Reading.{Reading}
+use Rattle.readings.specs.declared.Reading.the-variants.{Refused}
 use Rattle.words.proofs.Chains.{entries-long, wide}
 
-pub too-long : (limits : Limits) (text table values : List ℕ) → limits .bytes < length text → ReadWords limits text table values (Refused TooLong (length text) 0) table values
+pub too-long : (limits : Limits) (text table values : List ℕ) → limits .bytes < length text
+    → ReadWords limits text table values (Refused TooLong (length text) 0) table values
 unfolding readingOf wordsRead wordTable wordValues entries rows
 too-long limits text table values h = record { found = rw (lt-leb (length text) (limits .bytes) h); table-is = refl; values-are = refl }
 
@@ -56,12 +58,14 @@ module _ (limits : Limits) (table values : List ℕ) (room : Limits) (e : room �
       small = omega (arith, bounds .0, scanned .few);
     }
 
-    pub all-read : length text ≤ limits .bytes → (small : limits .words < 2 ^ 32) (count : ℕ) (ec : count ≡ passed r) (after : List ℕ) → Linked scannedTable count after
-        → ReadWords limits text table values r after scannedValues
+    pub all-read : length text ≤ limits .bytes → (small : limits .words < 2 ^ 32) (count : ℕ) (ec : count ≡ passed r)
+        → (after : List ℕ) → Linked scannedTable count after → ReadWords limits text table values r after scannedValues
     unfolding readingOf to-link wordTable
     all-read h small count ec after linked =
-        let same : length (rows row (map unlinked (wordsRead text r))) ≡ length (wordTable (wordsRead text r)) =
-        length-rows row 5 wide (map unlinked (wordsRead text r)) ∙ rw (length-map (wordsRead text r) unlinked, ← entries-long (wordsRead text r) 0) (sym (length-rows row 5 wide (entries (wordsRead text r) 0))) in
+        let ws = wordsRead text r in
+        let same : length (rows row (map unlinked ws)) ≡ length (wordTable ws) =
+        length-rows row 5 wide (map unlinked ws)
+        ∙ rw (length-map ws unlinked, ← entries-long ws 0) (sym (length-rows row 5 wide (entries ws 0))) in
         let fits : length text ≤ room .bytes = omega (arith, ap (λ (l : Limits). l .bytes) e) in
         record {
           found = rw (← e, le-leb (length text) (room .bytes) fits) (scanned .found);

@@ -1,4 +1,3 @@
-pub mod Limits
 pub mod Spans
 pub mod Words
 pub mod Table

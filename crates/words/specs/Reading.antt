@@ -7,25 +7,16 @@ use lib.ListN.{length, take}
 use lib.Dec.{eqb, leb, ltb}
 use Rattle.forest.specs.Rows.{over}
 use Rattle.words.specs.Words.{Word, wordsOf}
-use Rattle.spelling.specs.Kinds.{closes, opens}
-use Rattle.words.specs.Table.{rowWidth, wordTable, wordValues}
-use Rattle.words.specs.declared.Limits.{Limits}
+use Rattle.words.specs.Table.{closes, opens, wordTable, wordValues}
+use Rattle.readings.specs.Table.{rowWidth}
+use Rattle.readings.specs.Answers.{faultNumber, numberOf, passed, placeOf}
+use Rattle.readings.specs.declared.Limits.{Limits}
 use Rattle.spelling.specs.declared.Kind.{Kind}
 use Rattle.spelling.specs.declared.Kind.the-variants.{Open, Close, Numeral, Literal, Symbol, Faulty}
 use Rattle.spelling.specs.declared.Fault.{Fault}
-use Rattle.spelling.specs.declared.Fault.the-variants.{NoFault, TooLong, BadWord, Bracket, PastLimit, NotCarried}
-use Rattle.words.specs.declared.Reading.{Reading}
-use Rattle.words.specs.declared.Reading.the-variants.{Whole, Refused}
-
--- The number of a fault in the table of answers: 1 "script, response or point list too long ..", 2 "bad word", 3 "bracket closed too often / never closed",
--- 4 "past a limit", 6 "not carried"; 0 where there is none.
-abbrev pub faultNumber : Fault → ℕ
-faultNumber NoFault = 0
-faultNumber TooLong = 1
-faultNumber BadWord = 2
-faultNumber Bracket = 3
-faultNumber PastLimit = 4
-faultNumber NotCarried = 6
+use Rattle.spelling.specs.declared.Fault.the-variants.{NoFault, TooLong, Bracket, PastLimit}
+use Rattle.readings.specs.declared.Reading.{Reading}
+use Rattle.readings.specs.declared.Reading.the-variants.{Whole, Refused}
 
 -- A word's fault by its own bytes.
 abbrev pub ownFault : Kind → Fault
@@ -71,21 +62,6 @@ judged limits size (w ∷ more) n depth =
 -- What is found in one text, "Order: 1 (..); script words (..)". Of two texts, the lengths of both come before the words of either: the checker sees to that.
 unfoldable pub readingOf : Limits → List ℕ → Reading
 readingOf limits text = cond (leb (length text) (limits .bytes)) (judged limits (length text) (wordsOf text) 0 0) (Refused TooLong (length text) 0)
-
--- The answer's number: the fault's, or 0 where the whole text was read.
-abbrev pub numberOf : Reading → ℕ
-numberOf (Whole n) = 0
-numberOf (Refused fault place n) = faultNumber fault
-
--- The answer's place: the refused word, or the text's length; 0 where the whole text was read.
-abbrev pub placeOf : Reading → ℕ
-placeOf (Whole n) = 0
-placeOf (Refused fault place n) = place
-
--- How many words were passed: all of them, those before the refused word, or none where the text is too long.
-abbrev pub passed : Reading → ℕ
-passed (Whole n) = n
-passed (Refused fault place n) = n
 
 -- The words that a reading passed.
 unfoldable pub wordsRead : List ℕ → Reading → List Word

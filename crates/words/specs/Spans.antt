@@ -1,9 +1,30 @@
 -- Where the words of a text start, and where each ends.
 use Prim.Native.Nat.{ℕ, _+_}
+use Prim.Native.Char.{code}
 use mathlib.Core.Bool.{Bool, false, cond, _&&_, _||_, not}
 use mathlib.Core.List.{List, [], _∷_}
 use lib.ListN.{drop, getD}
-use Rattle.spelling.specs.Bytes.{bracket, commentEnd, commentStart, delimiter}
+use lib.Dec.{eqb}
+
+-- "White space is 9, 10, 13, 32."
+abbrev pub white : ℕ → Bool
+white b = eqb b 9 || eqb b 10 || eqb b 13 || eqb b 32
+
+-- "A comment runs from `;` .."
+abbrev pub commentStart : ℕ → Bool
+commentStart b = eqb b (code ";")
+
+-- ".. to the next 10 or 13 or the end, and may hold any byte."
+abbrev pub commentEnd : ℕ → Bool
+commentEnd b = eqb b 10 || eqb b 13
+
+-- "A word is `(`, `)` .."
+abbrev pub bracket : ℕ → Bool
+bracket b = eqb b (code "(") || eqb b (code ")")
+
+-- ".. or a longest run of bytes up to white space, a bracket, `;` or the end."
+abbrev pub delimiter : ℕ → Bool
+delimiter b = white b || bracket b || commentStart b
 
 -- Whether the byte after b stands in a comment, where b itself does or does not stand in one.
 -- "A comment runs from `;` to the next 10 or 13 or the end, and may hold any byte."

@@ -1,16 +1,18 @@
 -- What the parts of the reader of words ask and give, where no definition of document 01 says it: definitions that serve a step.
-use Prim.Native.Nat.{ℕ, _+_, _<_, _≤_, _^_}
+use Prim.Native.Nat.{ℕ, _+_, _*_, _<_, _≤_, _^_}
 use mathlib.Core.Bool.{Bool, false, cond}
 use mathlib.Core.List.{List, [], _∷_, _++_, map}
 use mathlib.Core.Path.{_≡_}
-use lib.ListN.{drop, length, take}
+use lib.ListN.{drop, length, set, take}
+use lib.Seq.{sets}
 use Rattle.forest.specs.Rows.{over, rows}
-use Rattle.words.specs.Reading.{judged, passed, wordsRead}
+use Rattle.words.specs.Reading.{judged, wordsRead}
+use Rattle.readings.specs.Answers.{passed}
 use Rattle.words.specs.Spans.{commentAfter, starts}
-use Rattle.words.specs.Table.{Entry, closeOf, entries, nextOf, row, wordTable, wordValues}
+use Rattle.words.specs.Table.{Entry, closeOf, entries, nextOf, row, valueOf, wordTable, wordValues}
 use Rattle.words.specs.Words.{Word, wordsOf}
-use Rattle.words.specs.declared.Limits.{Limits}
-use Rattle.words.specs.declared.Reading.{Reading}
+use Rattle.readings.specs.declared.Limits.{Limits}
+use Rattle.readings.specs.declared.Reading.{Reading}
 
 -- The first offset at which a word starts, of the bytes s, which stand at offset i, in a comment or not, and after no run; past the last byte if none does.
 unfoldable pub firstFrom : List ℕ → ℕ → (comment : Bool) → ℕ
@@ -26,6 +28,18 @@ firstStart text i = firstFrom (drop i text) i false
 -- A word whose next is not known yet.
 abbrev pub unlinked : Word → Entry
 unlinked w = record { word = w; next = 0 }
+
+-- Room for word n in a table and in a list of values, and numbers that fit its row.
+pub record Room (table values : List ℕ) (n start end : ℕ) : Type 0 where
+  pub row-fits : 5 * n + 5 ≤ length table
+  pub value-fits : n < length values
+  pub start-fits : start < 2 ^ 32
+  pub end-fits : end < 2 ^ 32
+
+-- The row of word n, whose next is not known yet, and its value are written.
+pub record Written (table values : List ℕ) (n : ℕ) (w : Word) (tableAfter valuesAfter : List ℕ) : Type 0 where
+  pub table-is : tableAfter ≡ sets table (5 * n) (row (unlinked w))
+  pub values-are : valuesAfter ≡ set values n (valueOf (w .kind))
 
 -- What the scan of a text leaves: what it found, and the rows and the values of the words that it passed, none of them linked.
 pub record Scanned (limits : Limits) (text table values : List ℕ) (r : Reading) (tableAfter valuesAfter : List ℕ) : Type 0 where

@@ -1,11 +1,12 @@
 -- The word table: five numbers for each word, and its value in a list beside it.
 use Prim.Native.Nat.{ℕ, _+_, _-_}
-use mathlib.Core.Bool.{cond}
+use mathlib.Core.Bool.{Bool, cond}
 use mathlib.Core.List.{List, [], _∷_, map}
 use lib.Dec.{eqb}
-use Rattle.forest.specs.Rows.{numberAt, rows}
-use Rattle.spelling.specs.Kinds.{closes, opens}
+use Rattle.forest.specs.Rows.{rows}
 use Rattle.words.specs.Words.{Word}
+-- passed on: the columns of a row
+pub use Rattle.readings.specs.Table.{endAt, kindAt, nextAt, rowWidth, startAt, widthAt}
 use Rattle.spelling.specs.declared.Kind.{Kind}
 use Rattle.spelling.specs.declared.Kind.the-variants.{Open, Close, Numeral, Literal, Symbol, Faulty}
 
@@ -17,6 +18,14 @@ kindNumber (Numeral v) = 3
 kindNumber (Literal width v) = 4
 kindNumber Symbol = 5
 kindNumber (Faulty fault) = 0
+
+-- Whether a word is `(`.
+abbrev pub opens : Kind → Bool
+opens kind = eqb (kindNumber kind) 1
+
+-- Whether a word is `)`.
+abbrev pub closes : Kind → Bool
+closes kind = eqb (kindNumber kind) 2
 
 -- The width of a literal in bits; 0 for any other word.
 abbrev pub widthOf : Kind → ℕ
@@ -62,10 +71,6 @@ unfoldable pub entries : List Word → ℕ → List Entry
 entries [] i = []
 entries (w ∷ more) i = record { word = w; next = nextOf w more i } ∷ entries more (i + 1)
 
--- How many numbers a row has.
-abbrev pub rowWidth : ℕ
-rowWidth = 5
-
 -- The row of a word: its kind, start, end, width and next.
 abbrev pub row : Entry → List ℕ
 row e = kindNumber (e .word .kind) ∷ e .word .start ∷ e .word .end ∷ widthOf (e .word .kind) ∷ e .next ∷ []
@@ -77,23 +82,3 @@ wordTable ws = rows row (entries ws 0)
 -- The values of the words.
 unfoldable pub wordValues : List Word → List ℕ
 wordValues ws = map (λ (w : Word). valueOf (w .kind)) ws
-
--- The number of word i's kind.
-abbrev pub kindAt : List ℕ → ℕ → ℕ
-kindAt table i = numberAt rowWidth table i 0
-
--- The offset of word i.
-abbrev pub startAt : List ℕ → ℕ → ℕ
-startAt table i = numberAt rowWidth table i 1
-
--- The offset past word i.
-abbrev pub endAt : List ℕ → ℕ → ℕ
-endAt table i = numberAt rowWidth table i 2
-
--- The width of word i; 0 where it is no literal.
-abbrev pub widthAt : List ℕ → ℕ → ℕ
-widthAt table i = numberAt rowWidth table i 3
-
--- The index past word i, or past the list that it begins.
-abbrev pub nextAt : List ℕ → ℕ → ℕ
-nextAt table i = numberAt rowWidth table i 4

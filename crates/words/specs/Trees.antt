@@ -30,11 +30,12 @@ pub record Level : Type 0 where
   pub close : ℕ
   pub items : Forest Lexeme
 
--- The innermost of the open lists, and the others; where none is open, the text itself, whose end is past the last word.
+-- The innermost of the open lists; where none is open, the text itself, whose end is past the last word.
 abbrev pub inner : (past : ℕ) → List Level → Level
 inner past [] = record { close = past; items = none }
 inner past (l ∷ ls) = l
 
+-- The open lists but the innermost.
 abbrev pub outer : List Level → List Level
 outer [] = []
 outer (l ∷ ls) = ls

@@ -1,65 +1,31 @@
 //! The reader of words: from the bytes of a text to its words, or to the refusal at the least offset.
-pub mod links;
-pub mod scan;
-pub mod spans;
-pub mod table;
+mod links;
+mod rows;
+mod scan;
+mod spans;
 
 use links::link;
-use scan::number_of;
-use scan::passed_of;
-use scan::place_of;
+use readings::Limits;
+use readings::Reading;
+use readings::answers::number_of;
+use readings::answers::passed_of;
+use readings::answers::place_of;
+use readings::table::ROW;
 use scan::scan_text;
 use spans::first_start;
 use spans::word_end;
 use spelling::Fault;
-use table::ROW;
 ghost use mathlib.Core.Path.{_≡_};
 ghost use lib.ListN.{length};
-ghost use Rattle.words.specs.Limits.{responseLimits, scriptLimits};
-ghost use Rattle.words.specs.Reading.{ReadWords, WordsForC, roomFor};
 ghost use Prim.Native.Nat.{min};
+ghost use Rattle.words.specs.Reading.{ReadWords, WordsForC, roomFor};
 ghost use Rattle.words.specs.Words.{enquired};
 
-// What a text may hold at the most: its bytes, its words with brackets counted, and how many lists may stand within one another.
-pub struct Limits {
-    pub bytes: u32,
-    pub words: u32,
-    pub nesting: u32,
-}
-
-// What reading a text finds: how many words there are, or the refusal, its place, and how many words were passed before it.
-pub enum Reading {
-    Whole(usize),
-    Refused(Fault, usize, usize),
-}
-
-// The limits of a script.
-pub fn script_limits() -> Limits
-    ensures { λ r. ⌜ r ≡ scriptLimits ⌝ }
-{
-    Limits {
-        bytes: 32768,
-        words: 4096,
-        nesting: 64,
-    }
-}
-
-// The limits of a response.
-pub fn response_limits() -> Limits
-    ensures { λ r. ⌜ r ≡ responseLimits ⌝ }
-{
-    Limits {
-        bytes: 8192,
-        words: 2048,
-        nesting: 64,
-    }
-}
-
 // The lesser of two numbers.
-fn least(a: usize, b: usize) -> usize
-    ensures { λ r. ⌜ r ≡ min a b ⌝ }
+fn least(first: usize, second: usize) -> usize
+    ensures { λ r. ⌜ r ≡ min first second ⌝ }
 {
-    if a <= b { a } else { b }
+    if first <= second { first } else { second }
 }
 
 // The limits of a caller who lends so many rows and values.
@@ -125,7 +91,9 @@ pub extern "C" fn sverdhyll_words(
     place: &mut usize,
     count: &mut usize,
 ) -> u8
-    ensures { λ r. ⌜ WordsForC (record { bytes = bytes; words = words; nesting = nesting }) (now (text .entry)) (now (table .entry)) (now (values .entry)) r (now (place .exit)) (now (count .exit)) (now (table .exit)) (now (values .exit)) ⌝ }
+    ensures { λ r. ⌜
+        WordsForC (record { bytes = bytes; words = words; nesting = nesting }) (now (text .entry)) (now (table .entry)) (now (values .entry))
+        r (now (place .exit)) (now (count .exit)) (now (table .exit)) (now (values .exit)) ⌝ }
 {
     let limits = Limits {
         bytes,

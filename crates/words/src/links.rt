@@ -1,9 +1,9 @@
 //! The column `next` of the word table, from the last word to the first.
-use crate::table::CLOSE;
-use crate::table::OPEN;
-use crate::table::ROW;
-use crate::table::kind_at;
-use crate::table::next_at;
+use readings::table::CLOSE;
+use readings::table::OPEN;
+use readings::table::ROW;
+use readings::table::kind_at;
+use readings::table::next_at;
 ghost use mathlib.Core.Path.{_≡_};
 ghost use Prim.Native.Nat.{_+_};
 ghost use Rattle.words.specs.Steps.{Closing, Linked, Linking, Next};

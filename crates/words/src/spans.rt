@@ -1,27 +1,58 @@
 //! Where words start and end.
-use spelling::bytes::ends_comment;
-use spelling::bytes::ends_run;
-use spelling::bytes::is_bracket;
-use spelling::bytes::starts_comment;
 ghost use mathlib.Core.Path.{_≡_};
 ghost use mathlib.Core.Bool.{false};
 ghost use Prim.Native.Nat.{_<_};
 ghost use lib.ListN.{length};
-ghost use Rattle.words.specs.Spans.{commentAfter, starts, wordEnd};
+ghost use Rattle.words.specs.Spans.{bracket, commentAfter, commentEnd, commentStart, delimiter, starts, white, wordEnd};
 ghost use Rattle.words.specs.Steps.{firstStart};
 
-// Whether the byte after `b` stands in a comment.
-fn comment_after(comment: bool, b: u8) -> bool
-    ensures { λ r. ⌜ r ≡ commentAfter comment b ⌝ }
+// White space: 9, 10, 13, 32.
+fn is_white(byte: u8) -> bool
+    ensures { λ r. ⌜ r ≡ white byte ⌝ }
 {
-    (comment & !ends_comment(b)) | (!comment & starts_comment(b))
+    (byte == 9) | (byte == 10) | (byte == 13) | (byte == 32)
 }
 
-// Whether a word starts at `b`, before which stands no byte of a run.
-fn begins(comment: bool, b: u8) -> bool
-    ensures { λ r. ⌜ r ≡ starts comment false b ⌝ }
+// What a comment begins with.
+fn starts_comment(byte: u8) -> bool
+    ensures { λ r. ⌜ r ≡ commentStart byte ⌝ }
 {
-    (!comment & is_bracket(b)) | !(comment | ends_run(b))
+    byte == b';'
+}
+
+// What ends a comment: 10, 13.
+fn ends_comment(byte: u8) -> bool
+    ensures { λ r. ⌜ r ≡ commentEnd byte ⌝ }
+{
+    (byte == 10) | (byte == 13)
+}
+
+// One of the two brackets.
+fn is_bracket(byte: u8) -> bool
+    ensures { λ r. ⌜ r ≡ bracket byte ⌝ }
+{
+    (byte == b'(') | (byte == b')')
+}
+
+// What ends a run of bytes: white space, a bracket, `;`.
+fn ends_run(byte: u8) -> bool
+    ensures { λ r. ⌜ r ≡ delimiter byte ⌝ }
+{
+    is_white(byte) | is_bracket(byte) | starts_comment(byte)
+}
+
+// Whether the byte after `byte` stands in a comment.
+fn comment_after(comment: bool, byte: u8) -> bool
+    ensures { λ r. ⌜ r ≡ commentAfter comment byte ⌝ }
+{
+    (comment & !ends_comment(byte)) | (!comment & starts_comment(byte))
+}
+
+// Whether a word starts at `byte`, before which stands no byte of a run.
+fn begins(comment: bool, byte: u8) -> bool
+    ensures { λ r. ⌜ r ≡ starts comment false byte ⌝ }
+{
+    (!comment & is_bracket(byte)) | !(comment | ends_run(byte))
 }
 
 // The offset of the first word from `at` on, where no comment and no run goes on; past the last byte if there is none.
@@ -31,11 +62,11 @@ pub fn first_start(text: &[u8], at: usize) -> usize
     let mut i = at;
     let mut comment = false;
     while i < text.len() {
-        let b = text[i];
-        if begins(comment, b) {
+        let byte = text[i];
+        if begins(comment, byte) {
             return i;
         }
-        comment = comment_after(comment, b);
+        comment = comment_after(comment, byte);
         i += 1;
     }
     i

@@ -5,20 +5,20 @@ use Rattle.operators_run.proofs.Taken.{at-most, cut-taken}
 use Rattle.operators_run.proofs.extracted.Statement.{statement}
 use Rattle.operators_run.proofs.extracted.Tie as tie
 
-rem-i : tie.Need-rem-i
-rem-i c = search needs
+rem-high : tie.Need-rem-high
+rem-high c = search needs
 
-add-j : tie.Need-add-j
-add-j c = omega (arith, mod-lt (c .args .y) (c .pre .2 .width .least))
+add-lowest : tie.Need-add-lowest
+add-lowest c = omega (arith, mod-lt (c .args .source) (c .pre .2 .width .least))
 
-rem-j : tie.Need-rem-j
-rem-j c = search needs
+rem-lowest : tie.Need-rem-lowest
+rem-lowest c = search needs
 
 apply-requires : tie.Need-apply-requires
-apply-requires c κs = cut-taken (c .pre .0) (c .pre .1) (c .pre .2) (at-most _ _) (mod-lt (c .args .y) (c .pre .2 .width .least))
+apply-requires c κs = cut-taken (c .pre .0) (c .pre .1) (c .pre .2) (at-most _ _) (mod-lt (c .args .source) (c .pre .2 .width .least))
 
 returns : tie.Need-returns
 returns c = search needs
 
 pub extracted-spec : {M : Type 1} → statement M
-extracted-spec = tie.close (tie.spec rem-i add-j rem-j apply-requires returns)
+extracted-spec = tie.close (tie.spec rem-high add-lowest rem-lowest apply-requires returns)

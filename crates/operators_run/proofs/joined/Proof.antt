@@ -7,14 +7,14 @@ use Rattle.operators_run.proofs.joined.Tie as tie
 returns : tie.Need-returns
 returns c = search needs
 
-sub-m : tie.Need-sub-m
-sub-m c = search needs
+sub-other : tie.Need-sub-other
+sub-other c = search needs
 
-rem-m : tie.Need-rem-m
-rem-m c = search needs
+rem-other : tie.Need-rem-other
+rem-other c = search needs
 
-add-m : tie.Need-add-m
-add-m c = omega (arith, room (c .before .args .y) (c .before .pre .2) (c .if1 .left))
+add-other : tie.Need-add-other
+add-other c = omega (arith, room (c .before .args .source) (c .before .pre .2) (c .if1 .left))
 
 low-requires : tie.Need-low-requires
 low-requires c κs = search room
@@ -26,4 +26,4 @@ returns-2 : tie.Need-returns-2
 returns-2 c = search needs
 
 pub joined-spec : {M : Type 1} → statement M
-joined-spec = tie.close (tie.spec returns sub-m rem-m add-m low-requires apply-requires returns-2)
+joined-spec = tie.close (tie.spec returns sub-other rem-other add-other low-requires apply-requires returns-2)

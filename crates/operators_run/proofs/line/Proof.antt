@@ -4,10 +4,10 @@ use Rattle.operators_run.proofs.line.Statement.{statement}
 use Rattle.operators_run.proofs.line.Tie as tie
 
 abbrev Inv-loop : tie.InvT-loop
-Inv-loop n o₀ t3 t4 o = o ≤ 23
+Inv-loop width operator₀ t3 t4 operator = operator ≤ 23
 
 abbrev μ-loop : tie.MeasureT-loop
-μ-loop n o₀ t3 t4 o = 23 - o
+μ-loop width operator₀ t3 t4 operator = 23 - operator
 
 print-decimal-requires : tie.Need-print-decimal-requires Inv-loop μ-loop
 print-decimal-requires c κs = search needs
@@ -30,8 +30,8 @@ pairs-requires c κs = search needs
 print-hex-requires : tie.Need-print-hex-requires Inv-loop μ-loop
 print-hex-requires c κs = search needs
 
-add-o : tie.Need-add-o Inv-loop μ-loop
-add-o c = search needs
+add-operator : tie.Need-add-operator Inv-loop μ-loop
+add-operator c = search needs
 
 loop-less : tie.Need-loop-less Inv-loop μ-loop
 loop-less c = search needs
@@ -61,7 +61,7 @@ line-spec =
     edges-requires
     pairs-requires
     print-hex-requires
-    add-o
+    add-operator
     loop-less
     loop-again
     slice-aggregate-write-all-2

@@ -4,10 +4,10 @@ use Rattle.operators_run.proofs.main.Statement.{statement}
 use Rattle.operators_run.proofs.main.Tie as tie
 
 abbrev Inv-loop : tie.InvT-loop
-Inv-loop n₀ n = (1 ≤ n) × (n ≤ 65)
+Inv-loop width₀ width = (1 ≤ width) × (width ≤ 65)
 
 abbrev μ-loop : tie.MeasureT-loop
-μ-loop n₀ n = 65 - n
+μ-loop width₀ width = 65 - width
 
 loop-holds : tie.Need-loop-holds Inv-loop μ-loop
 loop-holds c = search needs
@@ -15,8 +15,8 @@ loop-holds c = search needs
 line-requires : tie.Need-line-requires Inv-loop μ-loop
 line-requires c κs = search needs
 
-add-n : tie.Need-add-n Inv-loop μ-loop
-add-n c = search needs
+add-width : tie.Need-add-width Inv-loop μ-loop
+add-width c = search needs
 
 loop-less : tie.Need-loop-less Inv-loop μ-loop
 loop-less c = search needs
@@ -30,4 +30,4 @@ returns c = search needs
 pub main-spec : {M : Type 1} → statement M
 main-spec =
     tie.close
-    (tie.spec Inv-loop μ-loop loop-holds line-requires add-n loop-less loop-again returns)
+    (tie.spec Inv-loop μ-loop loop-holds line-requires add-width loop-less loop-again returns)

@@ -5,10 +5,10 @@ use Rattle.operators_run.proofs.pairs.Statement.{statement}
 use Rattle.operators_run.proofs.pairs.Tie as tie
 
 abbrev Inv-loop : tie.InvT-loop
-Inv-loop o n start hash₀ x₀ k₀ hash x k = k ≤ 10000
+Inv-loop operator width start hash₀ left₀ k₀ hash left k = k ≤ 10000
 
 abbrev μ-loop : tie.MeasureT-loop
-μ-loop o n start hash₀ x₀ k₀ hash x k = 10000 - k
+μ-loop operator width start hash₀ left₀ k₀ hash left k = 10000 - k
 
 loop-holds : tie.Need-loop-holds Inv-loop μ-loop
 loop-holds c = omega arith

@@ -8,10 +8,10 @@ use Rattle.bits.proofs.operators.is_name.Statement.{statement}
 use Rattle.bits.proofs.operators.is_name.Tie as tie
 
 abbrev Inv-loop : tie.InvT-loop
-Inv-loop o word start k₀ k = Read (nameOf o) word (names operators) start k
+Inv-loop operator word start k₀ k = Read (nameOf operator) word (names operators) start k
 
 abbrev μ-loop : tie.MeasureT-loop
-μ-loop o word start k₀ k = length word - k
+μ-loop operator word start k₀ k = length word - k
 
 mul-start : tie.Need-mul-start Inv-loop μ-loop
 mul-start c = omega arith

@@ -12,7 +12,7 @@ array-read-result c = search needs
 
 returns : tie.Need-returns
 unfolding operators
-returns c = column (λ (r : Operator). r .operands) (c .before .args .o)
+returns c = column (λ (r : Operator). r .operands) (c .before .args .operator)
 
 returns-2 : tie.Need-returns-2
 returns-2 c = past (λ (r : Operator). r .operands) (c .if1 .left)

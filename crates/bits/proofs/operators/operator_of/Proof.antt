@@ -8,10 +8,10 @@ use Rattle.bits.proofs.operators.operator_of.Statement.{statement}
 use Rattle.bits.proofs.operators.operator_of.Tie as tie
 
 abbrev Inv-loop : tie.InvT-loop
-Inv-loop word o₀ o = (o ≤ operatorCount) × (named (drop o operators) o word ≡ operatorOf word)
+Inv-loop word operator₀ operator = (operator ≤ operatorCount) × (named (drop operator operators) operator word ≡ operatorOf word)
 
 abbrev μ-loop : tie.MeasureT-loop
-μ-loop word o₀ o = operatorCount - o
+μ-loop word operator₀ operator = operatorCount - operator
 
 loop-holds : tie.Need-loop-holds Inv-loop μ-loop
 unfolding operatorOf
@@ -23,8 +23,8 @@ is-name-requires c κs = omega arith
 returns : tie.Need-returns Inv-loop μ-loop
 returns c = search found
 
-add-o : tie.Need-add-o Inv-loop μ-loop
-add-o c = omega arith
+add-operator : tie.Need-add-operator Inv-loop μ-loop
+add-operator c = omega arith
 
 loop-less : tie.Need-loop-less Inv-loop μ-loop
 loop-less c = omega arith
@@ -44,7 +44,7 @@ operator-of-spec =
     loop-holds
     is-name-requires
     returns
-    add-o
+    add-operator
     loop-less
     loop-again
     returns-2)

@@ -1,7 +1,8 @@
 use Prim.Native.Nat.{_-_}
 use native.Mathlib.Omega.{arith}
 use borrow.Author.Needs.{needs}
-use Rattle.grammar.proofs.Walk.{Inv, inv-start, end-small, turn-place, turn-here, turn-over, turn-low, turn-hole, turn-node, miss-hole, miss-node, turn-end}
+use Rattle.grammar.proofs.Walk.{Inv, inv-start, end-small, turn-place, turn-here, turn-over, turn-low, turn-hole, turn-node, miss-hole, miss-node}
+use Rattle.grammar.proofs.Walk.{turn-end}
 use Rattle.grammar.proofs.matching.matches.Statement.{statement}
 use Rattle.grammar.proofs.matching.matches.Tie as tie
 

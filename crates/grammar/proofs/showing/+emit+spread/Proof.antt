@@ -5,7 +5,8 @@ use mathlib.Core.Path.{refl, sym, _∙_, subst}
 use lib.ListN.{length}
 use Rattle.grammar.proofs.Walk.{end-small}
 use Rattle.grammar.proofs.Whole.{follow-pre, spread-pre, emit-post}
-use Rattle.grammar.proofs.Track.{Inv, spread-start, spread-end, spread-place, spread-here, spread-over, spread-node, spread-after, spread-asks, spread-hole}
+use Rattle.grammar.proofs.Track.{Inv, spread-start, spread-end, spread-place, spread-here, spread-over, spread-node, spread-after, spread-asks}
+use Rattle.grammar.proofs.Track.{spread-hole}
 use borrow.Fn.Kinds.{In}
 use borrow.Fn.PlainCycle.{Measures, is, falls, and}
 use Rattle.grammar.proofs.showing.emit.Reads as emit
@@ -41,45 +42,36 @@ spread-at t = and 5 spread-kinds.ps (is 5 spread-kinds.ps μ-spread t) spread.Pr
 abbrev spread-below : ℕ → In 5 spread-kinds.ps
 spread-below t = and 5 spread-kinds.ps (falls 5 spread-kinds.ps _<_ μ-spread t) spread.Pre
 
-emit-derivers-requires : (t : ℕ) → emit-lts.Need-derivers-requires (
-  derivers-reads.Asked,
-  derivers-reads.Learnt,
-  follow-reads.Asked,
-  follow-reads.Learnt,
-  spread-below t,
-  spread.Post,
-) (emit-at t) emit.Post
+-- what the calls of `emit` ask and give, where `spread` is called below the measure t
+abbrev emit-calls : ℕ → emit-lts.Claims
+emit-calls t = (derivers-reads.Asked, derivers-reads.Learnt, follow-reads.Asked, follow-reads.Learnt, spread-below t, spread.Post)
+
+-- what the calls of `spread` ask and give, where `emit` is called below the measure t
+abbrev spread-calls : ℕ → spread-lts.Claims
+spread-calls t = (
+  start-at-reads.Asked,
+  start-at-reads.Learnt,
+  size-at-reads.Asked,
+  size-at-reads.Learnt,
+  code-at-reads.Asked,
+  code-at-reads.Learnt,
+  value-at-reads.Asked,
+  value-at-reads.Learnt,
+  emit-below t,
+  emit.Post,
+)
+
+emit-derivers-requires : (t : ℕ) → emit-lts.Need-derivers-requires (emit-calls t) (emit-at t) emit.Post
 emit-derivers-requires t c κs = (c .before .before .before .before .before .before .pre .1 .asks, refl)
 
-emit-slice-aggregate-follow : (t : ℕ) → emit-lts.Need-slice-aggregate-follow (
-  derivers-reads.Asked,
-  derivers-reads.Learnt,
-  follow-reads.Asked,
-  follow-reads.Learnt,
-  spread-below t,
-  spread.Post,
-) (emit-at t) emit.Post
+emit-slice-aggregate-follow : (t : ℕ) → emit-lts.Need-slice-aggregate-follow (emit-calls t) (emit-at t) emit.Post
 emit-slice-aggregate-follow t c = sym (c .before .derivers .ensures .sixteen)
 
-emit-follow-requires : (t : ℕ) → emit-lts.Need-follow-requires (
-  derivers-reads.Asked,
-  derivers-reads.Learnt,
-  follow-reads.Asked,
-  follow-reads.Learnt,
-  spread-below t,
-  spread.Post,
-) (emit-at t) emit.Post
+emit-follow-requires : (t : ℕ) → emit-lts.Need-follow-requires (emit-calls t) (emit-at t) emit.Post
 emit-follow-requires t c κs =
     follow-pre (c .before .before .before .before .before .before .before .before .before .pre .1) (c .before .before .derivers .ensures)
 
-emit-spread-requires : (t : ℕ) → emit-lts.Need-spread-requires (
-  derivers-reads.Asked,
-  derivers-reads.Learnt,
-  follow-reads.Asked,
-  follow-reads.Learnt,
-  spread-below t,
-  spread.Post,
-) (emit-at t) emit.Post
+emit-spread-requires : (t : ℕ) → emit-lts.Need-spread-requires (emit-calls t) (emit-at t) emit.Post
 emit-spread-requires t c κs =
     let entry = c .before .before .before .before .before .before .before .before .before .before .before .before .before in
     let n = c .before .before .before .before .before .before .derivers .ensures in
@@ -87,24 +79,10 @@ emit-spread-requires t c κs =
     let less = subst (λ (x : ℕ). 2 * (length (entry .args .body .now) - entry .args .node) < x) (entry .pre .0) (omega arith) in
     (less, spread-pre (entry .pre .1) n followed)
 
-emit-same-length : (t : ℕ) → emit-lts.Need-same-length (
-  derivers-reads.Asked,
-  derivers-reads.Learnt,
-  follow-reads.Asked,
-  follow-reads.Learnt,
-  spread-below t,
-  spread.Post,
-) (emit-at t) emit.Post
+emit-same-length : (t : ℕ) → emit-lts.Need-same-length (emit-calls t) (emit-at t) emit.Post
 emit-same-length t c = c .before .before .spread .kept .1 .1 .1 .1 .1 .1 .0 ∙ c .before .before .before .before .before .before .follow .kept .1 .1 .1 .1 .0
 
-emit-returns : (t : ℕ) → emit-lts.Need-returns (
-  derivers-reads.Asked,
-  derivers-reads.Learnt,
-  follow-reads.Asked,
-  follow-reads.Learnt,
-  spread-below t,
-  spread.Post,
-) (emit-at t) emit.Post
+emit-returns : (t : ℕ) → emit-lts.Need-returns (emit-calls t) (emit-at t) emit.Post
 emit-returns t c = λ e.
     let n = c .before .before .before .before .before .before .before .before .before .derivers .ensures in
     let f = c .before .before .before .before .before .before .follow .ensures (follow-pre e n) in
@@ -118,46 +96,13 @@ abbrev spread-μ-loop : spread-lts.MeasureT-loop
 spread-μ-loop rules forms body masks node rule shown₀ at place₀ end here₀ next₀ shown place here next =
     end - place
 
-spread-start-at-requires : (t : ℕ) → spread-lts.Need-start-at-requires (
-  start-at-reads.Asked,
-  start-at-reads.Learnt,
-  size-at-reads.Asked,
-  size-at-reads.Learnt,
-  code-at-reads.Asked,
-  code-at-reads.Learnt,
-  value-at-reads.Asked,
-  value-at-reads.Learnt,
-  emit-below t,
-  emit.Post,
-) (spread-at t) spread.Post spread-Inv-loop spread-μ-loop
+spread-start-at-requires : (t : ℕ) → spread-lts.Need-start-at-requires (spread-calls t) (spread-at t) spread.Post spread-Inv-loop spread-μ-loop
 spread-start-at-requires t c κs = search needs
 
-spread-size-at-requires : (t : ℕ) → spread-lts.Need-size-at-requires (
-  start-at-reads.Asked,
-  start-at-reads.Learnt,
-  size-at-reads.Asked,
-  size-at-reads.Learnt,
-  code-at-reads.Asked,
-  code-at-reads.Learnt,
-  value-at-reads.Asked,
-  value-at-reads.Learnt,
-  emit-below t,
-  emit.Post,
-) (spread-at t) spread.Post spread-Inv-loop spread-μ-loop
+spread-size-at-requires : (t : ℕ) → spread-lts.Need-size-at-requires (spread-calls t) (spread-at t) spread.Post spread-Inv-loop spread-μ-loop
 spread-size-at-requires t c κs = search needs
 
-spread-add-end : (t : ℕ) → spread-lts.Need-add-end (
-  start-at-reads.Asked,
-  start-at-reads.Learnt,
-  size-at-reads.Asked,
-  size-at-reads.Learnt,
-  code-at-reads.Asked,
-  code-at-reads.Learnt,
-  value-at-reads.Asked,
-  value-at-reads.Learnt,
-  emit-below t,
-  emit.Post,
-) (spread-at t) spread.Post spread-Inv-loop spread-μ-loop
+spread-add-end : (t : ℕ) → spread-lts.Need-add-end (spread-calls t) (spread-at t) spread.Post spread-Inv-loop spread-μ-loop
 spread-add-end t c =
     omega (
       arith,
@@ -165,60 +110,16 @@ spread-add-end t c =
           (c .size-at .ensures),
     )
 
-spread-loop-holds : (t : ℕ) → spread-lts.Need-loop-holds (
-  start-at-reads.Asked,
-  start-at-reads.Learnt,
-  size-at-reads.Asked,
-  size-at-reads.Learnt,
-  code-at-reads.Asked,
-  code-at-reads.Learnt,
-  value-at-reads.Asked,
-  value-at-reads.Learnt,
-  emit-below t,
-  emit.Post,
-) (spread-at t) spread.Post spread-Inv-loop spread-μ-loop
+spread-loop-holds : (t : ℕ) → spread-lts.Need-loop-holds (spread-calls t) (spread-at t) spread.Post spread-Inv-loop spread-μ-loop
 spread-loop-holds t c = search spread-start
 
-spread-code-at-requires : (t : ℕ) → spread-lts.Need-code-at-requires (
-  start-at-reads.Asked,
-  start-at-reads.Learnt,
-  size-at-reads.Asked,
-  size-at-reads.Learnt,
-  code-at-reads.Asked,
-  code-at-reads.Learnt,
-  value-at-reads.Asked,
-  value-at-reads.Learnt,
-  emit-below t,
-  emit.Post,
-) (spread-at t) spread.Post spread-Inv-loop spread-μ-loop
+spread-code-at-requires : (t : ℕ) → spread-lts.Need-code-at-requires (spread-calls t) (spread-at t) spread.Post spread-Inv-loop spread-μ-loop
 spread-code-at-requires t c κs = search needs
 
-spread-value-at-requires : (t : ℕ) → spread-lts.Need-value-at-requires (
-  start-at-reads.Asked,
-  start-at-reads.Learnt,
-  size-at-reads.Asked,
-  size-at-reads.Learnt,
-  code-at-reads.Asked,
-  code-at-reads.Learnt,
-  value-at-reads.Asked,
-  value-at-reads.Learnt,
-  emit-below t,
-  emit.Post,
-) (spread-at t) spread.Post spread-Inv-loop spread-μ-loop
+spread-value-at-requires : (t : ℕ) → spread-lts.Need-value-at-requires (spread-calls t) (spread-at t) spread.Post spread-Inv-loop spread-μ-loop
 spread-value-at-requires t c κs = search needs
 
-spread-emit-requires : (t : ℕ) → spread-lts.Need-emit-requires (
-  start-at-reads.Asked,
-  start-at-reads.Learnt,
-  size-at-reads.Asked,
-  size-at-reads.Learnt,
-  code-at-reads.Asked,
-  code-at-reads.Learnt,
-  value-at-reads.Asked,
-  value-at-reads.Learnt,
-  emit-below t,
-  emit.Post,
-) (spread-at t) spread.Post spread-Inv-loop spread-μ-loop
+spread-emit-requires : (t : ℕ) → spread-lts.Need-emit-requires (spread-calls t) (spread-at t) spread.Post spread-Inv-loop spread-μ-loop
 spread-emit-requires t c κs =
     let entry = c .before .before .before .before .before .before .before .before .before .before .before .before .before in
     let loop = c .before .before .before .before .before .loop in
@@ -229,32 +130,10 @@ spread-emit-requires t c κs =
     let less = subst (λ (x : ℕ). 2 * (length (entry .args .body .now) - loop .here) + 1 < x) (entry .pre .0) (omega arith) in
     (less, spread-asks (loop .inv) taken code hole (c .before .value-at .ensures))
 
-spread-size-at-requires-2 : (t : ℕ) → spread-lts.Need-size-at-requires-2 (
-  start-at-reads.Asked,
-  start-at-reads.Learnt,
-  size-at-reads.Asked,
-  size-at-reads.Learnt,
-  code-at-reads.Asked,
-  code-at-reads.Learnt,
-  value-at-reads.Asked,
-  value-at-reads.Learnt,
-  emit-below t,
-  emit.Post,
-) (spread-at t) spread.Post spread-Inv-loop spread-μ-loop
+spread-size-at-requires-2 : (t : ℕ) → spread-lts.Need-size-at-requires-2 (spread-calls t) (spread-at t) spread.Post spread-Inv-loop spread-μ-loop
 spread-size-at-requires-2 t c κs = search needs
 
-spread-add-here : (t : ℕ) → spread-lts.Need-add-here (
-  start-at-reads.Asked,
-  start-at-reads.Learnt,
-  size-at-reads.Asked,
-  size-at-reads.Learnt,
-  code-at-reads.Asked,
-  code-at-reads.Learnt,
-  value-at-reads.Asked,
-  value-at-reads.Learnt,
-  emit-below t,
-  emit.Post,
-) (spread-at t) spread.Post spread-Inv-loop spread-μ-loop
+spread-add-here : (t : ℕ) → spread-lts.Need-add-here (spread-calls t) (spread-at t) spread.Post spread-Inv-loop spread-μ-loop
 spread-add-here t c =
     omega (
       arith,
@@ -262,18 +141,7 @@ spread-add-here t c =
           (c .before .before .before .before .before .before .before .before .loop-test .taken) (c .size-at2 .ensures),
     )
 
-spread-add-place : (t : ℕ) → spread-lts.Need-add-place (
-  start-at-reads.Asked,
-  start-at-reads.Learnt,
-  size-at-reads.Asked,
-  size-at-reads.Learnt,
-  code-at-reads.Asked,
-  code-at-reads.Learnt,
-  value-at-reads.Asked,
-  value-at-reads.Learnt,
-  emit-below t,
-  emit.Post,
-) (spread-at t) spread.Post spread-Inv-loop spread-μ-loop
+spread-add-place : (t : ℕ) → spread-lts.Need-add-place (spread-calls t) (spread-at t) spread.Post spread-Inv-loop spread-μ-loop
 spread-add-place t c =
     omega (
       arith,
@@ -281,32 +149,10 @@ spread-add-place t c =
           (c .before .before .before .before .before .before .before .before .loop-test .taken),
     )
 
-spread-loop-less : (t : ℕ) → spread-lts.Need-loop-less (
-  start-at-reads.Asked,
-  start-at-reads.Learnt,
-  size-at-reads.Asked,
-  size-at-reads.Learnt,
-  code-at-reads.Asked,
-  code-at-reads.Learnt,
-  value-at-reads.Asked,
-  value-at-reads.Learnt,
-  emit-below t,
-  emit.Post,
-) (spread-at t) spread.Post spread-Inv-loop spread-μ-loop
+spread-loop-less : (t : ℕ) → spread-lts.Need-loop-less (spread-calls t) (spread-at t) spread.Post spread-Inv-loop spread-μ-loop
 spread-loop-less t c = omega arith
 
-spread-loop-again : (t : ℕ) → spread-lts.Need-loop-again (
-  start-at-reads.Asked,
-  start-at-reads.Learnt,
-  size-at-reads.Asked,
-  size-at-reads.Learnt,
-  code-at-reads.Asked,
-  code-at-reads.Learnt,
-  value-at-reads.Asked,
-  value-at-reads.Learnt,
-  emit-below t,
-  emit.Post,
-) (spread-at t) spread.Post spread-Inv-loop spread-μ-loop
+spread-loop-again : (t : ℕ) → spread-lts.Need-loop-again (spread-calls t) (spread-at t) spread.Post spread-Inv-loop spread-μ-loop
 spread-loop-again t c =
     spread-hole (c .before .before .before .before .before .before .before .before .before .loop .inv)
     (c .before .before .before .before .before .before .before .before .loop-test .taken)
@@ -314,99 +160,26 @@ spread-loop-again t c =
     (c .before .before .before .before .before .value-at .ensures) (c .before .before .before .emit .ensures) (c .size-at2 .ensures)
     (c .before .before .before .emit .kept .1 .1 .1 .1 .1 .1 .0)
 
-spread-add-here-2 : (t : ℕ) → spread-lts.Need-add-here-2 (
-  start-at-reads.Asked,
-  start-at-reads.Learnt,
-  size-at-reads.Asked,
-  size-at-reads.Learnt,
-  code-at-reads.Asked,
-  code-at-reads.Learnt,
-  value-at-reads.Asked,
-  value-at-reads.Learnt,
-  emit-below t,
-  emit.Post,
-) (spread-at t) spread.Post spread-Inv-loop spread-μ-loop
+spread-add-here-2 : (t : ℕ) → spread-lts.Need-add-here-2 (spread-calls t) (spread-at t) spread.Post spread-Inv-loop spread-μ-loop
 spread-add-here-2 t c = omega (arith, spread-here (c .before .before .before .loop .inv) (c .before .before .loop-test .taken))
 
-spread-add-place-2 : (t : ℕ) → spread-lts.Need-add-place-2 (
-  start-at-reads.Asked,
-  start-at-reads.Learnt,
-  size-at-reads.Asked,
-  size-at-reads.Learnt,
-  code-at-reads.Asked,
-  code-at-reads.Learnt,
-  value-at-reads.Asked,
-  value-at-reads.Learnt,
-  emit-below t,
-  emit.Post,
-) (spread-at t) spread.Post spread-Inv-loop spread-μ-loop
+spread-add-place-2 : (t : ℕ) → spread-lts.Need-add-place-2 (spread-calls t) (spread-at t) spread.Post spread-Inv-loop spread-μ-loop
 spread-add-place-2 t c = omega (arith, spread-place (c .before .before .before .loop .inv) (c .before .before .loop-test .taken))
 
-spread-loop-less-2 : (t : ℕ) → spread-lts.Need-loop-less-2 (
-  start-at-reads.Asked,
-  start-at-reads.Learnt,
-  size-at-reads.Asked,
-  size-at-reads.Learnt,
-  code-at-reads.Asked,
-  code-at-reads.Learnt,
-  value-at-reads.Asked,
-  value-at-reads.Learnt,
-  emit-below t,
-  emit.Post,
-) (spread-at t) spread.Post spread-Inv-loop spread-μ-loop
+spread-loop-less-2 : (t : ℕ) → spread-lts.Need-loop-less-2 (spread-calls t) (spread-at t) spread.Post spread-Inv-loop spread-μ-loop
 spread-loop-less-2 t c = omega arith
 
-spread-loop-again-2 : (t : ℕ) → spread-lts.Need-loop-again-2 (
-  start-at-reads.Asked,
-  start-at-reads.Learnt,
-  size-at-reads.Asked,
-  size-at-reads.Learnt,
-  code-at-reads.Asked,
-  code-at-reads.Learnt,
-  value-at-reads.Asked,
-  value-at-reads.Learnt,
-  emit-below t,
-  emit.Post,
-) (spread-at t) spread.Post spread-Inv-loop spread-μ-loop
+spread-loop-again-2 : (t : ℕ) → spread-lts.Need-loop-again-2 (spread-calls t) (spread-at t) spread.Post spread-Inv-loop spread-μ-loop
 spread-loop-again-2 t c = spread-node (c .before .before .before .loop .inv) (c .before .before .loop-test .taken) (c .before .code-at .ensures) (c .if1 .left)
 
-spread-same-length : (t : ℕ) → spread-lts.Need-same-length (
-  start-at-reads.Asked,
-  start-at-reads.Learnt,
-  size-at-reads.Asked,
-  size-at-reads.Learnt,
-  code-at-reads.Asked,
-  code-at-reads.Learnt,
-  value-at-reads.Asked,
-  value-at-reads.Learnt,
-  emit-below t,
-  emit.Post,
-) (spread-at t) spread.Post spread-Inv-loop spread-μ-loop
+spread-same-length : (t : ℕ) → spread-lts.Need-same-length (spread-calls t) (spread-at t) spread.Post spread-Inv-loop spread-μ-loop
 spread-same-length t c = c .before .loop .inv .same-long
 
-spread-returns : (t : ℕ) → spread-lts.Need-returns (
-  start-at-reads.Asked,
-  start-at-reads.Learnt,
-  size-at-reads.Asked,
-  size-at-reads.Learnt,
-  code-at-reads.Asked,
-  code-at-reads.Learnt,
-  value-at-reads.Asked,
-  value-at-reads.Learnt,
-  emit-below t,
-  emit.Post,
-) (spread-at t) spread.Post spread-Inv-loop spread-μ-loop
+spread-returns : (t : ℕ) → spread-lts.Need-returns (spread-calls t) (spread-at t) spread.Post spread-Inv-loop spread-μ-loop
 spread-returns t c = search spread-end
 
 pub +emit+spread-spec : {M : Type 1} → statement M
-+emit+spread-spec = close μ-emit μ-spread (λ t. emit-lts.spec (
-  derivers-reads.Asked,
-  derivers-reads.Learnt,
-  follow-reads.Asked,
-  follow-reads.Learnt,
-  spread-below t,
-  spread.Post,
-)
++emit+spread-spec = close μ-emit μ-spread (λ t. emit-lts.spec (emit-calls t)
     (emit-at t)
     emit.Post
     (emit-derivers-requires t)
@@ -415,18 +188,7 @@ pub +emit+spread-spec : {M : Type 1} → statement M
     (emit-spread-requires t)
     (emit-same-length t)
     (emit-returns t))
-    λ t. spread-lts.spec (
-      start-at-reads.Asked,
-      start-at-reads.Learnt,
-      size-at-reads.Asked,
-      size-at-reads.Learnt,
-      code-at-reads.Asked,
-      code-at-reads.Learnt,
-      value-at-reads.Asked,
-      value-at-reads.Learnt,
-      emit-below t,
-      emit.Post,
-    )
+    λ t. spread-lts.spec (spread-calls t)
     (spread-at t)
     spread.Post
     spread-Inv-loop

@@ -9,10 +9,11 @@ use Rattle.meaning.proofs.costs.cost_at.Statement.{statement}
 use Rattle.meaning.proofs.costs.cost_at.Tie as tie
 
 abbrev Inv-loop : tie.InvT-loop
-Inv-loop nodes bodies costs i size stop sum₀ j₀ sum j = (sum ≤ 2 ^ 64 - 1) × (stop ≤ length nodes) × ((e : Costing nodes bodies costs i) → Summed e stop sum j)
+Inv-loop nodes bodies costs node size stop sum₀ j₀ sum j =
+    (sum ≤ 2 ^ 64 - 1) × (stop ≤ length nodes) × ((e : Costing nodes bodies costs node) → Summed e stop sum j)
 
 abbrev μ-loop : tie.MeasureT-loop
-μ-loop nodes bodies costs i size stop sum₀ j₀ sum j = stop - j
+μ-loop nodes bodies costs node size stop sum₀ j₀ sum j = stop - j
 
 size-at-requires : tie.Need-size-at-requires Inv-loop μ-loop
 size-at-requires c κs = tt

@@ -15,7 +15,7 @@ returns : tie.Need-returns
 returns c = search needs
 
 returns-2 : tie.Need-returns-2
-returns-2 c = sym (List·getD-eq-default (c .before .args .list .now) 0 {n = c .before .args .i} (omega arith))
+returns-2 c = sym (List·getD-eq-default (c .before .args .list .now) 0 {n = c .before .args .index} (omega arith))
 
 pub number-in-spec : {M : Type 1} → statement M
 number-in-spec = tie.close (tie.spec mul-result shared-slice-read-result returns returns-2)

@@ -1,5 +1,5 @@
-use mathlib.Core.Path.{sym}
-use Rattle.meaning.proofs.Evaluating.{arguments-long, body-evaluable, left-some, literal-value, name-value, operands-evaluable, operator-ready, operator-result, term-within}
+use Rattle.meaning.proofs.Evaluating.{arguments-eight, body-evaluable, body-result, left-some, literal-value, name-value, operands-evaluable}
+use Rattle.meaning.proofs.Evaluating.{operator-ready, operator-result, term-within}
 use Prim.Native.Nat.{_+_, _-_, _*_, ℕ, _<_}
 use Rattle.meaning.specs.Steps.{OperandsEvaluable}
 use borrow.Author.Needs.{needs}
@@ -48,601 +48,9 @@ abbrev eval-term-below : ℕ → In 3 eval-term-kinds.ps
 eval-term-below t =
     and 3 eval-term-kinds.ps (falls 3 eval-term-kinds.ps _<_ μ-eval-term t) eval-term.Pre
 
-abbrev eval-operands-Inv-loop : eval-operands-lts.InvT-loop
-eval-operands-Inv-loop nodes bodies env i stop args₀ left sorts₀ j₀ k₀ args sorts j k =
-    (e : OperandsEvaluable nodes bodies env i stop left) → Done e args₀ args (sorts .one) (sorts .two) j k
-
-abbrev eval-operands-μ-loop : eval-operands-lts.MeasureT-loop
-eval-operands-μ-loop nodes bodies env i stop args₀ left sorts₀ j₀ k₀ args sorts j k = stop - j
-
-eval-operands-loop-holds : (t : ℕ) → eval-operands-lts.Need-loop-holds (
-  eval-term-below t,
-  eval-term.Post,
-  with-sort-reads.Asked,
-  with-sort-reads.Learnt,
-  size-at-reads.Asked,
-  size-at-reads.Learnt,
-) (eval-operands-at t) eval-operands.Post eval-operands-Inv-loop eval-operands-μ-loop
-eval-operands-loop-holds t c = λ e. none-done e _
-
-eval-operands-eval-term-requires : (t : ℕ) → eval-operands-lts.Need-eval-term-requires (
-  eval-term-below t,
-  eval-term.Post,
-  with-sort-reads.Asked,
-  with-sort-reads.Learnt,
-  size-at-reads.Asked,
-  size-at-reads.Learnt,
-) (eval-operands-at t) eval-operands.Post eval-operands-Inv-loop eval-operands-μ-loop
-eval-operands-eval-term-requires t c κs = let e = c .before .before .before .before .before .pre .1 in
-    (omega (arith, c .before .before .before .before .before .pre .0), operand-evaluable e (c .before .loop .inv e) (c .loop-test .taken))
-
-eval-operands-mul-args : (t : ℕ) → eval-operands-lts.Need-mul-args (
-  eval-term-below t,
-  eval-term.Post,
-  with-sort-reads.Asked,
-  with-sort-reads.Learnt,
-  size-at-reads.Asked,
-  size-at-reads.Learnt,
-) (eval-operands-at t) eval-operands.Post eval-operands-Inv-loop eval-operands-μ-loop
-eval-operands-mul-args t c = let e = c .before .before .before .before .before .before .pre .1 in
-    omega (arith, operand-room e (c .before .before .loop .inv e) (c .before .loop-test .taken))
-
-eval-operands-element-write-args : (t : ℕ) → eval-operands-lts.Need-element-write-args (
-  eval-term-below t,
-  eval-term.Post,
-  with-sort-reads.Asked,
-  with-sort-reads.Learnt,
-  size-at-reads.Asked,
-  size-at-reads.Learnt,
-) (eval-operands-at t) eval-operands.Post eval-operands-Inv-loop eval-operands-μ-loop
-eval-operands-element-write-args t c = let e = c .before .before .before .before .before .before .pre .1 in
-    operand-room e (c .before .before .loop .inv e) (c .before .loop-test .taken)
-
-eval-operands-with-sort-requires : (t : ℕ) → eval-operands-lts.Need-with-sort-requires (
-  eval-term-below t,
-  eval-term.Post,
-  with-sort-reads.Asked,
-  with-sort-reads.Learnt,
-  size-at-reads.Asked,
-  size-at-reads.Learnt,
-) (eval-operands-at t) eval-operands.Post eval-operands-Inv-loop eval-operands-μ-loop
-eval-operands-with-sort-requires t c κs = tt
-
-eval-operands-size-at-requires : (t : ℕ) → eval-operands-lts.Need-size-at-requires (
-  eval-term-below t,
-  eval-term.Post,
-  with-sort-reads.Asked,
-  with-sort-reads.Learnt,
-  size-at-reads.Asked,
-  size-at-reads.Learnt,
-) (eval-operands-at t) eval-operands.Post eval-operands-Inv-loop eval-operands-μ-loop
-eval-operands-size-at-requires t c κs = tt
-
-eval-operands-add-j : (t : ℕ) → eval-operands-lts.Need-add-j (
-  eval-term-below t,
-  eval-term.Post,
-  with-sort-reads.Asked,
-  with-sort-reads.Learnt,
-  size-at-reads.Asked,
-  size-at-reads.Learnt,
-) (eval-operands-at t) eval-operands.Post eval-operands-Inv-loop eval-operands-μ-loop
-eval-operands-add-j t c = let e = c .before .before .before .before .before .before .before .before .pre .1 in
-    let r = c .before .before .before .before .loop .inv e in
-    let end = operand-within e r (c .before .before .before .loop-test .taken) (c .size-at .ensures) in
-    omega (arith, end, c .before .before .before .before .before .before .before .before .good .0 .1)
-
-eval-operands-add-k : (t : ℕ) → eval-operands-lts.Need-add-k (
-  eval-term-below t,
-  eval-term.Post,
-  with-sort-reads.Asked,
-  with-sort-reads.Learnt,
-  size-at-reads.Asked,
-  size-at-reads.Learnt,
-) (eval-operands-at t) eval-operands.Post eval-operands-Inv-loop eval-operands-μ-loop
-eval-operands-add-k t c = let e = c .before .before .before .before .before .before .before .before .pre .1 in
-    omega (arith, operand-room e (c .before .before .before .before .loop .inv e) (c .before .before .before .loop-test .taken))
-
-eval-operands-loop-less : (t : ℕ) → eval-operands-lts.Need-loop-less (
-  eval-term-below t,
-  eval-term.Post,
-  with-sort-reads.Asked,
-  with-sort-reads.Learnt,
-  size-at-reads.Asked,
-  size-at-reads.Learnt,
-) (eval-operands-at t) eval-operands.Post eval-operands-Inv-loop eval-operands-μ-loop
-eval-operands-loop-less t c = let h = c .before .before .before .loop-test .taken in
-    let e = c .before .before .before .before .before .before .before .before .pre .1 in
-    omega (arith, operand-size e (c .before .before .before .before .loop .inv e) h (c .size-at .ensures), h)
-
-eval-operands-loop-again : (t : ℕ) → eval-operands-lts.Need-loop-again (
-  eval-term-below t,
-  eval-term.Post,
-  with-sort-reads.Asked,
-  with-sort-reads.Learnt,
-  size-at-reads.Asked,
-  size-at-reads.Learnt,
-) (eval-operands-at t) eval-operands.Post eval-operands-Inv-loop eval-operands-μ-loop
-eval-operands-loop-again t c = search (one-done, c .before .before .before .before .loop .inv)
-
-eval-operands-returns : (t : ℕ) → eval-operands-lts.Need-returns (
-  eval-term-below t,
-  eval-term.Post,
-  with-sort-reads.Asked,
-  with-sort-reads.Learnt,
-  size-at-reads.Asked,
-  size-at-reads.Learnt,
-) (eval-operands-at t) eval-operands.Post eval-operands-Inv-loop eval-operands-μ-loop
-eval-operands-returns t c = λ e. all-done e (c .before .loop .inv e) (c .loop-test .left)
-
-eval-term-code-at-requires : (t : ℕ) → eval-term-lts.Need-code-at-requires (
-  code-at-reads.Asked,
-  code-at-reads.Learnt,
-  value-at-reads.Asked,
-  value-at-reads.Learnt,
-  number-in-reads.Asked,
-  number-in-reads.Learnt,
-  size-at-reads.Asked,
-  size-at-reads.Learnt,
-  eval-operands-below t,
-  eval-operands.Post,
-  operator-value-reads.Asked,
-  operator-value-reads.Learnt,
-  body-place-reads.Asked,
-  body-place-reads.Learnt,
-  eval-term-below t,
-  eval-term.Post,
-) (eval-term-at t) eval-term.Post
-eval-term-code-at-requires t c κs = tt
-
-eval-term-value-at-requires : (t : ℕ) → eval-term-lts.Need-value-at-requires (
-  code-at-reads.Asked,
-  code-at-reads.Learnt,
-  value-at-reads.Asked,
-  value-at-reads.Learnt,
-  number-in-reads.Asked,
-  number-in-reads.Learnt,
-  size-at-reads.Asked,
-  size-at-reads.Learnt,
-  eval-operands-below t,
-  eval-operands.Post,
-  operator-value-reads.Asked,
-  operator-value-reads.Learnt,
-  body-place-reads.Asked,
-  body-place-reads.Learnt,
-  eval-term-below t,
-  eval-term.Post,
-) (eval-term-at t) eval-term.Post
-eval-term-value-at-requires t c κs = tt
-
-eval-term-returns : (t : ℕ) → eval-term-lts.Need-returns (
-  code-at-reads.Asked,
-  code-at-reads.Learnt,
-  value-at-reads.Asked,
-  value-at-reads.Learnt,
-  number-in-reads.Asked,
-  number-in-reads.Learnt,
-  size-at-reads.Asked,
-  size-at-reads.Learnt,
-  eval-operands-below t,
-  eval-operands.Post,
-  operator-value-reads.Asked,
-  operator-value-reads.Learnt,
-  body-place-reads.Asked,
-  body-place-reads.Learnt,
-  eval-term-below t,
-  eval-term.Post,
-) (eval-term-at t) eval-term.Post
-eval-term-returns t c = search literal-value
-
-eval-term-number-in-requires : (t : ℕ) → eval-term-lts.Need-number-in-requires (
-  code-at-reads.Asked,
-  code-at-reads.Learnt,
-  value-at-reads.Asked,
-  value-at-reads.Learnt,
-  number-in-reads.Asked,
-  number-in-reads.Learnt,
-  size-at-reads.Asked,
-  size-at-reads.Learnt,
-  eval-operands-below t,
-  eval-operands.Post,
-  operator-value-reads.Asked,
-  operator-value-reads.Learnt,
-  body-place-reads.Asked,
-  body-place-reads.Learnt,
-  eval-term-below t,
-  eval-term.Post,
-) (eval-term-at t) eval-term.Post
-eval-term-number-in-requires t c κs = tt
-
-eval-term-returns-2 : (t : ℕ) → eval-term-lts.Need-returns-2 (
-  code-at-reads.Asked,
-  code-at-reads.Learnt,
-  value-at-reads.Asked,
-  value-at-reads.Learnt,
-  number-in-reads.Asked,
-  number-in-reads.Learnt,
-  size-at-reads.Asked,
-  size-at-reads.Learnt,
-  eval-operands-below t,
-  eval-operands.Post,
-  operator-value-reads.Asked,
-  operator-value-reads.Learnt,
-  body-place-reads.Asked,
-  body-place-reads.Learnt,
-  eval-term-below t,
-  eval-term.Post,
-) (eval-term-at t) eval-term.Post
-eval-term-returns-2 t c = search name-value
-
-eval-term-size-at-requires : (t : ℕ) → eval-term-lts.Need-size-at-requires (
-  code-at-reads.Asked,
-  code-at-reads.Learnt,
-  value-at-reads.Asked,
-  value-at-reads.Learnt,
-  number-in-reads.Asked,
-  number-in-reads.Learnt,
-  size-at-reads.Asked,
-  size-at-reads.Learnt,
-  eval-operands-below t,
-  eval-operands.Post,
-  operator-value-reads.Asked,
-  operator-value-reads.Learnt,
-  body-place-reads.Asked,
-  body-place-reads.Learnt,
-  eval-term-below t,
-  eval-term.Post,
-) (eval-term-at t) eval-term.Post
-eval-term-size-at-requires t c κs = tt
-
-eval-term-add-stop : (t : ℕ) → eval-term-lts.Need-add-stop (
-  code-at-reads.Asked,
-  code-at-reads.Learnt,
-  value-at-reads.Asked,
-  value-at-reads.Learnt,
-  number-in-reads.Asked,
-  number-in-reads.Learnt,
-  size-at-reads.Asked,
-  size-at-reads.Learnt,
-  eval-operands-below t,
-  eval-operands.Post,
-  operator-value-reads.Asked,
-  operator-value-reads.Learnt,
-  body-place-reads.Asked,
-  body-place-reads.Learnt,
-  eval-term-below t,
-  eval-term.Post,
-) (eval-term-at t) eval-term.Post
-eval-term-add-stop t c = let end = term-within (c .before .before .before .before .before .before .before .before .pre .1) (c .size-at .ensures) in
-    omega (arith, end, c .before .before .before .before .before .before .before .before .good .0 .1)
-
-eval-term-add-eval-operands : (t : ℕ) → eval-term-lts.Need-add-eval-operands (
-  code-at-reads.Asked,
-  code-at-reads.Learnt,
-  value-at-reads.Asked,
-  value-at-reads.Learnt,
-  number-in-reads.Asked,
-  number-in-reads.Learnt,
-  size-at-reads.Asked,
-  size-at-reads.Learnt,
-  eval-operands-below t,
-  eval-operands.Post,
-  operator-value-reads.Asked,
-  operator-value-reads.Learnt,
-  body-place-reads.Asked,
-  body-place-reads.Learnt,
-  eval-term-below t,
-  eval-term.Post,
-) (eval-term-at t) eval-term.Post
-eval-term-add-eval-operands t c = let end = term-within (c .before .before .before .before .before .before .before .before .pre .1) (c .size-at .ensures) in
-    omega (arith, end, c .before .before .before .before .before .before .before .before .good .0 .1)
-
-eval-term-sub-eval-operands : (t : ℕ) → eval-term-lts.Need-sub-eval-operands (
-  code-at-reads.Asked,
-  code-at-reads.Learnt,
-  value-at-reads.Asked,
-  value-at-reads.Learnt,
-  number-in-reads.Asked,
-  number-in-reads.Learnt,
-  size-at-reads.Asked,
-  size-at-reads.Learnt,
-  eval-operands-below t,
-  eval-operands.Post,
-  operator-value-reads.Asked,
-  operator-value-reads.Learnt,
-  body-place-reads.Asked,
-  body-place-reads.Learnt,
-  eval-term-below t,
-  eval-term.Post,
-) (eval-term-at t) eval-term.Post
-eval-term-sub-eval-operands t c = left-some (c .before .before .before .before .before .before .before .before .before .pre .1)
-
-eval-term-eval-operands-requires : (t : ℕ) → eval-term-lts.Need-eval-operands-requires (
-  code-at-reads.Asked,
-  code-at-reads.Learnt,
-  value-at-reads.Asked,
-  value-at-reads.Learnt,
-  number-in-reads.Asked,
-  number-in-reads.Learnt,
-  size-at-reads.Asked,
-  size-at-reads.Learnt,
-  eval-operands-below t,
-  eval-operands.Post,
-  operator-value-reads.Asked,
-  operator-value-reads.Learnt,
-  body-place-reads.Asked,
-  body-place-reads.Learnt,
-  eval-term-below t,
-  eval-term.Post,
-) (eval-term-at t) eval-term.Post
-eval-term-eval-operands-requires t c κs = let e = c .before .before .before .before .before .before .before .before .before .pre .1 in
-    let code = c .before .before .before .before .before .code-at .ensures in
-    let value = c .before .before .before .before .value-at .ensures in (
-      omega (arith, c .before .before .before .before .before .before .before .before .before .pre .0, left-some e),
-      operands-evaluable e code value (c .before .before .before .if1 .left) (c .before .before .if2 .left) (c .before .size-at .ensures),
-    )
-
-eval-term-array-read-operator-value : (t : ℕ) → eval-term-lts.Need-array-read-operator-value (
-  code-at-reads.Asked,
-  code-at-reads.Learnt,
-  value-at-reads.Asked,
-  value-at-reads.Learnt,
-  number-in-reads.Asked,
-  number-in-reads.Learnt,
-  size-at-reads.Asked,
-  size-at-reads.Learnt,
-  eval-operands-below t,
-  eval-operands.Post,
-  operator-value-reads.Asked,
-  operator-value-reads.Learnt,
-  body-place-reads.Asked,
-  body-place-reads.Learnt,
-  eval-term-below t,
-  eval-term.Post,
-) (eval-term-at t) eval-term.Post
-eval-term-array-read-operator-value t c = search needs
-
-eval-term-array-read-operator-value-2 : (t : ℕ) → eval-term-lts.Need-array-read-operator-value-2 (
-  code-at-reads.Asked,
-  code-at-reads.Learnt,
-  value-at-reads.Asked,
-  value-at-reads.Learnt,
-  number-in-reads.Asked,
-  number-in-reads.Learnt,
-  size-at-reads.Asked,
-  size-at-reads.Learnt,
-  eval-operands-below t,
-  eval-operands.Post,
-  operator-value-reads.Asked,
-  operator-value-reads.Learnt,
-  body-place-reads.Asked,
-  body-place-reads.Learnt,
-  eval-term-below t,
-  eval-term.Post,
-) (eval-term-at t) eval-term.Post
-eval-term-array-read-operator-value-2 t c = search needs
-
-eval-term-array-read-operator-value-3 : (t : ℕ) → eval-term-lts.Need-array-read-operator-value-3 (
-  code-at-reads.Asked,
-  code-at-reads.Learnt,
-  value-at-reads.Asked,
-  value-at-reads.Learnt,
-  number-in-reads.Asked,
-  number-in-reads.Learnt,
-  size-at-reads.Asked,
-  size-at-reads.Learnt,
-  eval-operands-below t,
-  eval-operands.Post,
-  operator-value-reads.Asked,
-  operator-value-reads.Learnt,
-  body-place-reads.Asked,
-  body-place-reads.Learnt,
-  eval-term-below t,
-  eval-term.Post,
-) (eval-term-at t) eval-term.Post
-eval-term-array-read-operator-value-3 t c = search needs
-
-eval-term-operator-value-requires : (t : ℕ) → eval-term-lts.Need-operator-value-requires (
-  code-at-reads.Asked,
-  code-at-reads.Learnt,
-  value-at-reads.Asked,
-  value-at-reads.Learnt,
-  number-in-reads.Asked,
-  number-in-reads.Learnt,
-  size-at-reads.Asked,
-  size-at-reads.Learnt,
-  eval-operands-below t,
-  eval-operands.Post,
-  operator-value-reads.Asked,
-  operator-value-reads.Learnt,
-  body-place-reads.Asked,
-  body-place-reads.Learnt,
-  eval-term-below t,
-  eval-term.Post,
-) (eval-term-at t) eval-term.Post
-eval-term-operator-value-requires t c κs = let e = c .before .before .before .before .before .before .before .before .before .before .before .pre .1 in
-    let code = c .before .before .before .before .before .before .before .code-at .ensures in
-    let value = c .before .before .before .before .before .before .value-at .ensures in
-    let n = c .before .before .before .before .before .if1 .left in
-    let m = c .before .before .before .before .if2 .left in
-    let are = c .before .eval-operands .ensures (operands-evaluable e code value n m (c .before .before .before .size-at .ensures)) in
-    operator-ready e code value n m are (c .if3 .taken)
-
-eval-term-returns-3 : (t : ℕ) → eval-term-lts.Need-returns-3 (
-  code-at-reads.Asked,
-  code-at-reads.Learnt,
-  value-at-reads.Asked,
-  value-at-reads.Learnt,
-  number-in-reads.Asked,
-  number-in-reads.Learnt,
-  size-at-reads.Asked,
-  size-at-reads.Learnt,
-  eval-operands-below t,
-  eval-operands.Post,
-  operator-value-reads.Asked,
-  operator-value-reads.Learnt,
-  body-place-reads.Asked,
-  body-place-reads.Learnt,
-  eval-term-below t,
-  eval-term.Post,
-) (eval-term-at t) eval-term.Post
-eval-term-returns-3 t c = λ e.
-    let code = c .before .before .before .before .before .before .before .before .code-at .ensures in
-    let value = c .before .before .before .before .before .before .before .value-at .ensures in
-    let n = c .before .before .before .before .before .before .if1 .left in
-    let m = c .before .before .before .before .before .if2 .left in
-    let are = c .before .before .eval-operands .ensures (operands-evaluable e code value n m (c .before .before .before .before .size-at .ensures)) in
-    operator-result e code value n m are (c .before .if3 .taken) (c .operator-value .ensures)
-
-eval-term-body-place-requires : (t : ℕ) → eval-term-lts.Need-body-place-requires (
-  code-at-reads.Asked,
-  code-at-reads.Learnt,
-  value-at-reads.Asked,
-  value-at-reads.Learnt,
-  number-in-reads.Asked,
-  number-in-reads.Learnt,
-  size-at-reads.Asked,
-  size-at-reads.Learnt,
-  eval-operands-below t,
-  eval-operands.Post,
-  operator-value-reads.Asked,
-  operator-value-reads.Learnt,
-  body-place-reads.Asked,
-  body-place-reads.Learnt,
-  eval-term-below t,
-  eval-term.Post,
-) (eval-term-at t) eval-term.Post
-eval-term-body-place-requires t c κs = tt
-
-eval-term-number-in-requires-2 : (t : ℕ) → eval-term-lts.Need-number-in-requires-2 (
-  code-at-reads.Asked,
-  code-at-reads.Learnt,
-  value-at-reads.Asked,
-  value-at-reads.Learnt,
-  number-in-reads.Asked,
-  number-in-reads.Learnt,
-  size-at-reads.Asked,
-  size-at-reads.Learnt,
-  eval-operands-below t,
-  eval-operands.Post,
-  operator-value-reads.Asked,
-  operator-value-reads.Learnt,
-  body-place-reads.Asked,
-  body-place-reads.Learnt,
-  eval-term-below t,
-  eval-term.Post,
-) (eval-term-at t) eval-term.Post
-eval-term-number-in-requires-2 t c κs = tt
-
-eval-term-slice-aggregate-eval-term : (t : ℕ) → eval-term-lts.Need-slice-aggregate-eval-term (
-  code-at-reads.Asked,
-  code-at-reads.Learnt,
-  value-at-reads.Asked,
-  value-at-reads.Learnt,
-  number-in-reads.Asked,
-  number-in-reads.Learnt,
-  size-at-reads.Asked,
-  size-at-reads.Learnt,
-  eval-operands-below t,
-  eval-operands.Post,
-  operator-value-reads.Asked,
-  operator-value-reads.Learnt,
-  body-place-reads.Asked,
-  body-place-reads.Learnt,
-  eval-term-below t,
-  eval-term.Post,
-) (eval-term-at t) eval-term.Post
-eval-term-slice-aggregate-eval-term t c =
-    let e = c .before .before .before .before .before .before .before .before .before .before .before .before .before .before .pre .1 in
-    let code = c .before .before .before .before .before .before .before .before .before .before .code-at .ensures in
-    let value = c .before .before .before .before .before .before .before .before .before .value-at .ensures in
-    let n = c .before .before .before .before .before .before .before .before .if1 .left in
-    let m = c .before .before .before .before .before .before .before .if2 .left in
-    let operands = operands-evaluable e code value n m (c .before .before .before .before .before .before .size-at .ensures) in
-    sym (arguments-long e code value n m (c .before .before .before .before .eval-operands .ensures operands))
-
-eval-term-sub-eval-term : (t : ℕ) → eval-term-lts.Need-sub-eval-term (
-  code-at-reads.Asked,
-  code-at-reads.Learnt,
-  value-at-reads.Asked,
-  value-at-reads.Learnt,
-  number-in-reads.Asked,
-  number-in-reads.Learnt,
-  size-at-reads.Asked,
-  size-at-reads.Learnt,
-  eval-operands-below t,
-  eval-operands.Post,
-  operator-value-reads.Asked,
-  operator-value-reads.Learnt,
-  body-place-reads.Asked,
-  body-place-reads.Learnt,
-  eval-term-below t,
-  eval-term.Post,
-) (eval-term-at t) eval-term.Post
-eval-term-sub-eval-term t c =
-    left-some (c .before .before .before .before .before .before .before .before .before .before .before .before .before .before .pre .1)
-
-eval-term-eval-term-requires : (t : ℕ) → eval-term-lts.Need-eval-term-requires (
-  code-at-reads.Asked,
-  code-at-reads.Learnt,
-  value-at-reads.Asked,
-  value-at-reads.Learnt,
-  number-in-reads.Asked,
-  number-in-reads.Learnt,
-  size-at-reads.Asked,
-  size-at-reads.Learnt,
-  eval-operands-below t,
-  eval-operands.Post,
-  operator-value-reads.Asked,
-  operator-value-reads.Learnt,
-  body-place-reads.Asked,
-  body-place-reads.Learnt,
-  eval-term-below t,
-  eval-term.Post,
-) (eval-term-at t) eval-term.Post
-eval-term-eval-term-requires t c κs =
-    let e = c .before .before .before .before .before .before .before .before .before .before .before .before .before .before .pre .1 in
-    let code = c .before .before .before .before .before .before .before .before .before .before .code-at .ensures in
-    let value = c .before .before .before .before .before .before .before .before .before .value-at .ensures in
-    let n = c .before .before .before .before .before .before .before .before .if1 .left in
-    let m = c .before .before .before .before .before .before .before .if2 .left in
-    let operands = operands-evaluable e code value n m (c .before .before .before .before .before .before .size-at .ensures) in
-    let are = c .before .before .before .before .eval-operands .ensures operands in
-    let place = c .before .before .body-place .ensures in (
-      omega (arith, c .before .before .before .before .before .before .before .before .before .before .before .before .before .before .pre .0, left-some e),
-      body-evaluable e code value n m are (c .before .before .before .if3 .left) place (c .before .number-in2 .ensures),
-    )
-
-eval-term-returns-4 : (t : ℕ) → eval-term-lts.Need-returns-4 (
-  code-at-reads.Asked,
-  code-at-reads.Learnt,
-  value-at-reads.Asked,
-  value-at-reads.Learnt,
-  number-in-reads.Asked,
-  number-in-reads.Learnt,
-  size-at-reads.Asked,
-  size-at-reads.Learnt,
-  eval-operands-below t,
-  eval-operands.Post,
-  operator-value-reads.Asked,
-  operator-value-reads.Learnt,
-  body-place-reads.Asked,
-  body-place-reads.Learnt,
-  eval-term-below t,
-  eval-term.Post,
-) (eval-term-at t) eval-term.Post
-eval-term-returns-4 t c = λ e.
-    let code = c .before .before .before .before .before .before .before .before .before .before .before .code-at .ensures in
-    let value = c .before .before .before .before .before .before .before .before .before .before .value-at .ensures in
-    let n = c .before .before .before .before .before .before .before .before .before .if1 .left in
-    let m = c .before .before .before .before .before .before .before .before .if2 .left in
-    let operands = operands-evaluable e code value n m (c .before .before .before .before .before .before .before .size-at .ensures) in
-    let are = c .before .before .before .before .before .eval-operands .ensures operands in
-    let place = c .before .before .before .body-place .ensures in
-    let body = body-evaluable e code value n m are (c .before .before .before .before .if3 .left) place (c .before .before .number-in2 .ensures) in
-    c .eval-term .ensures body
-
-pub +eval-operands+eval-term-spec : {M : Type 1} → statement M
-+eval-operands+eval-term-spec = close μ-eval-operands μ-eval-term (λ t. eval-operands-lts.spec (
+-- What the operand evaluator knows of the functions that it calls.
+abbrev operands-calls : ℕ → eval-operands-lts.Claims
+operands-calls t = (
   eval-term-below t,
   eval-term.Post,
   with-sort-reads.Asked,
@@ -650,10 +58,162 @@ pub +eval-operands+eval-term-spec : {M : Type 1} → statement M
   size-at-reads.Asked,
   size-at-reads.Learnt,
 )
+
+-- What the term evaluator knows of the functions that it calls.
+abbrev term-calls : ℕ → eval-term-lts.Claims
+term-calls t = (
+  code-at-reads.Asked,
+  code-at-reads.Learnt,
+  value-at-reads.Asked,
+  value-at-reads.Learnt,
+  number-in-reads.Asked,
+  number-in-reads.Learnt,
+  size-at-reads.Asked,
+  size-at-reads.Learnt,
+  eval-operands-below t,
+  eval-operands.Post,
+  operator-value-reads.Asked,
+  operator-value-reads.Learnt,
+  body-place-reads.Asked,
+  body-place-reads.Learnt,
+  eval-term-below t,
+  eval-term.Post,
+)
+
+abbrev Inv-loop : eval-operands-lts.InvT-loop
+Inv-loop nodes bodies env start stop args₀ left sorts₀ j₀ k₀ args sorts j k =
+    (e : OperandsEvaluable nodes bodies env start stop left) → Done e args₀ args (sorts .one) (sorts .two) j k
+
+abbrev μ-loop : eval-operands-lts.MeasureT-loop
+μ-loop nodes bodies env start stop args₀ left sorts₀ j₀ k₀ args sorts j k = stop - j
+
+-- The operand evaluator, where t bounds the measure.
+module _ (t : ℕ) where
+  eval-operands-loop-holds : eval-operands-lts.Need-loop-holds (operands-calls t) (eval-operands-at t) eval-operands.Post Inv-loop μ-loop
+  eval-operands-loop-holds c = λ e. none-done e _
+
+  eval-operands-eval-term-requires : eval-operands-lts.Need-eval-term-requires (operands-calls t) (eval-operands-at t) eval-operands.Post Inv-loop μ-loop
+  eval-operands-eval-term-requires c κs =
+      let start = c .before .before .before .before .before in
+      let e = start .pre .1 in
+      (omega (arith, start .pre .0), operand-evaluable e (c .before .loop .inv e) (c .loop-test .taken))
+
+  eval-operands-mul-args : eval-operands-lts.Need-mul-args (operands-calls t) (eval-operands-at t) eval-operands.Post Inv-loop μ-loop
+  eval-operands-mul-args c =
+      let e = c .before .before .before .before .before .before .pre .1 in
+      omega (arith, operand-room e (c .before .before .loop .inv e) (c .before .loop-test .taken))
+
+  eval-operands-element-write-args : eval-operands-lts.Need-element-write-args (operands-calls t) (eval-operands-at t) eval-operands.Post Inv-loop μ-loop
+  eval-operands-element-write-args c =
+      let e = c .before .before .before .before .before .before .pre .1 in
+      operand-room e (c .before .before .loop .inv e) (c .before .loop-test .taken)
+
+  eval-operands-with-sort-requires : eval-operands-lts.Need-with-sort-requires (operands-calls t) (eval-operands-at t) eval-operands.Post Inv-loop μ-loop
+  eval-operands-with-sort-requires c κs = tt
+
+  eval-operands-size-at-requires : eval-operands-lts.Need-size-at-requires (operands-calls t) (eval-operands-at t) eval-operands.Post Inv-loop μ-loop
+  eval-operands-size-at-requires c κs = tt
+
+  eval-operands-add-j : eval-operands-lts.Need-add-j (operands-calls t) (eval-operands-at t) eval-operands.Post Inv-loop μ-loop
+  eval-operands-add-j c = let e = c .before .before .before .before .before .before .before .before .pre .1 in
+      let r = c .before .before .before .before .loop .inv e in
+      let end = operand-within e r (c .before .before .before .loop-test .taken) (c .size-at .ensures) in
+      omega (arith, end, c .before .before .before .before .before .before .before .before .good .0 .1)
+
+  eval-operands-add-k : eval-operands-lts.Need-add-k (operands-calls t) (eval-operands-at t) eval-operands.Post Inv-loop μ-loop
+  eval-operands-add-k c = let e = c .before .before .before .before .before .before .before .before .pre .1 in
+      omega (arith, operand-room e (c .before .before .before .before .loop .inv e) (c .before .before .before .loop-test .taken))
+
+  eval-operands-loop-less : eval-operands-lts.Need-loop-less (operands-calls t) (eval-operands-at t) eval-operands.Post Inv-loop μ-loop
+  eval-operands-loop-less c = let h = c .before .before .before .loop-test .taken in
+      let e = c .before .before .before .before .before .before .before .before .pre .1 in
+      omega (arith, operand-size e (c .before .before .before .before .loop .inv e) h (c .size-at .ensures), h)
+
+  eval-operands-loop-again : eval-operands-lts.Need-loop-again (operands-calls t) (eval-operands-at t) eval-operands.Post Inv-loop μ-loop
+  eval-operands-loop-again c = search (one-done, c .before .before .before .before .loop .inv)
+
+  eval-operands-returns : eval-operands-lts.Need-returns (operands-calls t) (eval-operands-at t) eval-operands.Post Inv-loop μ-loop
+  eval-operands-returns c = λ e. all-done e (c .before .loop .inv e) (c .loop-test .left)
+
+-- The term evaluator.
+module _ (t : ℕ) where
+  eval-term-code-at-requires : eval-term-lts.Need-code-at-requires (term-calls t) (eval-term-at t) eval-term.Post
+  eval-term-code-at-requires c κs = tt
+
+  eval-term-value-at-requires : eval-term-lts.Need-value-at-requires (term-calls t) (eval-term-at t) eval-term.Post
+  eval-term-value-at-requires c κs = tt
+
+  eval-term-returns : eval-term-lts.Need-returns (term-calls t) (eval-term-at t) eval-term.Post
+  eval-term-returns c = search literal-value
+
+  eval-term-number-in-requires : eval-term-lts.Need-number-in-requires (term-calls t) (eval-term-at t) eval-term.Post
+  eval-term-number-in-requires c κs = tt
+
+  eval-term-returns-2 : eval-term-lts.Need-returns-2 (term-calls t) (eval-term-at t) eval-term.Post
+  eval-term-returns-2 c = search name-value
+
+  eval-term-size-at-requires : eval-term-lts.Need-size-at-requires (term-calls t) (eval-term-at t) eval-term.Post
+  eval-term-size-at-requires c κs = tt
+
+  eval-term-add-stop : eval-term-lts.Need-add-stop (term-calls t) (eval-term-at t) eval-term.Post
+  eval-term-add-stop c =
+      let start = c .before .before .before .before .before .before .before .before in
+      omega (arith, term-within (start .pre .1) (c .size-at .ensures), start .good .0 .1)
+
+  eval-term-add-eval-operands : eval-term-lts.Need-add-eval-operands (term-calls t) (eval-term-at t) eval-term.Post
+  eval-term-add-eval-operands c =
+      let start = c .before .before .before .before .before .before .before .before in
+      omega (arith, term-within (start .pre .1) (c .size-at .ensures), start .good .0 .1)
+
+  eval-term-sub-eval-operands : eval-term-lts.Need-sub-eval-operands (term-calls t) (eval-term-at t) eval-term.Post
+  eval-term-sub-eval-operands c = search left-some
+
+  eval-term-eval-operands-requires : eval-term-lts.Need-eval-operands-requires (term-calls t) (eval-term-at t) eval-term.Post
+  eval-term-eval-operands-requires c κs =
+      let start = c .before .before .before .before .before .before .before .before .before in
+      (omega (arith, start .pre .0, left-some (start .pre .1)), search (operands-evaluable (start .pre .1)))
+
+  eval-term-array-read-operator-value : eval-term-lts.Need-array-read-operator-value (term-calls t) (eval-term-at t) eval-term.Post
+  eval-term-array-read-operator-value c = search needs
+
+  eval-term-array-read-operator-value-2 : eval-term-lts.Need-array-read-operator-value-2 (term-calls t) (eval-term-at t) eval-term.Post
+  eval-term-array-read-operator-value-2 c = search needs
+
+  eval-term-array-read-operator-value-3 : eval-term-lts.Need-array-read-operator-value-3 (term-calls t) (eval-term-at t) eval-term.Post
+  eval-term-array-read-operator-value-3 c = search needs
+
+  eval-term-operator-value-requires : eval-term-lts.Need-operator-value-requires (term-calls t) (eval-term-at t) eval-term.Post
+  eval-term-operator-value-requires c κs = search operator-ready
+
+  eval-term-returns-3 : eval-term-lts.Need-returns-3 (term-calls t) (eval-term-at t) eval-term.Post
+  eval-term-returns-3 c = λ e. search operator-result
+
+  eval-term-body-place-requires : eval-term-lts.Need-body-place-requires (term-calls t) (eval-term-at t) eval-term.Post
+  eval-term-body-place-requires c κs = tt
+
+  eval-term-number-in-requires-2 : eval-term-lts.Need-number-in-requires-2 (term-calls t) (eval-term-at t) eval-term.Post
+  eval-term-number-in-requires-2 c κs = tt
+
+  eval-term-slice-aggregate-eval-term : eval-term-lts.Need-slice-aggregate-eval-term (term-calls t) (eval-term-at t) eval-term.Post
+  eval-term-slice-aggregate-eval-term c = search arguments-eight
+
+  eval-term-sub-eval-term : eval-term-lts.Need-sub-eval-term (term-calls t) (eval-term-at t) eval-term.Post
+  eval-term-sub-eval-term c = search left-some
+
+  eval-term-eval-term-requires : eval-term-lts.Need-eval-term-requires (term-calls t) (eval-term-at t) eval-term.Post
+  eval-term-eval-term-requires c κs =
+      let start = c .before .before .before .before .before .before .before .before .before .before .before .before .before .before in
+      (omega (arith, start .pre .0, left-some (start .pre .1)), search (body-evaluable (start .pre .1)))
+
+  eval-term-returns-4 : eval-term-lts.Need-returns-4 (term-calls t) (eval-term-at t) eval-term.Post
+  eval-term-returns-4 c = λ e. search body-result
+
+pub +eval-operands+eval-term-spec : {M : Type 1} → statement M
++eval-operands+eval-term-spec = close μ-eval-operands μ-eval-term (λ t. eval-operands-lts.spec (operands-calls t)
     (eval-operands-at t)
     eval-operands.Post
-    eval-operands-Inv-loop
-    eval-operands-μ-loop
+    Inv-loop
+    μ-loop
     (eval-operands-loop-holds t)
     (eval-operands-eval-term-requires t)
     (eval-operands-mul-args t)
@@ -665,24 +225,7 @@ pub +eval-operands+eval-term-spec : {M : Type 1} → statement M
     (eval-operands-loop-less t)
     (eval-operands-loop-again t)
     (eval-operands-returns t))
-    λ t. eval-term-lts.spec (
-      code-at-reads.Asked,
-      code-at-reads.Learnt,
-      value-at-reads.Asked,
-      value-at-reads.Learnt,
-      number-in-reads.Asked,
-      number-in-reads.Learnt,
-      size-at-reads.Asked,
-      size-at-reads.Learnt,
-      eval-operands-below t,
-      eval-operands.Post,
-      operator-value-reads.Asked,
-      operator-value-reads.Learnt,
-      body-place-reads.Asked,
-      body-place-reads.Learnt,
-      eval-term-below t,
-      eval-term.Post,
-    )
+    λ t. eval-term-lts.spec (term-calls t)
     (eval-term-at t)
     eval-term.Post
     (eval-term-code-at-requires t)

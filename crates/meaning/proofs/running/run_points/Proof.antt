@@ -6,11 +6,11 @@ use Rattle.meaning.proofs.running.run_points.Statement.{statement}
 use Rattle.meaning.proofs.running.run_points.Tie as tie
 
 abbrev Inv-loop : tie.InvT-loop
-Inv-loop nodes bodies costs places sorts numbers budget width count left₀ p₀ left p =
-    (e : PointsRunnable nodes bodies costs places sorts numbers) → PointsLeft e budget left p
+Inv-loop nodes bodies costs places sorts numbers budget width count left₀ point₀ left point =
+    (e : PointsRunnable nodes bodies costs places sorts numbers) → PointsLeft e budget left point
 
 abbrev μ-loop : tie.MeasureT-loop
-μ-loop nodes bodies costs places sorts numbers budget width count left₀ p₀ left p = count - p
+μ-loop nodes bodies costs places sorts numbers budget width count left₀ point₀ left point = count - point
 
 point-count-requires : tie.Need-point-count-requires Inv-loop μ-loop
 point-count-requires c κs = tt
@@ -61,8 +61,8 @@ returns c = λ e.
 left-of-requires : tie.Need-left-of-requires Inv-loop μ-loop
 left-of-requires c κs = tt
 
-add-p : tie.Need-add-p Inv-loop μ-loop
-add-p c = omega arith
+add-point : tie.Need-add-point Inv-loop μ-loop
+add-point c = omega arith
 
 loop-less : tie.Need-loop-less Inv-loop μ-loop
 loop-less c = omega arith
@@ -91,7 +91,7 @@ run-points-spec =
     all-passed-requires
     returns
     left-of-requires
-    add-p
+    add-point
     loop-less
     loop-again
     returns-2)

@@ -8,11 +8,11 @@ use Rattle.meaning.proofs.running.run_terms.Statement.{statement}
 use Rattle.meaning.proofs.running.run_terms.Tie as tie
 
 abbrev Inv-loop : tie.InvT-loop
-Inv-loop nodes bodies costs places env p budget left₀ k₀ left k =
-    (left ≤ 2 ^ 64 - 1) × ((e : Runnable nodes bodies costs places env) → TermsLeft e p budget left k)
+Inv-loop nodes bodies costs places env point budget left₀ k₀ left k =
+    (left ≤ 2 ^ 64 - 1) × ((e : Runnable nodes bodies costs places env) → TermsLeft e point budget left k)
 
 abbrev μ-loop : tie.MeasureT-loop
-μ-loop nodes bodies costs places env p budget left₀ k₀ left k = length places - k
+μ-loop nodes bodies costs places env point budget left₀ k₀ left k = length places - k
 
 loop-holds : tie.Need-loop-holds Inv-loop μ-loop
 loop-holds c = (omega arith, λ e. terms-start e _ _)

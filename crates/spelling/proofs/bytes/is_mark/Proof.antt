@@ -5,7 +5,7 @@ use Rattle.spelling.proofs.bytes.is_mark.Statement.{statement}
 use Rattle.spelling.proofs.bytes.is_mark.Tie as tie
 
 returns : tie.Need-returns
-returns c = one-by-one false (c .args .b) (spelling "~!@$%^&*_-+=<>.?/")
+returns c = one-by-one false (c .args .byte) (spelling "~!@$%^&*_-+=<>.?/")
 
 pub is-mark-spec : {M : Type 1} → statement M
 is-mark-spec = tie.close (tie.spec returns)

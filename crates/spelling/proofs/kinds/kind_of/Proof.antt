@@ -6,8 +6,8 @@ use Rattle.spelling.proofs.kinds.kind_of.Tie as tie
 returns : tie.Need-returns
 returns c = search kind-none
 
-shared-slice-read-b : tie.Need-shared-slice-read-b
-shared-slice-read-b c = search needs
+shared-slice-read-first : tie.Need-shared-slice-read-first
+shared-slice-read-first c = search needs
 
 returns-2 : tie.Need-returns-2
 returns-2 c = search kind-open
@@ -56,7 +56,7 @@ kind-of-spec =
     tie.close
     (tie.spec
     returns
-    shared-slice-read-b
+    shared-slice-read-first
     returns-2
     returns-3
     is-uncarried-requires

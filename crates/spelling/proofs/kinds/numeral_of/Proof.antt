@@ -17,7 +17,9 @@ returns-2 : tie.Need-returns-2
 returns-2 c = search numeral-long
 
 spell-requires : tie.Need-spell-requires
-spell-requires c κs = (numeral-digits _ _ (c .before .before .before .all-in .ensures) (c .before .if1 .left) (λ i. omega (arith, c .before .before .before .before .shared-slice-known .given i)), search numeral-power)
+spell-requires c κs =
+    let bytes = c .before .before .before .before .shared-slice-known .given in
+    (numeral-digits _ _ (c .before .before .before .all-in .ensures) (c .before .if1 .left) (λ i. omega (arith, bytes i)), search numeral-power)
 
 returns-3 : tie.Need-returns-3
 returns-3 c = search numeral-is

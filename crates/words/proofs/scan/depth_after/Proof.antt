@@ -3,17 +3,14 @@ use borrow.Author.Needs.{needs}
 use Rattle.words.proofs.scan.depth_after.Statement.{statement}
 use Rattle.words.proofs.scan.depth_after.Tie as tie
 
-is-open-requires : tie.Need-is-open-requires
-is-open-requires c κs = search needs
+kind-number-requires : tie.Need-kind-number-requires
+kind-number-requires c κs = search needs
 
 add-result : tie.Need-add-result
 add-result c = search needs
 
 returns : tie.Need-returns
 returns c = search depth-open
-
-is-close-requires : tie.Need-is-close-requires
-is-close-requires c κs = search needs
 
 sub-result : tie.Need-sub-result
 sub-result c = search depth-some
@@ -27,4 +24,4 @@ returns-3 c = search depth-same
 pub depth-after-spec : {M : Type 1} → statement M
 depth-after-spec =
     tie.close
-    (tie.spec is-open-requires add-result returns is-close-requires sub-result returns-2 returns-3)
+    (tie.spec kind-number-requires add-result returns sub-result returns-2 returns-3)

@@ -9,8 +9,8 @@ cast-words c = search needs
 cast-nesting : tie.Need-cast-nesting
 cast-nesting c = search needs
 
-is-open-requires : tie.Need-is-open-requires
-is-open-requires c κs = search needs
+kind-number-requires : tie.Need-kind-number-requires
+kind-number-requires c κs = search needs
 
 returns : tie.Need-returns
 returns c = search limit-fault
@@ -19,4 +19,4 @@ returns-2 : tie.Need-returns-2
 returns-2 c = search limit-well
 
 pub limit-fault-spec : {M : Type 1} → statement M
-limit-fault-spec = tie.close (tie.spec cast-words cast-nesting is-open-requires returns returns-2)
+limit-fault-spec = tie.close (tie.spec cast-words cast-nesting kind-number-requires returns returns-2)

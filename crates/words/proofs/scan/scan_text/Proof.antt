@@ -2,16 +2,16 @@ use borrow.Author.Needs.{needs}
 use Prim.Native.Nat.{_-_}
 use lib.ListN.{length}
 use native.Mathlib.Omega.{arith}
-use Rattle.words.proofs.Offsets.{end-past, end-within, first-reached}
-use Rattle.words.proofs.Turns.{Scanning, has-room, scan-begins, scan-ends, scan-goes, scan-stops}
+use Rattle.words.proofs.Offsets.{end-past, end-within, next-less}
+use Rattle.words.proofs.Turns.{Scanning, scan-begins, scan-ends, scan-goes, scan-stops, word-fits}
 use Rattle.words.proofs.scan.scan_text.Statement.{statement}
 use Rattle.words.proofs.scan.scan_text.Tie as tie
 
 abbrev Inv-loop : tie.InvT-loop
-Inv-loop text limits table₀ values₀ n₀ depth₀ start₀ table values n depth start = Scanning limits text table₀ values₀ table values n depth start
+Inv-loop text limits table₀ values₀ count₀ depth₀ start₀ table values count depth start = Scanning limits text table₀ values₀ table values count depth start
 
 abbrev μ-loop : tie.MeasureT-loop
-μ-loop text limits table₀ values₀ n₀ depth₀ start₀ table values n depth start = length text - start
+μ-loop text limits table₀ values₀ count₀ depth₀ start₀ table values count depth start = length text - start
 
 first-start-requires : tie.Need-first-start-requires Inv-loop μ-loop
 first-start-requires c κs = search needs
@@ -49,44 +49,27 @@ same-length-2 c = search needs
 returns : tie.Need-returns Inv-loop μ-loop
 returns c = search scan-stops
 
-kind-number-requires : tie.Need-kind-number-requires Inv-loop μ-loop
-kind-number-requires c κs = search needs
-
-cast-put-row : tie.Need-cast-put-row Inv-loop μ-loop
-cast-put-row c = let h = c .before .before .before .before .before .before .before .before .loop-test .taken in let short = c .before .before .before .before .before .before .before .before .before .before .before .before .before .before .pre .0 in omega arith
-
-cast-put-row-2 : tie.Need-cast-put-row-2 Inv-loop μ-loop
-cast-put-row-2 c = let e = end-within _ _ _ (c .before .before .before .before .before .before .before .word-end .ensures) (c .before .before .before .before .before .before .before .before .loop-test .taken) in let short = c .before .before .before .before .before .before .before .before .before .before .before .before .before .before .pre .0 in omega arith
-
-width-of-requires : tie.Need-width-of-requires Inv-loop μ-loop
-width-of-requires c κs = search needs
-
-put-row-requires : tie.Need-put-row-requires Inv-loop μ-loop
-put-row-requires c κs = let r = has-room _ _ _ _ _ _ (c .before .before .before .before .before .fault-at .ensures) (c .before .before .before .before .fault-number .ensures) (c .before .before .before .if1 .left) in let l = c .before .before .before .before .before .before .before .before .before .before .loop .inv .table-long in let p = c .before .before .before .before .before .before .before .before .before .before .before .before .before .before .before .pre .1 in omega arith
-
-value-of-requires : tie.Need-value-of-requires Inv-loop μ-loop
-value-of-requires c κs = search needs
-
-mul-values : tie.Need-mul-values Inv-loop μ-loop
-mul-values c = let r = has-room _ _ _ _ _ _ (c .before .before .before .before .before .before .before .before .before .fault-at .ensures) (c .before .before .before .before .before .before .before .before .fault-number .ensures) (c .before .before .before .before .before .before .before .if1 .left) in let l = c .before .before .before .before .before .before .before .before .before .before .before .before .before .before .loop .inv .values-long in let p = c .before .before .before .before .before .before .before .before .before .before .before .before .before .before .before .before .before .before .before .pre .2 in omega arith
-
-slice-write-values : tie.Need-slice-write-values Inv-loop μ-loop
-slice-write-values c = let r = has-room _ _ _ _ _ _ (c .before .before .before .before .before .before .before .before .before .fault-at .ensures) (c .before .before .before .before .before .before .before .before .fault-number .ensures) (c .before .before .before .before .before .before .before .if1 .left) in let l = c .before .before .before .before .before .before .before .before .before .before .before .before .before .before .loop .inv .values-long in let p = c .before .before .before .before .before .before .before .before .before .before .before .before .before .before .before .before .before .before .before .pre .2 in omega arith
+put-word-requires : tie.Need-put-word-requires Inv-loop μ-loop
+put-word-requires c κs = search word-fits
 
 depth-after-requires : tie.Need-depth-after-requires Inv-loop μ-loop
-depth-after-requires c κs = let r = has-room _ _ _ _ _ _ (c .before .before .before .before .before .before .before .before .before .fault-at .ensures) (c .before .before .before .before .before .before .before .before .fault-number .ensures) (c .before .before .before .before .before .before .before .if1 .left) in let l = c .before .before .before .before .before .before .before .before .before .before .before .before .before .before .loop .inv .shallow in omega arith
+depth-after-requires c κs =
+    let inv = c .before .before .before .before .before .before .before .before .before .before .before .before .before .before .loop .inv in
+    omega arith
 
-add-n : tie.Need-add-n Inv-loop μ-loop
-add-n c = let r = has-room _ _ _ _ _ _ (c .before .before .before .before .before .before .before .before .before .before .fault-at .ensures) (c .before .before .before .before .before .before .before .before .before .fault-number .ensures) (c .before .before .before .before .before .before .before .before .if1 .left) in omega arith
+add-count : tie.Need-add-count Inv-loop μ-loop
+add-count c =
+    let inv = c .before .before .before .before .before .before .before .before .before .before .before .before .before .before .before .loop .inv in
+    omega arith
 
 first-start-requires-2 : tie.Need-first-start-requires-2 Inv-loop μ-loop
 first-start-requires-2 c κs = search needs
 
 loop-less : tie.Need-loop-less Inv-loop μ-loop
-loop-less c = let p = end-past _ _ _ (c .before .before .before .before .before .before .before .before .before .before .before .before .before .before .word-end .ensures) in let h = c .before .before .before .before .before .before .before .before .before .before .before .before .before .before .before .loop-test .taken in let f = first-reached _ _ _ (end-within _ _ _ (c .before .before .before .before .before .before .before .before .before .before .before .before .before .before .word-end .ensures) h) (c .first-start2 .ensures) in omega arith
+loop-less c = search next-less
 
 loop-again : tie.Need-loop-again Inv-loop μ-loop
-loop-again c = scan-goes (c .before .before .before .before .before .before .before .before .before .before .before .before .before .before .before .before .loop .inv) (c .before .before .before .before .before .before .before .before .before .before .before .before .before .before .before .loop-test .taken) _ (c .before .before .before .before .before .before .before .before .before .before .before .before .before .before .word-end .ensures) _ (c .before .before .before .before .before .before .before .before .before .before .before .before .kind-of .ensures) _ (c .before .before .before .before .before .before .before .before .before .before .before .fault-at .ensures) _ (c .before .before .before .before .before .before .before .before .before .before .fault-number .ensures) (c .before .before .before .before .before .before .before .before .before .if1 .left) (c .before .before .before .before .before .before .before .before .before .before .before .before .before .before .before .before .before .before .before .before .before .pre .1) (c .before .before .before .before .before .before .before .before .before .before .before .before .before .before .before .before .before .before .before .before .before .pre .2) _ _ _ (c .before .before .before .before .before .before .before .kind-number .ensures) (c .before .before .before .before .before .before .width-of .ensures) (c .before .before .value-of .ensures) _ (c .before .before .before .before .before .put-row .ensures) _ (c .before .depth-after .ensures) _ (c .first-start2 .ensures)
+loop-again c = search scan-goes
 
 at-end-requires : tie.Need-at-end-requires Inv-loop μ-loop
 at-end-requires c κs = search needs
@@ -118,16 +101,9 @@ scan-text-spec =
     same-length
     same-length-2
     returns
-    kind-number-requires
-    cast-put-row
-    cast-put-row-2
-    width-of-requires
-    put-row-requires
-    value-of-requires
-    mul-values
-    slice-write-values
+    put-word-requires
     depth-after-requires
-    add-n
+    add-count
     first-start-requires-2
     loop-less
     loop-again

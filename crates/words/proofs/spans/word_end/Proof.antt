@@ -4,8 +4,7 @@ use native.Mathlib.Omega.{arith}
 use lib.ListN.{drop, getD, length}
 use mathlib.Core.Path.{_≡_, refl}
 use mathlib.Core.Bool.{false}
-use Rattle.spelling.specs.Bytes.{bracket}
-use Rattle.words.specs.Spans.{runEnd}
+use Rattle.words.specs.Spans.{bracket, runEnd}
 use Rattle.words.proofs.Offsets.{bracket-ends, run-ends, run-goes, run-stops}
 use Rattle.words.proofs.spans.word_end.Statement.{statement}
 use Rattle.words.proofs.spans.word_end.Tie as tie

@@ -1,0 +1,102 @@
+-- The nodes of a rule: one where it is `(Constant σ)` or `(Variable σ)`, else those of a term.
+use Prim.Native.Nat.{ℕ, _+_, _-_, _*_, _≤_, _<_}
+use native.Mathlib.Omega.{arith}
+use mathlib.Core.Path.{_≡_, refl, sym, ap, _∙_}
+use mathlib.Core.Bool.{Bool, true, false, not}
+use mathlib.Core.List.{List, [], _∷_}
+use borrow.Author.Tests.{not-false, not-true}
+use lib.ListN.{length, drop}
+use lib.Seq.{length-sets, sets}
+use Rattle.forest.specs.Forest.{Node, count, nodesOf, none, size, tree}
+use Rattle.forest.specs.Rows.{rows}
+use Rattle.forest.proofs.Laws.{size-join}
+use Rattle.forest.proofs.Nodes.{length-nodes, nodes-join}
+use Rattle.words.specs.Trees.{wordOf}
+use Rattle.lexemes.specs.Lists.{inside, is, item}
+use Rattle.lexemes.specs.Standing.{ItemAt, Source, Stands, ends, word}
+use Rattle.lexemes.specs.Table.{nextAt}
+use Rattle.lexemes.proofs.Standing.{by-itself, here}
+use Rattle.shapes.specs.Shapes.{isPattern}
+use Rattle.gathering.specs.Steps.{Gathered, GatheredRule, Gathering, GatheringRule}
+use Rattle.gathering.specs.Table.{uncounted, uncountedTable}
+use Rattle.gathering.specs.Terms.{Raw, pattern}
+use Rattle.gathering.proofs.NodeRows.{row-added}
+use Rattle.gathering.proofs.TermWords.{first-of}
+
+none-ends : {s : Source} {i e : ℕ} → Stands s i none e → i ≡ e
+none-ends ends = refl
+
+module _ {lexemes : List ℕ} {at : ℕ} {raw : List ℕ} {node : ℕ} where
+  -- the rule as an item
+  rule-item : GatheringRule lexemes at raw node → ItemAt lexemes at
+  rule-item p = record {
+    source = p .source;
+    same = p .same;
+    label = p .label;
+    operands = p .operands;
+    more = none;
+    end = p .end;
+    stands = p .stands;
+  }
+
+  -- it ends before the word that its first word says
+  rule-end : (p : GatheringRule lexemes at raw node) → nextAt lexemes at ≡ p .end
+  rule-end p = none-ends (here (p .same) (p .stands) .rest)
+
+  pub rule-room : (p : GatheringRule lexemes at raw node) → 3 * at < length lexemes
+  rule-room p = here (p .same) (p .stands) .room
+
+  pub row-room : (p : GatheringRule lexemes at raw node) → 4 * node + 4 ≤ length raw
+  row-room p = omega (arith, here (p .same) (p .stands) .ahead, rule-end p, p .rows .room)
+
+  module _ {r : Bool} (known : (x : ItemAt lexemes at) → r ≡ isPattern (x .label) (x .operands)) where
+    module _ (other : not r ≡ true) {next : ℕ} (en : next ≡ nextAt lexemes at) where
+      no-pattern-here : (p : GatheringRule lexemes at raw node) → isPattern (p .label) (p .operands) ≡ false
+      unfolding rule-item
+      no-pattern-here p = sym (known (rule-item p)) ∙ not-true r other
+
+      pub rule-terms : GatheringRule lexemes at raw node → Gathering lexemes at next raw node
+      rule-terms p = record {
+        source = p .source;
+        same = p .same;
+        items = tree (p .label) (p .operands) none;
+        stands = rw en (by-itself (p .same) (p .stands));
+        shaped = rw (no-pattern-here p) at (p .shaped);
+        rows = record {
+          before = p .rows .before;
+          rest = p .rows .rest;
+          is = p .rows .is;
+          counted = p .rows .counted;
+          room = rw (en ∙ rule-end p) (p .rows .room);
+        };
+      }
+
+      pub rule-gathered : {rawAfter : List ℕ} {m : ℕ} → ((g : Gathering lexemes at next raw node) → Gathered g rawAfter m)
+          → (p : GatheringRule lexemes at raw node) → GatheredRule p rawAfter m
+      unfolding rule-terms
+      rule-gathered gathered p = rw (no-pattern-here p) (gathered (rule-terms p))
+
+    module _ (pattern-here : not r ≡ false) where
+      node-of : GatheringRule lexemes at raw node → Node Raw
+      node-of p = record {
+        label = pattern (wordOf (p .label)) (is "Constant" (item 0 (p .operands))) (item 1 (p .operands)) (inside 1 (p .operands));
+        operands = none;
+      }
+
+      row-of : (p : GatheringRule lexemes at raw node) → at ∷ (at + 1) ∷ 0 ∷ 0 ∷ [] ≡ uncounted (node-of p)
+      unfolding count node-of
+      row-of p = rw (first-of (p .stands))
+
+      pub pattern-gathered : {rawAfter : List ℕ} → rawAfter ≡ sets raw (4 * node) (at ∷ (at + 1) ∷ 0 ∷ 0 ∷ [])
+          → (p : GatheringRule lexemes at raw node) → GatheredRule p rawAfter (node + 1)
+      unfolding nodesOf node-of rule-item size uncountedTable
+      pattern-gathered {rawAfter} er p =
+          let before = p .rows .before in
+          let counted : node ≡ length (nodesOf before) = p .rows .counted ∙ sym (length-nodes before) in
+          let written = row-added raw (nodesOf before) (p .rows .rest) (node-of p) node _ (p .rows .is) counted (row-of p) (row-room p) in
+          rw (sym (known (rule-item p)) ∙ not-false r pattern-here) (record {
+            rest = drop 4 (p .rows .rest);
+            is = er ∙ rw nodes-join written;
+            counted = rw size-join (omega (arith, p .rows .counted));
+            long = ap length er ∙ length-sets raw (4 * node) (at ∷ (at + 1) ∷ 0 ∷ 0 ∷ []);
+          })

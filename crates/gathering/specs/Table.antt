@@ -1,0 +1,42 @@
+-- The table of the nodes of terms before their names are looked up: four numbers for each node, in the order of the text.
+use Prim.Native.Nat.{ℕ, suc}
+use mathlib.Core.List.{List, [], _∷_}
+use Rattle.forest.specs.Forest.{Forest, Node, count, nodesOf, size}
+use Rattle.forest.specs.Rows.{numberAt, rows}
+use Rattle.gathering.specs.Terms.{Raw, firstWord, headWord}
+
+-- How many numbers a row has.
+abbrev pub rowWidth : ℕ
+rowWidth = 4
+
+-- The row of a node: its first word, the word that says what it is, how many operands it has, and how many nodes its tree has.
+abbrev pub rawRow : Node Raw → List ℕ
+rawRow n = firstWord (n .label) ∷ headWord (n .label) ∷ count (n .operands) ∷ suc (size (n .operands)) ∷ []
+
+-- The same where the nodes of its tree are not counted yet.
+abbrev pub uncounted : Node Raw → List ℕ
+uncounted n = firstWord (n .label) ∷ headWord (n .label) ∷ count (n .operands) ∷ 0 ∷ []
+
+-- The table of terms.
+unfoldable pub rawTable : Forest Raw → List ℕ
+rawTable F = rows rawRow (nodesOf F)
+
+-- The table of terms whose nodes are not counted yet.
+unfoldable pub uncountedTable : Forest Raw → List ℕ
+uncountedTable F = rows uncounted (nodesOf F)
+
+-- The first word of node n.
+abbrev pub firstAt : List ℕ → ℕ → ℕ
+firstAt raw n = numberAt rowWidth raw n 0
+
+-- The word that says what node n is.
+abbrev pub headAt : List ℕ → ℕ → ℕ
+headAt raw n = numberAt rowWidth raw n 1
+
+-- How many operands node n has.
+abbrev pub operandsAt : List ℕ → ℕ → ℕ
+operandsAt raw n = numberAt rowWidth raw n 2
+
+-- How many nodes the tree of node n has.
+abbrev pub sizeAt : List ℕ → ℕ → ℕ
+sizeAt raw n = numberAt rowWidth raw n 3

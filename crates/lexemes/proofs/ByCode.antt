@@ -1,0 +1,158 @@
+-- What an item is, by the code of the word at which it stands.
+use Prim.Native.Nat.{ℕ, zero, suc, _+_, _<_}
+use Prim.Native.String.{String}
+use native.Mathlib.Omega.{arith}
+use mathlib.Core.Path.{_≡_, refl, sym, ap, ap₂, _∙_}
+use mathlib.Core.Bool.{Bool, true, false, _&&_, _||_}
+use mathlib.Core.List.{List, [], _∷_, map}
+use lib.Dec.{eqb, leb, ltb}
+use borrow.Author.Tests.{eq-eqb, eqb-false, eqb-true, le-leb, le-ltb, leb-false, leb-true, lt-leb, lt-ltb, ltb-true, ne-eqb}
+use Rattle.forest.specs.Forest.{none, tree}
+use Rattle.forest.specs.Lists.{among, sameBytes}
+use Rattle.forest.proofs.Bools.{and-left, and-right}
+use Rattle.forest.proofs.Lists.{amongAfter, one-by-one}
+use Rattle.words.specs.Trees.{Lexeme, list, literal, numeral, symbol}
+use Rattle.bits.specs.Operators.{operators}
+use Rattle.reserved.specs.Reserved.{isOneOf, isWord, knownWords, placeAmong, wordNumber}
+use Rattle.reserved.proofs.Numbers.{by-number, isKnown, numberOf}
+use Rattle.lexemes.specs.Lists.{Items, after, is, isAmong, isList, isNumeral, isSymbol, item, nameOf}
+use Rattle.lexemes.specs.Table.{closeCode, codeOf, literalCode, numeralCode, openCode}
+
+-- the code of a known word; where this unfolds it computes
+unfoldable pub codeFor : String → ℕ
+unfolding knownWords operators placeAmong sameBytes wordNumber
+codeFor word = 5 + numberOf word
+
+pub code-for : (word : String) → codeFor word ≡ 5 + numberOf word
+unfolding codeFor
+code-for word = refl
+
+nothing-known : wordNumber [] ≡ 65
+unfolding knownWords operators placeAmong sameBytes wordNumber
+nothing-known = refl
+
+known-below : (word : String) → isKnown word ≡ true → numberOf word < 65
+unfolding knownWords operators
+known-below word k = ltb-true _ _ k
+
+-- numbers differ by five just when they do
+five-more : (m n : ℕ) → eqb m n ≡ eqb (5 + m) (5 + n)
+five-more m n = go (eqb m n) refl
+  where
+    go : (b : Bool) → eqb m n ≡ b → b ≡ eqb (5 + m) (5 + n)
+    go true e = sym (eq-eqb (5 + m) (5 + n) (omega (arith, eqb-true m n e)))
+    go false e = let ne = eqb-false m n e in sym (ne-eqb (5 + m) (5 + n) (λ h. ne (omega arith)))
+
+-- what is no symbol is no known word
+no-word : (word : String) → isKnown word ≡ true → (c : ℕ) → c < 5 → isWord word [] ≡ eqb c (codeFor word)
+no-word word k c h =
+    by-number word k []
+    ∙ ne-eqb (wordNumber []) (numberOf word) (λ e. absurd (omega (arith, known-below word k, nothing-known)))
+    ∙ sym (ne-eqb c (codeFor word) (λ e. omega (arith, code-for word)))
+
+-- an item is a known word just when it has the word's code
+pub word-code : (word : String) → isKnown word ≡ true → (l : Lexeme) → is word l ≡ eqb (codeOf l) (codeFor word)
+word-code word k (symbol at name) = by-number word k name ∙ five-more (wordNumber name) (numberOf word) ∙ ap (eqb (5 + wordNumber name)) (sym (code-for word))
+word-code word k (list at close) = no-word word k openCode (omega arith)
+word-code word k (numeral at v) = no-word word k numeralCode (omega arith)
+word-code word k (literal at width v written) = no-word word k literalCode (omega arith)
+
+-- each item has a code
+pub code-pos : (l : Lexeme) → 0 < codeOf l
+code-pos (symbol at name) = omega arith
+code-pos (list at close) = omega arith
+code-pos (numeral at v) = omega arith
+code-pos (literal at width v written) = omega arith
+
+-- no item has the code of a closing bracket
+pub not-close : (l : Lexeme) → eqb (codeOf l) closeCode ≡ false
+not-close (symbol at name) = ne-eqb (5 + wordNumber name) 2 (λ e. omega arith)
+not-close (list at close) = refl
+not-close (numeral at v) = refl
+not-close (literal at width v written) = refl
+
+pub symbol-code : (l : Lexeme) → isSymbol l ≡ leb 5 (codeOf l)
+symbol-code (symbol at name) = sym (le-leb 5 (5 + wordNumber name) (omega arith))
+symbol-code (list at close) = refl
+symbol-code (numeral at v) = refl
+symbol-code (literal at width v written) = refl
+
+pub list-code : (l : Lexeme) → isList l ≡ eqb (codeOf l) openCode
+list-code (symbol at name) = sym (ne-eqb (5 + wordNumber name) 1 (λ e. omega arith))
+list-code (list at close) = refl
+list-code (numeral at v) = refl
+list-code (literal at width v written) = refl
+
+pub numeral-code : (l : Lexeme) → isNumeral l ≡ eqb (codeOf l) numeralCode
+numeral-code (symbol at name) = sym (ne-eqb (5 + wordNumber name) 3 (λ e. omega arith))
+numeral-code (list at close) = refl
+numeral-code (numeral at v) = refl
+numeral-code (literal at width v written) = refl
+
+-- the code of the word at which items stand that a bracket closes: that of the first of them, else of the bracket
+abbrev pub frontCode : Items → ℕ
+frontCode none = closeCode
+frontCode (tree l ops more) = codeOf l
+
+-- a test of item n that goes by its code, and fails where there is no such item
+pub by-front : (p : Lexeme → Bool) (q : ℕ → Bool) → ((l : Lexeme) → p l ≡ q (codeOf l)) → p (numeral 0 0) ≡ q closeCode
+    → (n : ℕ) (F : Items) → p (item n F) ≡ q (frontCode (after n F))
+unfolding after item
+by-front p q same past zero none = past
+by-front p q same past (suc n) none = past
+by-front p q same past zero (tree l ops more) = same l
+by-front p q same past (suc n) (tree l ops more) = by-front p q same past n more
+
+pub front-word : (word : String) → isKnown word ≡ true → (n : ℕ) (F : Items) → is word (item n F) ≡ eqb (frontCode (after n F)) (codeFor word)
+front-word word k = by-front (is word) (λ (c : ℕ). eqb c (codeFor word)) (word-code word k) (no-word word k closeCode (omega arith))
+
+-- whether all of the words are known
+abbrev pub allKnown : List String → Bool
+allKnown [] = true
+allKnown (w ∷ more) = isKnown w && allKnown more
+
+-- a name is one of known words just when the code by which each is told is among theirs
+one-of : (name : List ℕ) (c : ℕ) → ((w : String) → isKnown w ≡ true → isWord w name ≡ eqb c (codeFor w))
+    → (words : List String) → allKnown words ≡ true → isOneOf words name ≡ among c (map codeFor words)
+unfolding isOneOf
+one-of name c tell [] k = refl
+one-of name c tell (w ∷ more) k =
+    ap₂ _||_ (tell w (and-left (isKnown w) (allKnown more) k)) (one-of name c tell more (and-right (isKnown w) (allKnown more) k))
+
+pub words-code : (words : List String) → allKnown words ≡ true → (l : Lexeme) → isAmong words l ≡ amongAfter false (codeOf l) (map codeFor words)
+words-code words k l = one-of (nameOf l) (codeOf l) (λ w kw. word-code w kw l) words k ∙ sym (one-by-one false (codeOf l) (map codeFor words))
+
+pub front-words : (words : List String) → allKnown words ≡ true → (n : ℕ) (F : Items)
+    → isAmong words (item n F) ≡ amongAfter false (frontCode (after n F)) (map codeFor words)
+front-words words k n F =
+    one-of (nameOf (item n F)) (frontCode (after n F)) (λ w kw. front-word w kw n F) words k
+    ∙ sym (one-by-one false (frontCode (after n F)) (map codeFor words))
+
+-- k numbers from a number on
+abbrev pub countFrom : (a k : ℕ) → List ℕ
+countFrom a zero = []
+countFrom a (suc k) = a ∷ countFrom (suc a) k
+
+-- a number is among them just when it is neither below the first nor past the last
+pub among-count : (n a k : ℕ) → among n (countFrom a k) ≡ leb a n && ltb n (a + k)
+among-count n a zero = go (leb a n) refl
+  where
+    go : (b : Bool) → leb a n ≡ b → false ≡ b && ltb n (a + 0)
+    go false e = refl
+    go true e = sym (le-ltb n (a + 0) (omega (arith, leb-true a n e)))
+among-count n a (suc k) = rw (among-count n (suc a) k) (go (eqb n a) refl)
+  where
+    further : (b : Bool) → leb a n ≡ b → (n ≡ a → ⊥) → leb (suc a) n ≡ b
+    further true h ne = le-leb (suc a) n (omega (arith, leb-true a n h))
+    further false h ne = lt-leb (suc a) n (omega (arith, leb-false a n h))
+
+    go : (b : Bool) → eqb n a ≡ b → b || leb (suc a) n && ltb n (suc a + k) ≡ leb a n && ltb n (a + suc k)
+    go true e = let q = eqb-true n a e in rw (le-leb a n (omega arith), lt-ltb n (a + suc k) (omega arith))
+    go false e = ap₂ _&&_ (further (leb a n) refl (eqb-false n a e)) (ap (ltb n) (omega arith))
+
+-- items begin with one of known words whose codes follow one another
+pub front-range : (words : List String) → allKnown words ≡ true → (a k : ℕ) → map codeFor words ≡ countFrom a k → (F : Items)
+    → isAmong words (item 0 F) ≡ leb a (frontCode F) && ltb (frontCode F) (a + k)
+unfolding after
+front-range words known a k e F =
+    one-of (nameOf (item 0 F)) (frontCode F) (λ w kw. front-word w kw 0 F) words known ∙ ap (among (frontCode F)) e ∙ among-count (frontCode F) a k

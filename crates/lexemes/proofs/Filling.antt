@@ -1,0 +1,144 @@
+-- The table of lexemes, filled from the word table.
+use Prim.Native.Nat.{ℕ, suc, _+_, _-_, _*_, _≤_, _<_}
+use native.Mathlib.Nat.{add-zero}
+use native.Mathlib.Omega.{arith}
+use mathlib.Core.Path.{_≡_, refl, sym, _∙_}
+use mathlib.Core.List.{List, [], _∷_, _++_}
+use lib.ListN.{drop, getD, length, set, take, length-append, length-map, length-set, List·getD-append}
+use lib.Seq.{getD-drop, length-take-le, take-all}
+use Rattle.forest.specs.Rows.{over, rows}
+use Rattle.forest.proofs.Lists.{drop-map, stands, take-more}
+use Rattle.forest.proofs.Rows.{length-rows, over-more, rows-append}
+use Rattle.reserved.specs.Reserved.{wordNumber}
+use Rattle.spelling.specs.declared.Kind.{Kind}
+use Rattle.spelling.specs.declared.Kind.the-variants.{Open, Close, Numeral, Literal, Symbol, Faulty}
+use Rattle.words.specs.Table.{endAt, entries, kindAt, kindNumber, nextAt, startAt, valueOf, wordValues}
+use Rattle.words.specs.Words.{wordsOf}
+use Rattle.words.proofs.Chains.{entries-long}
+use Rattle.lexemes.specs.Standing.{Coded, Numbering, WordsOf}
+use Rattle.lexemes.specs.Table.{kindCode, lexemeRow, lexemeTable}
+use Rattle.lexemes.proofs.Said.{entryOf, entry-here, part-fits, word-says}
+
+-- ---- the code of a word
+
+-- the code of a word that is no symbol is the number of its kind
+low-code : (kind : Kind) (bytes : List ℕ) → kindNumber kind < 5 → kindNumber kind ≡ kindCode kind bytes
+low-code Open bytes h = refl
+low-code Close bytes h = refl
+low-code (Numeral v) bytes h = refl
+low-code (Literal width v) bytes h = refl
+low-code Symbol bytes h = absurd (omega arith)
+low-code (Faulty fault) bytes h = refl
+
+-- that of a symbol is by its bytes
+symbol-code : (kind : Kind) (bytes : List ℕ) → 5 ≤ kindNumber kind → 5 + wordNumber bytes ≡ kindCode kind bytes
+symbol-code Open bytes h = absurd (omega arith)
+symbol-code Close bytes h = absurd (omega arith)
+symbol-code (Numeral v) bytes h = absurd (omega arith)
+symbol-code (Literal width v) bytes h = absurd (omega arith)
+symbol-code Symbol bytes h = refl
+symbol-code (Faulty fault) bytes h = absurd (omega arith)
+
+module _ {text words : List ℕ} {i : ℕ} (given : WordsOf text words i) where
+  -- what the word is, by its number
+  kind-said : {kind : ℕ} → kind ≡ kindAt words i → kind ≡ kindNumber (given .word .kind)
+  kind-said ek = ek ∙ word-says given 0 (omega arith)
+
+  -- the code of a word that is no symbol
+  pub code-low : {kind : ℕ} → kind ≡ kindAt words i → kind < 5 → Coded given kind
+  code-low ek h = let e = kind-said ek in e ∙ low-code (given .word .kind) _ (omega arith)
+
+  module _ {start end : ℕ} (es : start ≡ startAt words i) (ee : end ≡ endAt words i) where
+    -- where the word stands in the text
+    start-said : start ≡ given .word .start
+    start-said = es ∙ word-says given 1 (omega arith)
+
+    end-said : end ≡ given .word .end
+    end-said = ee ∙ word-says given 2 (omega arith)
+
+    -- which is a part of the text
+    pub part-start : start ≤ end
+    part-start = omega (arith, start-said, end-said, part-fits text i (given .word) (given .later) (given .here) .0)
+
+    pub part-end : end ≤ length text
+    part-end = omega (arith, end-said, part-fits text i (given .word) (given .later) (given .here) .1)
+
+    -- the code of a symbol
+    pub code-symbol : {kind : ℕ} → kind ≡ kindAt words i → 5 ≤ kind → {number : ℕ} → number ≡ wordNumber (take (end - start) (drop start text))
+        → Coded given (5 + number)
+    code-symbol ek h en =
+        let e = kind-said ek in
+        rw (en, start-said, end-said) (symbol-code (given .word .kind) _ (omega arith))
+
+-- ---- one row after the other
+
+-- the first rows are those of the first words
+pub record Filling (text lexemes₀ : List ℕ) (count : ℕ) (lexemes : List ℕ) (word : ℕ) : Type 0 where
+  pub reached : word ≤ count
+  pub long : length lexemes ≡ length lexemes₀
+  pub is : lexemes ≡ over (rows (lexemeRow text) (take word (entries (wordsOf text) 0))) lexemes₀
+
+-- none is written at first
+pub filling-begins : (text lexemes : List ℕ) (count : ℕ) → Filling text lexemes count lexemes 0
+unfolding rows
+filling-begins text lexemes count = record { reached = omega arith; long = refl; is = refl }
+
+module _ {text words values lexemes₀ : List ℕ} {count : ℕ} (numbering : Numbering text words values lexemes₀ count) where
+  module _ {word : ℕ} (h : word < count) where
+    -- word `word` stands in the word table
+    pub filling-asks : WordsOf text words word
+    filling-asks =
+        let st = stands (wordsOf text) word (omega (arith, numbering .counted)) in
+        record { rest = numbering .rest; is-words = numbering .is-words; word = st .here; later = drop (word + 1) (wordsOf text); here = st .is }
+
+    -- and in the list of values
+    pub value-there : word < length values
+    unfolding wordValues
+    value-there = rw (numbering .is-values, length-append, length-map) (omega (arith, numbering .counted))
+
+    -- what its value is
+    value-said : (given : WordsOf text words word) → getD values word 0 ≡ valueOf (given .word .kind)
+    unfolding wordValues
+    value-said given =
+        let inside : word < length (wordValues (wordsOf text)) = rw length-map (omega (arith, numbering .counted)) in
+        rw (numbering .is-values, List·getD-append (wordValues (wordsOf text)) (numbering .more) 0 word inside)
+        (sym (rw add-zero at (getD-drop word (wordValues (wordsOf text)) 0 0)) ∙ rw (drop-map, given .here))
+
+    module _ {lexemes : List ℕ} (filling : Filling text lexemes₀ count lexemes word) where
+      -- the rows that are written
+      front : List ℕ
+      front = rows (lexemeRow text) (take word (entries (wordsOf text) 0))
+
+      front-long : length front ≡ 3 * word
+      unfolding front
+      front-long =
+          let few : word ≤ length (entries (wordsOf text) 0) = omega (arith, numbering .counted, entries-long (wordsOf text) 0) in
+          rw (length-rows (lexemeRow text) 3 (λ e. refl) (take word (entries (wordsOf text) 0)), length-take-le word _ few)
+
+      -- one row more
+      pub filling-goes : {code : ℕ} → ((given : WordsOf text words word) → Coded given code) → {next : ℕ} → next ≡ nextAt words word
+          → Filling text lexemes₀ count (set (set (set lexemes (3 * word) code) (3 * word + 1) next) (3 * word + 2) (getD values word 0)) (word + 1)
+      unfolding front rows
+      filling-goes {code} ec {next} en =
+          let given = filling-asks in
+          let all = entries (wordsOf text) 0 in
+          let next-is : next ≡ entryOf given .next = en ∙ word-says given 4 (omega arith) in
+          let row : code ∷ next ∷ getD values word 0 ∷ [] ≡ lexemeRow text (entryOf given) = rw (ec given, next-is, value-said given) in
+          let one : 3 * word + 1 ≡ suc (3 * word) = omega arith in
+          let two : 3 * word + 2 ≡ suc (suc (3 * word)) = omega arith in
+          let room : length front + 3 ≤ length lexemes₀ = omega (arith, front-long, numbering .room) in
+          let more : rows (lexemeRow text) (take (word + 1) all) ≡ front ++ lexemeRow text (entryOf given) =
+          rw (take-more all word _ _ (entry-here given), rows-append (lexemeRow text) 3 (λ e. refl) (take word all) (entryOf given ∷ [])) in
+          record {
+            reached = omega arith;
+            long = simp length-set (filling .long);
+            is = rw (one, two, filling .is, ← front-long) (over-more front (code ∷ next ∷ getD values word 0 ∷ []) lexemes₀ room ∙ rw (row, more));
+          }
+
+  -- all rows are written
+  pub filling-ends : {lexemes : List ℕ} {word : ℕ} → Filling text lexemes₀ count lexemes word → count ≤ word
+      → lexemes ≡ over (lexemeTable text (wordsOf text)) lexemes₀
+  unfolding lexemeTable
+  filling-ends {lexemes} {word} filling h =
+      let many : length (entries (wordsOf text) 0) ≤ word = omega (arith, numbering .counted, entries-long (wordsOf text) 0) in
+      filling .is ∙ rw (take-all word _ many)

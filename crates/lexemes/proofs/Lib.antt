@@ -1,0 +1,10 @@
+pub mod ByCode
+pub mod Standing
+pub mod Listed
+pub mod Spelt
+pub mod Along
+pub mod Pending
+pub mod Filling
+pub mod Said
+pub mod Sound
+pub mod Wholes

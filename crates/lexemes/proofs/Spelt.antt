@@ -1,0 +1,131 @@
+-- Lists that hold words alone, read word by word.
+use Prim.Native.Nat.{ℕ, zero, suc, _+_, _≤_}
+use Prim.Native.String.{String}
+use native.Mathlib.Omega.{arith}
+use mathlib.Core.Path.{_≡_, refl, sym, ap, ap₂, _∙_, subst}
+use mathlib.Core.Bool.{Bool, true, false, _&&_, and-assoc, and-false}
+use mathlib.Core.List.{List, [], _∷_}
+use lib.Dec.{eqb, eqb·suc-suc, leb}
+use lib.ListN.{replicate}
+use borrow.Author.Tests.{eqb-true, le-leb, leb-true, ne-eqb}
+use Rattle.forest.specs.Forest.{count, none, tree}
+use Rattle.forest.proofs.Bools.{and-left, and-right}
+use Rattle.reserved.proofs.Numbers.{isKnown}
+use Rattle.lexemes.specs.Lists.{Items, after, allNumerals, indexed, isList, isNumeral}
+use Rattle.lexemes.specs.Table.{closeCode, codeAt, codeOf, numeralCode, openCode}
+use Rattle.lexemes.specs.Standing.{ItemAt, Source, Stands}
+use Rattle.lexemes.proofs.ByCode.{code-for, codeFor, frontCode, front-word, list-code, not-close, numeral-code}
+use Rattle.lexemes.proofs.Standing.{front, here}
+use Rattle.lexemes.proofs.Listed.{at-item}
+
+-- whether the items are words of these codes, and no more
+abbrev pub spelled : (codes : List ℕ) → Items → Bool
+spelled [] F = eqb (frontCode F) closeCode
+spelled (k ∷ more) F = eqb (frontCode F) k && spelled more (after 1 F)
+
+-- whether the words from word at + n on have these codes, and a bracket closes behind them; where an earlier test has passed or not
+abbrev pub readsAfter : Bool → (lexemes : List ℕ) → (at n : ℕ) → (codes : List ℕ) → Bool
+readsAfter passed lexemes at n [] = passed && eqb (codeAt lexemes (at + n)) closeCode
+readsAfter passed lexemes at n (k ∷ more) = readsAfter (passed && eqb (codeAt lexemes (at + n)) k) lexemes at (suc n) more
+
+-- whether codes are those of words that are no brackets
+abbrev pub plain : List ℕ → Bool
+plain [] = true
+plain (k ∷ more) = leb 3 k && plain more
+
+-- a word that is followed by others
+pub behind-word : {s : Source} {lexemes : List ℕ} → s .lexemes ≡ lexemes → {i c : ℕ} (F : Items) → Stands s i F c → 3 ≤ frontCode F
+    → Stands s (i + 1) (after 1 F) c
+unfolding after
+behind-word same none stands h = absurd (omega arith)
+behind-word {s} same {i} {c} (tree l ops more) stands h =
+    let x = here same stands in
+    let word : isList l ≡ false = list-code l ∙ ne-eqb (codeOf l) openCode (λ e. omega arith) in
+    subst (λ (j : ℕ). Stands s j more c) (x .a-word word .0) (x .rest)
+
+failed : (lexemes : List ℕ) (at n : ℕ) (codes : List ℕ) → readsAfter false lexemes at n codes ≡ false
+failed lexemes at n [] = refl
+failed lexemes at n (k ∷ more) = failed lexemes at (suc n) more
+
+-- word by word a list is read as it is spelled
+reads : {s : Source} {lexemes : List ℕ} → s .lexemes ≡ lexemes → (passed : Bool) (at n c : ℕ) (codes : List ℕ) (F : Items) → plain codes ≡ true
+    → Stands s (at + n) F c → codeAt lexemes c ≡ closeCode → readsAfter passed lexemes at n codes ≡ passed && spelled codes F
+reads same passed at n c [] F p stands closed = ap (λ (k : ℕ). passed && eqb k closeCode) (front same stands closed)
+reads {s} {lexemes} same passed at n c (k ∷ more) F p stands closed =
+    rw (front same stands closed)
+    (go (eqb (frontCode F) k) refl (reads same (passed && true) at (suc n) c more (after 1 F) (and-right (leb 3 k) (plain more) p)))
+  where
+    go : (b : Bool) → eqb (frontCode F) k ≡ b
+        → (Stands s (at + suc n) (after 1 F) c → codeAt lexemes c ≡ closeCode
+        → readsAfter (passed && true) lexemes at (suc n) more ≡ (passed && true) && spelled more (after 1 F))
+        → readsAfter (passed && b) lexemes at (suc n) more ≡ passed && (b && spelled more (after 1 F))
+    go true e later =
+        let k3 = leb-true 3 k (and-left (leb 3 k) (plain more) p) in
+        let next : at + n + 1 ≡ at + suc n = omega arith in
+        later (subst (λ (j : ℕ). Stands s j (after 1 F) c) next (behind-word same F stands (omega (arith, eqb-true (frontCode F) k e)))) closed
+        ∙ and-assoc passed true (spelled more (after 1 F))
+    go false e later = rw (and-false passed) (failed lexemes at (suc n) more)
+
+after-two : (F : Items) → after 2 F ≡ after 1 (after 1 F)
+unfolding after
+after-two none = refl
+after-two (tree l ops more) = refl
+
+-- n numerals and no more
+numerals : (n : ℕ) (F : Items) → eqb (count F) n && allNumerals F ≡ spelled (replicate n numeralCode) F
+unfolding after allNumerals count
+numerals zero none = refl
+numerals zero (tree l ops more) = rw (not-close l, ne-eqb (suc (count more)) 0 (λ e. omega arith))
+numerals (suc n) none = rw (ne-eqb 0 (suc n) (λ e. omega arith))
+numerals (suc n) (tree l ops more) =
+    rw (← numerals n more, ← numeral-code l, eqb·suc-suc (count more) n) (swap (eqb (count more) n) (isNumeral l) (allNumerals more))
+  where
+    swap : (a b c : Bool) → a && (b && c) ≡ b && (a && c)
+    swap true b c = refl
+    swap false b c = sym (and-false b)
+
+-- the codes of `_`, a word and n numerals
+abbrev pub indexedCodes : String → ℕ → List ℕ
+indexedCodes word n = codeFor "_" ∷ codeFor word ∷ replicate n numeralCode
+
+plain-numerals : (n : ℕ) → plain (replicate n numeralCode) ≡ true
+plain-numerals zero = refl
+plain-numerals (suc n) = plain-numerals n
+
+plain-indexed : (word : String) (n : ℕ) → plain (indexedCodes word n) ≡ true
+plain-indexed word n = rw (plain-word "_", plain-word word) (plain-numerals n)
+  where
+    plain-word : (w : String) → leb 3 (codeFor w) ≡ true
+    plain-word w = le-leb 3 (codeFor w) (omega (arith, code-for w))
+
+underscore-known : isKnown "_" ≡ true
+unfolding codeFor
+underscore-known = refl
+
+pub indexed-spelt : (word : String) → isKnown word ≡ true → (n : ℕ) (F : Items) → indexed word n F ≡ spelled (indexedCodes word n) F
+unfolding after
+indexed-spelt word k n F =
+    let rest = after 2 F in
+    ap₂ (λ (a b : Bool). a && b && eqb (count rest) n && allNumerals rest) (front-word "_" underscore-known 0 F) (front-word word k 1 F)
+    ∙ regroup (eqb (frontCode F) (codeFor "_")) (eqb (frontCode (after 1 F)) (codeFor word)) (eqb (count rest) n) (allNumerals rest)
+    ∙ ap (λ (t : Bool). eqb (frontCode F) (codeFor "_") && (eqb (frontCode (after 1 F)) (codeFor word) && t))
+    (numerals n rest ∙ ap (spelled (replicate n numeralCode)) (after-two F))
+  where
+    regroup : (a b c d : Bool) → a && b && c && d ≡ a && (b && (c && d))
+    regroup true true c d = refl
+    regroup true false c d = refl
+    regroup false b c d = refl
+
+-- an item that is such a list, read word by word
+pub indexed-read : {lexemes : List ℕ} {at : ℕ} (word : String) → isKnown word ≡ true → (n : ℕ) (x : ItemAt lexemes at)
+    → readsAfter (eqb (codeAt lexemes at) openCode) lexemes at 1 (indexedCodes word n) ≡ isList (x .label) && indexed word n (x .operands)
+indexed-read {lexemes} {at} word k n x = rw (indexed-spelt word k n (x .operands), at-item x .code, ← list-code (x .label)) (go (isList (x .label)) refl)
+  where
+    codes : List ℕ
+    codes = indexedCodes word n
+
+    go : (b : Bool) → isList (x .label) ≡ b → readsAfter b lexemes at 1 codes ≡ b && spelled codes (x .operands)
+    go true e =
+        let h = at-item x .a-list e in
+        reads (x .same) true at 1 (h .close) codes (x .operands) (plain-indexed word n) (h .stands) (h .closes)
+    go false e = failed lexemes at 1 codes

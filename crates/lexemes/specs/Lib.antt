@@ -1,0 +1,3 @@
+pub mod Lists
+pub mod Table
+pub mod Standing

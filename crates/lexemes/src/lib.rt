@@ -1,0 +1,60 @@
+//! The table of lexemes: three numbers for each word, its code, the word past it or past the list that it begins, and its value. A word past the end of a table
+//! has zeros.
+pub mod codes;
+pub mod items;
+pub mod numbering;
+
+ghost use mathlib.Core.Path.{_≡_};
+ghost use Prim.Native.Nat.{_<_};
+ghost use Rattle.forest.specs.Rows.{numberAt};
+ghost use Rattle.lexemes.specs.Table.{codeAt, nextAt, valueAt};
+
+// How many numbers a row has.
+pub const ROW: usize = 3;
+
+// The codes of words; a symbol's is SYMBOL and its number among the words that the reader tells apart.
+pub const OPEN: u64 = 1;
+
+pub const CLOSE: u64 = 2;
+
+pub const NUMERAL: u64 = 3;
+
+pub const LITERAL: u64 = 4;
+
+pub const SYMBOL: u64 = 5;
+
+// Number `column` of a word.
+fn number_at(lexemes: &[u64], word: usize, column: usize) -> u64
+    requires { ⌜ column < 3 ⌝ }
+    ensures { λ r. ⌜ r ≡ numberAt 3 (now (lexemes .entry)) word column ⌝ }
+{
+    if word >= lexemes.len() {
+        return 0;
+    }
+    let place = ROW * word + column;
+    if place >= lexemes.len() {
+        return 0;
+    }
+    lexemes[place]
+}
+
+// The code of a word.
+pub fn code_at(lexemes: &[u64], word: usize) -> u64
+    ensures { λ r. ⌜ r ≡ codeAt (now (lexemes .entry)) word ⌝ }
+{
+    number_at(lexemes, word, 0)
+}
+
+// The word past a word, or past the list that it begins.
+pub fn next_at(lexemes: &[u64], word: usize) -> usize
+    ensures { λ r. ⌜ r ≡ nextAt (now (lexemes .entry)) word ⌝ }
+{
+    number_at(lexemes, word, 1) as usize
+}
+
+// The value of a numeral or a literal, 0 of another word.
+pub fn value_at(lexemes: &[u64], word: usize) -> u64
+    ensures { λ r. ⌜ r ≡ valueAt (now (lexemes .entry)) word ⌝ }
+{
+    number_at(lexemes, word, 2)
+}

@@ -1,0 +1,207 @@
+-- `(Constant σ)` and `(Variable σ)`, by the words at which they stand.
+use Prim.Native.Nat.{ℕ, _+_, _*_, _≤_, _<_, _^_}
+use Prim.Native.String.{String}
+use native.Mathlib.Omega.{arith}
+use mathlib.Core.Path.{_≡_, refl, sym, ap, _∙_}
+use mathlib.Core.Bool.{Bool, true, false, cond, not, _&&_, _||_}
+use mathlib.Core.List.{List, []}
+use lib.Dec.{eqb, ltb}
+use lib.ListN.{length}
+use mir.Val.{boolByte}
+use borrow.Author.Tests.{eq-eqb, eqb-true, ltb-false, ltb-true, ne-eqb}
+use Rattle.forest.specs.Forest.{count, none, tree}
+use Rattle.forest.specs.Lists.{sameBytes, spelling}
+use Rattle.forest.proofs.Bools.{and-left, and-right, apart}
+use Rattle.forest.proofs.Rows.{past}
+use Rattle.bits.specs.Operators.{operators}
+use Rattle.words.specs.Trees.{Lexeme, list, literal, numeral, symbol}
+use Rattle.reserved.specs.Reserved.{isWord, knownWords, placeAmong, wordNumber}
+use Rattle.lexemes.specs.Lists.{Items, after, allNumerals, indexed, is, isList, isSymbol, item, numberOf}
+use Rattle.lexemes.specs.Standing.{Source, Stands, bracketed, ends, word}
+use Rattle.lexemes.specs.Table.{codeAt, numeralCode, openCode, symbolCode, valueAt}
+use Rattle.gathering.specs.Terms.{pattern}
+use Rattle.sorts.specs.Written.{sortOf, sortPlace}
+use Rattle.sorts.specs.declared.Fault.the-variants.{Unknown}
+use Rattle.grammar.specs.Derivation.{anyArgument, anyLiteral}
+use Rattle.grammar.specs.Tables.{itemCode, itemValue}
+use Rattle.naming.specs.Scopes.{View}
+use Rattle.naming.specs.Steps.{NodeMeans, PatternAt}
+use Rattle.naming.proofs.Symbols.{word-test}
+
+-- A word that has a code is within the table.
+pub in-table : (lexemes : List ℕ) (i : ℕ) → 0 < codeAt lexemes i → 3 * i < length lexemes
+in-table lexemes i h = go (ltb (3 * i) (length lexemes)) refl
+  where
+    go : (b : Bool) → ltb (3 * i) (length lexemes) ≡ b → 3 * i < length lexemes
+    go true e = ltb-true (3 * i) (length lexemes) e
+    go false e = absurd (omega (arith, past 3 lexemes i 0 (omega (arith, ltb-false (3 * i) (length lexemes) e))))
+
+-- Items of which the first is a word, and the others.
+record Begun (s : Source) (i e : ℕ) (F : Items) : Type 0 where
+  pub first : Lexeme
+  pub more : Items
+  pub is-it : F ≡ tree first none more
+  pub stands : Stands s (i + 1) more e
+
+module _ {s : Source} where
+  begun : {i e : ℕ} {F : Items} (w : String) → isWord w [] ≡ false → Stands s i F e → is w (item 0 F) ≡ true → Begun s i e F
+  unfolding item
+  begun w u ends h = apart (sym u ∙ h)
+  begun w u (word {l = l} {more = more} x rest) h = record { first = l; more = more; is-it = refl; stands = rest }
+  begun w u (bracketed b inner rest) h = apart (sym u ∙ h)
+
+  -- Items of which the first two are words.
+  twice : {i e : ℕ} {F : Items} (one : Begun s i e F) (two : Begun s (i + 1) e (one .more)) → F ≡ tree (one .first) none (tree (two .first) none (two .more))
+  twice one two = one .is-it ∙ ap (tree (one .first) none) (two .is-it)
+
+  -- A numeral is the first of numerals.
+  numeral-here : {i e : ℕ} {F : Items} → Stands s i F e → 0 < count F → allNumerals F ≡ true
+      → (codeAt (s .lexemes) i ≡ numeralCode) × (valueAt (s .lexemes) i ≡ numberOf (item 0 F))
+  unfolding allNumerals count item
+  numeral-here ends some all = absurd (omega arith)
+  numeral-here (word {l = numeral at v} x rest) some all = (x .coded, x .valued)
+  numeral-here (word {l = symbol at name} x rest) some all = apart all
+  numeral-here (word {l = literal at width v written} x rest) some all = apart all
+  numeral-here (word {l = list at close} x rest) some all = apart all
+  numeral-here (bracketed b inner rest) some all = apart all
+
+  -- The n of `(_ BitVec n)`, which stands behind two words.
+  width-here : {i e : ℕ} {F : Items} → Stands s i F e → indexed "BitVec" 1 F ≡ true
+      → (codeAt (s .lexemes) (i + 2) ≡ numeralCode) × (valueAt (s .lexemes) (i + 2) ≡ numberOf (item 2 F))
+  unfolding after item sameBytes
+  width-here {i} {e} {F} stands shape =
+      let u = is "_" (item 0 F) in
+      let v = is "BitVec" (item 1 F) in
+      let n = eqb (count (after 2 F)) 1 in
+      let uvn = and-left (u && v && n) (allNumerals (after 2 F)) shape in
+      let one = begun "_" refl stands (and-left u v (and-left (u && v) n uvn)) in
+      let two = begun "BitVec" refl (one .stands) (rw (one .is-it) at (and-right u v (and-left (u && v) n uvn))) in
+      let both = twice one two in
+      let single : count (two .more) ≡ 1 = rw both at (eqb-true (count (after 2 F)) 1 (and-right (u && v) n uvn)) in
+      let all : allNumerals (two .more) ≡ true = rw both at (and-right (u && v && n) (allNumerals (after 2 F)) shape) in
+      let next : i + 1 + 1 ≡ i + 2 = omega arith in
+      rw (← next, both) (numeral-here (two .stands) (omega arith) all)
+
+-- What the words at which a sort stands say of it.
+data SortIs (s : Source) (i : ℕ) : Lexeme → Items → Type 0 where
+  named : {at : ℕ} {name : List ℕ} → at ≡ i → codeAt (s .lexemes) i ≡ symbolCode name → SortIs s i (symbol at name) none
+  vector : {close : ℕ} {held : Items} → codeAt (s .lexemes) i ≡ openCode → codeAt (s .lexemes) (i + 3) ≡ numeralCode
+      → valueAt (s .lexemes) (i + 3) ≡ numberOf (item 2 held) → SortIs s i (list i close) held
+
+sort-is : {s : Source} {i e : ℕ} {l : Lexeme} {held : Items} → Stands s i (tree l held none) e → isSymbol l || isList l && indexed "BitVec" 1 held ≡ true
+    → SortIs s i l held
+sort-is (word {l = symbol at name} x rest) shape = named (x .placed) (x .coded)
+sort-is (word {l = numeral at v} x rest) shape = apart shape
+sort-is (word {l = literal at width v written} x rest) shape = apart shape
+sort-is (word {l = list at close} x rest) shape = apart (sym (x .no-list))
+sort-is {i = i} (bracketed b inner rest) shape =
+    let next : i + 1 + 2 ≡ i + 3 = omega arith in
+    let n = rw next at (width-here inner shape) in
+    vector (b .opened) (n .0) (n .1)
+
+-- A test as a number.
+pub bit-small : (test : Bool) → boolByte test ≤ 1
+bit-small true = omega arith
+bit-small false = omega arith
+
+constant-code : symbolCode (spelling "Constant") ≡ 45
+unfolding knownWords operators placeAmong sameBytes wordNumber
+constant-code = refl
+
+variable-code : symbolCode (spelling "Variable") ≡ 46
+unfolding knownWords operators placeAmong sameBytes wordNumber
+variable-code = refl
+
+-- The code of the word that says which of the two it is.
+abbrev pub patternCode : Bool → ℕ
+patternCode c = cond c 45 46
+
+pub pattern-code : (c : Bool) → symbolCode (cond c (spelling "Constant") (spelling "Variable")) ≡ patternCode c
+pattern-code true = constant-code
+pattern-code false = variable-code
+
+-- Where the test is turned round, so are the two.
+turned : (test : Bool) (a b : ℕ) → cond (not test) a b ≡ cond test b a
+turned true a b = refl
+turned false a b = refl
+
+-- A symbol that is a sort, by its code.
+bool-test : (name : List ℕ) {code : ℕ} → code ≡ symbolCode name → isWord "Bool" name ≡ eqb code 38
+unfolding knownWords
+bool-test name e = word-test name e 33 (omega arith)
+
+-- The numbers of `(Constant σ)` or `(Variable σ)`, where σ is the sort n.
+kind-code : (c : Bool) (n : ℕ) {code : ℕ} → code ≡ patternCode c → 6 + boolByte (eqb code 46) + 16 * n ≡ itemCode (cond c (anyLiteral n) (anyArgument n))
+kind-code true n {code} e = rw (ne-eqb code 46 (λ z. absurd (omega arith)))
+kind-code false n {code} e = rw (eq-eqb code 46 e)
+
+kind-value : (c : Bool) (n : ℕ) → 0 ≡ itemValue (cond c (anyLiteral n) (anyArgument n))
+kind-value true n = refl
+kind-value false n = refl
+
+module _ {lexemes : List ℕ} {head : ℕ} (p : PatternAt lexemes head) where
+  head-code : codeAt lexemes head ≡ patternCode (p .constant)
+  head-code = rw (← p .same, p .here) (p .says .coded ∙ pattern-code (p .constant))
+
+  sort-here : SortIs (p .source) (p .at + 2) (p .sort) (p .held)
+  sort-here = sort-is (p .says .stands) (p .says .shaped)
+
+  -- the word that says which of the two it is stands in the table
+  pub pattern-room : 3 * head < length lexemes
+  pattern-room = in-table lexemes head (rw head-code (go (p .constant)))
+    where
+      go : (c : Bool) → 0 < patternCode c
+      go true = omega arith
+      go false = omega arith
+
+  module _ {code sort : ℕ} (ec : code ≡ codeAt lexemes head) (es : sort ≡ codeAt lexemes (head + 1)) where
+    code-is : code ≡ patternCode (p .constant)
+    code-is = ec ∙ head-code
+
+    sort-code : sort ≡ codeAt (p .source .lexemes) (p .at + 2)
+    sort-code = let next : head + 1 ≡ p .at + 2 = omega (arith, p .here) in es ∙ rw (p .same, next)
+
+    module _ (opened : sort ≡ 1) {value : ℕ} (ev : value ≡ valueAt lexemes (head + 4)) where
+      -- the width of `(_ BitVec n)`
+      width-is : (value < 10 ^ 9) × (value ≡ sortOf (p .sort) (p .held))
+      width-is = go sort-here
+        where
+          value-is : value ≡ valueAt (p .source .lexemes) (p .at + 2 + 3)
+          value-is = let next : head + 4 ≡ p .at + 2 + 3 = omega (arith, p .here) in ev ∙ rw (p .same, next)
+
+          go : {l : Lexeme} {held : Items} → SortIs (p .source) (p .at + 2) l held → (value < 10 ^ 9) × (value ≡ sortOf l held)
+          go (named e c) = absurd (omega (arith, sort-code))
+          go (vector o c v) = (omega (arith, p .bounded .numerals (p .at + 2 + 3) c, value-is), value-is ∙ v)
+
+      pub pattern-width : value < 10 ^ 9
+      pattern-width = width-is .0
+
+      -- σ is `(_ BitVec n)`
+      pub pattern-vector : (view : View)
+          → NodeMeans view (pattern (p .at) (p .constant) (p .sort) (p .held))
+          (record { known = true; code = 6 + boolByte (eqb code 46) + 16 * value; value = 0 })
+      pattern-vector view = record {
+        stated =
+            record {
+              code-is = kind-code (p .constant) value code-is ∙ rw (width-is .1);
+              value-is = kind-value (p .constant) (sortOf (p .sort) (p .held));
+            };
+        known-is = go sort-here;
+      }
+        where
+          go : {l : Lexeme} {held : Items} → SortIs (p .source) (p .at + 2) l held → (nowhere : ℕ) → sortPlace Unknown nowhere l held ≡ nowhere
+          go (named e c) nowhere = absurd (omega (arith, sort-code))
+          go (vector o c v) nowhere = refl
+
+    -- σ is a symbol
+    pub pattern-symbol : (sort ≡ 1 → ⊥) → (view : View)
+        → NodeMeans view (pattern (p .at) (p .constant) (p .sort) (p .held)) (record { known = eqb sort 38; code = 6 + boolByte (eqb code 46); value = 0 })
+    pattern-symbol symbolic view = go sort-here
+      where
+        go : {l : Lexeme} {held : Items} → SortIs (p .source) (p .at + 2) l held
+            → NodeMeans view (pattern (p .at) (p .constant) l held) (record { known = eqb sort 38; code = 6 + boolByte (eqb code 46); value = 0 })
+        go (named {at = at} {name = name} e c) = record {
+          stated = record { code-is = omega (arith, kind-code (p .constant) 0 code-is); value-is = kind-value (p .constant) 0 };
+          known-is = λ nowhere. rw (bool-test name (sort-code ∙ c), e) (turned (eqb sort 38) (p .at + 2) nowhere);
+        }
+        go (vector o c v) = absurd (symbolic (sort-code ∙ o))

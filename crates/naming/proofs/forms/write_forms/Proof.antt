@@ -1,0 +1,81 @@
+use Prim.Native.Nat.{_-_}
+use native.Mathlib.Omega.{arith}
+use borrow.Author.Needs.{needs}
+use Rattle.naming.proofs.Turns.{Going, all-written, begins, node-here, turn}
+use Rattle.naming.proofs.forms.write_forms.Statement.{statement}
+use Rattle.naming.proofs.forms.write_forms.Tie as tie
+
+abbrev Inv-loop : tie.InvT-loop
+Inv-loop names seen text words lexemes raw count forms₀ base nowhere unknown₀ node₀ forms unknown node =
+    Going names text words lexemes raw forms₀ seen count base nowhere forms unknown node
+
+abbrev μ-loop : tie.MeasureT-loop
+μ-loop names seen text words lexemes raw count forms₀ base nowhere unknown₀ node₀ forms unknown node =
+    count - node
+
+loop-holds : tie.Need-loop-holds Inv-loop μ-loop
+loop-holds c = search begins
+
+first-at-requires : tie.Need-first-at-requires Inv-loop μ-loop
+first-at-requires c κs = search needs
+
+head-at-requires : tie.Need-head-at-requires Inv-loop μ-loop
+head-at-requires c κs = search needs
+
+node-means-requires : tie.Need-node-means-requires Inv-loop μ-loop
+node-means-requires c κs = search node-here
+
+add-put-form : tie.Need-add-put-form Inv-loop μ-loop
+add-put-form c = let room = c .before .before .before .before .before .loop .inv .given .room in let inside = c .before .before .before .before .loop-test .taken in let fits = c .before .before .before .before .before .before .before .before .before .before .before .before .good .1 .1 .1 .1 .1 .1 .1 .0 .1 in omega arith
+
+operands-at-requires : tie.Need-operands-at-requires Inv-loop μ-loop
+operands-at-requires c κs = search needs
+
+size-at-requires : tie.Need-size-at-requires Inv-loop μ-loop
+size-at-requires c κs = search needs
+
+put-form-requires : tie.Need-put-form-requires Inv-loop μ-loop
+put-form-requires c κs = let going = c .before .before .before .before .before .before .before .loop .inv in let room = going .given .room in let inside = c .before .before .before .before .before .before .loop-test .taken in omega (arith, going .long)
+
+unknown-word-requires : tie.Need-unknown-word-requires Inv-loop μ-loop
+unknown-word-requires c κs = search needs
+
+lesser-requires : tie.Need-lesser-requires Inv-loop μ-loop
+lesser-requires c κs = search needs
+
+add-node : tie.Need-add-node Inv-loop μ-loop
+add-node c = let inside = c .before .before .before .before .before .before .before .before .before .before .before .loop-test .taken in let fits = c .before .before .before .before .before .before .before .before .before .before .before .before .before .before .before .before .before .before .before .good .1 .1 .1 .1 .1 .1 .0 in omega arith
+
+loop-less : tie.Need-loop-less Inv-loop μ-loop
+loop-less c = omega arith
+
+loop-again : tie.Need-loop-again Inv-loop μ-loop
+loop-again c = turn (c .before .before .before .before .before .before .before .before .before .before .before .before .loop .inv) (c .before .before .before .before .before .before .before .before .before .before .before .loop-test .taken) (c .before .before .before .before .before .before .before .before .before .before .first-at .ensures) (c .before .before .before .before .before .before .before .before .before .head-at .ensures) (c .before .before .before .before .before .before .before .before .node-means .ensures) (c .before .before .before .before .before .before .operands-at .ensures) (c .before .before .before .before .before .size-at .ensures) (c .before .before .before .before .put-form .ensures) (c .before .unknown-word .ensures) (c .lesser .ensures)
+
+same-length : tie.Need-same-length Inv-loop μ-loop
+same-length c = c .before .loop .inv .long
+
+returns : tie.Need-returns Inv-loop μ-loop
+returns c = search all-written
+
+pub write-forms-spec : {M : Type 1} → statement M
+write-forms-spec =
+    tie.close
+    (tie.spec
+    Inv-loop
+    μ-loop
+    loop-holds
+    first-at-requires
+    head-at-requires
+    node-means-requires
+    add-put-form
+    operands-at-requires
+    size-at-requires
+    put-form-requires
+    unknown-word-requires
+    lesser-requires
+    add-node
+    loop-less
+    loop-again
+    same-length
+    returns)

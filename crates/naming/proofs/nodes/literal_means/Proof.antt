@@ -1,0 +1,56 @@
+use Prim.Native.Nat.{_<_}
+use native.Mathlib.Omega.{arith}
+use Rattle.naming.specs.Steps.{mostWritten}
+use Rattle.naming.proofs.ByWords.{is-constant, written-small}
+use borrow.Author.Needs.{needs}
+use Rattle.naming.proofs.nodes.literal_means.Statement.{statement}
+use Rattle.naming.proofs.nodes.literal_means.Tie as tie
+
+bytes-at-requires : tie.Need-bytes-at-requires
+bytes-at-requires c κs = search needs
+
+written-of-requires : tie.Need-written-of-requires
+written-of-requires c κs = rw (c .bytes-at .ensures) (search needs)
+
+width-at-requires : tie.Need-width-at-requires
+width-at-requires c κs = search needs
+
+cast-known-as : tie.Need-cast-known-as
+cast-known-as c = search needs
+
+mul-known-as : tie.Need-mul-known-as
+mul-known-as c = let h : c .before .written-of .result < mostWritten = search written-small in omega arith
+
+add-known-as : tie.Need-add-known-as
+add-known-as c = let h : c .before .written-of .result < mostWritten = search written-small in omega arith
+
+mul-known-as-2 : tie.Need-mul-known-as-2
+mul-known-as-2 c = let h : c .before .written-of .result < mostWritten = search written-small in omega arith
+
+add-known-as-2 : tie.Need-add-known-as-2
+add-known-as-2 c = let h : c .before .written-of .result < mostWritten = search written-small in omega arith
+
+value-at-requires : tie.Need-value-at-requires
+value-at-requires c κs = search needs
+
+known-as-requires : tie.Need-known-as-requires
+known-as-requires c κs = search needs
+
+returns : tie.Need-returns
+returns c = λ view. rw (c .known-as .ensures) (search is-constant)
+
+pub literal-means-spec : {M : Type 1} → statement M
+literal-means-spec =
+    tie.close
+    (tie.spec
+    bytes-at-requires
+    written-of-requires
+    width-at-requires
+    cast-known-as
+    mul-known-as
+    add-known-as
+    mul-known-as-2
+    add-known-as-2
+    value-at-requires
+    known-as-requires
+    returns)

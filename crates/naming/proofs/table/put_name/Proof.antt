@@ -1,0 +1,84 @@
+use Prim.Native.Nat.{_*_, _-_}
+use mathlib.Core.Path.{_∙_}
+use lib.ListN.{length-set}
+use mathlib.Core.Logic.{⊎-elim}
+use native.Mathlib.Omega.{arith}
+use Rattle.naming.proofs.Names.{Writing, name-byte, row-written, unwritten, written, zero-byte}
+use Rattle.naming.proofs.table.put_name.Statement.{statement}
+use Rattle.naming.proofs.table.put_name.Tie as tie
+
+abbrev Inv-loop : tie.InvT-loop
+Inv-loop names₀ row sort word at k₀ names k = Writing names₀ word names at k
+
+abbrev μ-loop : tie.MeasureT-loop
+μ-loop names₀ row sort word at k₀ names k = 64 - k
+
+mul-at : tie.Need-mul-at Inv-loop μ-loop
+mul-at c = omega arith
+
+slice-write-names : tie.Need-slice-write-names Inv-loop μ-loop
+slice-write-names c = omega arith
+
+cast-names : tie.Need-cast-names Inv-loop μ-loop
+cast-names c = omega arith
+
+add-names : tie.Need-add-names Inv-loop μ-loop
+add-names c = omega arith
+
+slice-write-names-2 : tie.Need-slice-write-names-2 Inv-loop μ-loop
+slice-write-names-2 c = simp length-set (omega arith)
+
+loop-holds : tie.Need-loop-holds Inv-loop μ-loop
+loop-holds c = search unwritten
+
+shared-slice-read-names : tie.Need-shared-slice-read-names Inv-loop μ-loop
+shared-slice-read-names c = omega arith
+
+add-names-2 : tie.Need-add-names-2 Inv-loop μ-loop
+add-names-2 c = omega arith
+
+add-names-3 : tie.Need-add-names-3 Inv-loop μ-loop
+add-names-3 c = omega arith
+
+slice-write-names-3 : tie.Need-slice-write-names-3 Inv-loop μ-loop
+slice-write-names-3 c = let l = simp length-set at (c .before .before .loop .inv .long) in omega arith
+
+add-k : tie.Need-add-k Inv-loop μ-loop
+add-k c = omega arith
+
+loop-less : tie.Need-loop-less Inv-loop μ-loop
+loop-less c = omega arith
+
+loop-again : tie.Need-loop-again Inv-loop μ-loop
+loop-again c = ⊎-elim (λ w. search name-byte) (λ w. search zero-byte) (c .if1 .came)
+
+same-length : tie.Need-same-length Inv-loop μ-loop
+same-length c = simp length-set at (c .before .loop .inv .long)
+
+returns : tie.Need-returns Inv-loop μ-loop
+returns c =
+    let given = c .before .before .args in
+    written _ (c .before .before .pre .1 .1) (c .before .loop .inv) (omega arith)
+    ∙ row-written (given .names .now) (given .word .now) (66 * given .row) (given .sort)
+
+pub put-name-spec : {M : Type 1} → statement M
+put-name-spec =
+    tie.close
+    (tie.spec
+    Inv-loop
+    μ-loop
+    mul-at
+    slice-write-names
+    cast-names
+    add-names
+    slice-write-names-2
+    loop-holds
+    shared-slice-read-names
+    add-names-2
+    add-names-3
+    slice-write-names-3
+    add-k
+    loop-less
+    loop-again
+    same-length
+    returns)

@@ -1,0 +1,4 @@
+pub mod Scopes
+pub mod Unknown
+pub mod Table
+pub mod Steps

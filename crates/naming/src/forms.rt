@@ -1,0 +1,67 @@
+//! The forms that terms say, node by node, and the first name in them that is not known.
+use crate::Meaning;
+use crate::Seen;
+use crate::lesser;
+use crate::nodes::node_means;
+use crate::nodes::unknown_word;
+use gathering::first_at;
+use gathering::head_at;
+use gathering::operands_at;
+use gathering::size_at;
+use terms::ROW;
+ghost use mathlib.Core.Path.{_≡_};
+ghost use mathlib.Core.List.{[], _∷_};
+ghost use Prim.Native.Nat.{_+_, _*_, _≤_};
+ghost use lib.ListN.{length};
+ghost use lib.Seq.{sets};
+ghost use Rattle.naming.specs.Steps.{Resolved, Resolving};
+
+// Writes the row of a node.
+fn put_form(forms: &mut [u64], row: usize, meaning: Meaning, operands: usize, size: usize)
+    requires { ⌜ 4 * row + 4 ≤ length (now forms) ⌝ }
+    ensures { λ r. ⌜ now (forms .exit) ≡ sets (now (forms .entry)) (4 * row) (meaning .code ∷ meaning .value ∷ operands ∷ size ∷ []) ⌝ }
+{
+    let at = ROW * row;
+    forms[at] = meaning.code;
+    forms[at + 1] = meaning.value;
+    forms[at + 2] = operands as u64;
+    forms[at + 3] = size as u64;
+}
+
+// Writes the forms of the first `count` nodes of a table into the rows from `base` on; returns the least word with a name that is not known, `nowhere` where all are.
+pub fn write_forms(
+    names: &[u8],
+    seen: Seen,
+    text: &[u8],
+    words: &[u32],
+    lexemes: &[u64],
+    raw: &[u64],
+    count: usize,
+    forms: &mut [u64],
+    base: usize,
+    nowhere: usize,
+) -> usize
+    requires { ⌜ Resolving (now names) (now text) (now words) (now lexemes) (now raw) (now forms) seen count base ⌝ }
+    ensures { λ r. ⌜ ((p : Resolving (now (names .entry)) (now (text .entry)) (now (words .entry)) (now (lexemes .entry)) (now (raw .entry)) (now (forms .entry)) seen count base) → Resolved p nowhere (now (forms .exit)) r) ⌝ }
+{
+    let mut unknown = nowhere;
+    let mut node = 0;
+    while node < count {
+        let first = first_at(raw, node);
+        let head = head_at(raw, node);
+        let meaning = node_means(names, seen, text, words, lexemes, first, head);
+        put_form(
+            forms,
+            base + node,
+            meaning,
+            operands_at(raw, node),
+            size_at(raw, node),
+        );
+        unknown = lesser(
+            unknown,
+            unknown_word(meaning.known, lexemes, first, head, nowhere),
+        );
+        node += 1;
+    }
+    unknown
+}

@@ -1,0 +1,32 @@
+//! Names in scope: a table of them, what a symbol stands for, and the forms that terms say.
+pub mod forms;
+mod literals;
+mod meanings;
+mod nodes;
+pub mod table;
+
+ghost use mathlib.Core.Path.{_≡_};
+ghost use Prim.Native.Nat.{min};
+
+// What a term sees, as rows of the table of names: arguments or variables from row `first` on, and how many of the others there are.
+pub struct Seen {
+    pub first: usize,
+    pub names: usize,
+    pub defined: usize,
+    pub functions: usize,
+    pub non_terminals: usize,
+}
+
+// What a node stands for, as the two numbers of a node table, and whether it is known.
+pub struct Meaning {
+    pub known: bool,
+    pub code: u64,
+    pub value: u64,
+}
+
+// The lesser of two numbers.
+fn lesser(one: usize, other: usize) -> usize
+    ensures { λ r. ⌜ r ≡ min one other ⌝ }
+{
+    if one < other { one } else { other }
+}

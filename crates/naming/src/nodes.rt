@@ -1,0 +1,129 @@
+//! What a node of a term stands for.
+use crate::Meaning;
+use crate::Seen;
+use crate::literals::bytes_at;
+use crate::literals::written_of;
+use crate::meanings::NOTHING;
+use crate::meanings::known_as;
+use crate::meanings::symbol_means;
+use lexemes::LITERAL;
+use lexemes::OPEN;
+use lexemes::SYMBOL;
+use lexemes::code_at;
+use lexemes::codes::BOOL;
+use lexemes::codes::CONSTANT;
+use lexemes::codes::VARIABLE;
+use lexemes::value_at;
+use readings::table::width_at;
+ghost use mathlib.Core.Path.{_≡_};
+ghost use mathlib.Core.Bool.{cond};
+ghost use Prim.Native.Nat.{ℕ, _+_, _<_};
+ghost use Rattle.gathering.specs.Terms.{constant, cut, pattern, writtenOf};
+ghost use Rattle.lexemes.specs.Table.{codeAt, valueAt};
+ghost use Rattle.words.specs.Table.{widthAt};
+ghost use Rattle.naming.specs.Scopes.{View};
+ghost use Rattle.naming.specs.Steps.{NodeAt, NodeMeans, PatternAt, bytesAt, isPatternHead, mostWritten, wordBy};
+
+// The code of `(_ extract i j)`: the last operator.
+const CUT: u64 = terms::OPERATOR + 16 * 22;
+
+// The kind of `(Constant σ)`; that of `(Variable σ)` is the next.
+const ANY_LITERAL: u64 = 6;
+
+// Whether a node is `(Constant σ)` or `(Variable σ)`, by its first word, the word that says what it is and the code of that.
+fn is_pattern(first: usize, head: usize, code: u64) -> bool
+    ensures { λ r. ⌜ r ≡ isPatternHead first head code ⌝ }
+{
+    (first < head) & ((code == CONSTANT) | (code == VARIABLE))
+}
+
+// What `(Constant σ)` or `(Variable σ)` stands for.
+fn pattern_means(lexemes: &[u64], head: usize) -> Meaning
+    requires { ⌜ PatternAt (now lexemes) head ⌝ }
+    ensures { λ r. ⌜ ((given : PatternAt (now (lexemes .entry)) head) (view : View) → NodeMeans view (pattern (given .at) (given .constant) (given .sort) (given .held)) r) ⌝ }
+{
+    let kind = ANY_LITERAL + (code_at(lexemes, head) == VARIABLE) as u64;
+    let sort = code_at(lexemes, head + 1);
+    if sort == OPEN {
+        return known_as(kind + 16 * value_at(lexemes, head + 4), 0);
+    }
+    Meaning {
+        known: sort == BOOL,
+        code: kind,
+        value: 0,
+    }
+}
+
+// What a `#x` or `#b` word stands for.
+fn literal_means(text: &[u8], words: &[u32], lexemes: &[u64], word: usize) -> Meaning
+    requires { ⌜ writtenOf (bytesAt (now text) (now words) word) < mostWritten ⌝ }
+    ensures { λ r. ⌜ ((view : View) → NodeMeans view (constant word (widthAt (now (words .entry)) word) (valueAt (now (lexemes .entry)) word) (writtenOf (bytesAt (now (text .entry)) (now (words .entry)) word))) r) ⌝ }
+{
+    let written = written_of(bytes_at(text, words, word));
+    known_as(
+        terms::LITERAL + 16 * (width_at(words, word) as u64 + 128 * written),
+        value_at(lexemes, word),
+    )
+}
+
+// What `(_ extract i j)` stands for, by the word that is i.
+fn cut_means(lexemes: &[u64], word: usize) -> Meaning
+    requires { ⌜ 0 < codeAt (now lexemes) word ⌝ }
+    ensures { λ r. ⌜ ((view : View) (at : ℕ) → NodeMeans view (cut at word (valueAt (now (lexemes .entry)) word) (valueAt (now (lexemes .entry)) (word + 1))) r) ⌝ }
+{
+    let high = value_at(lexemes, word);
+    let low = value_at(lexemes, word + 1);
+    if (low <= high) & (high < 64) {
+        return known_as(CUT, 64 * high + low);
+    }
+    known_as(NOTHING, 0)
+}
+
+// What a node stands for, by its first word and the word that says what it is.
+pub fn node_means(
+    names: &[u8],
+    seen: Seen,
+    text: &[u8],
+    words: &[u32],
+    lexemes: &[u64],
+    first: usize,
+    head: usize,
+) -> Meaning
+    requires { ⌜ NodeAt (now names) seen (now text) (now words) (now lexemes) first head ⌝ }
+    ensures { λ r. ⌜ ((given : NodeAt (now (names .entry)) seen (now (text .entry)) (now (words .entry)) (now (lexemes .entry)) first head) → NodeMeans (given .view) (given .node) r) ⌝ }
+{
+    let code = code_at(lexemes, head);
+    if is_pattern(first, head, code) {
+        return pattern_means(lexemes, head);
+    }
+    if code >= SYMBOL {
+        return symbol_means(names, seen, code, bytes_at(text, words, head));
+    }
+    if code == LITERAL {
+        return literal_means(text, words, lexemes, head);
+    }
+    if first < head {
+        return cut_means(lexemes, head);
+    }
+    known_as(NOTHING, 0)
+}
+
+// The word of a node at which a name stands that is not known: that of σ in `(Constant σ)` and `(Variable σ)`, else the word that says what the node is; `nowhere`
+// where its name is known.
+pub fn unknown_word(
+    known: bool,
+    lexemes: &[u64],
+    first: usize,
+    head: usize,
+    nowhere: usize,
+) -> usize
+    ensures { λ r. ⌜ r ≡ cond known nowhere (wordBy first head (codeAt (now (lexemes .entry)) head)) ⌝ }
+{
+    if known {
+        return nowhere;
+    }
+    if is_pattern(first, head, code_at(lexemes, head)) {
+        return head + 1;
+    }
+    head
+}

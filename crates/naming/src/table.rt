@@ -1,0 +1,87 @@
+//! The table of names: 66 bytes for each, its sort, its length, and its bytes with zeros behind them.
+ghost use mathlib.Core.Path.{_≡_};
+ghost use Prim.Native.Nat.{_+_, _*_, _<_, _≤_};
+ghost use lib.ListN.{length};
+ghost use lib.Seq.{sets};
+ghost use Rattle.forest.specs.Lists.{sameBytes};
+ghost use Rattle.naming.specs.Scopes.{placeIn};
+ghost use Rattle.naming.specs.Steps.{Names};
+ghost use Rattle.naming.specs.Table.{nameIn, nameRow, namesFrom, sortIn};
+
+// How many bytes a row has.
+pub const ROW: usize = 66;
+
+// The rows of the first variable, `define-fun`, synthesized function, argument and non-terminal; and how many rows there are.
+pub const VARIABLES: usize = 0;
+
+pub const DEFINED: usize = 16;
+
+pub const FUNCTIONS: usize = 48;
+
+pub const ARGUMENTS: usize = 56;
+
+pub const NON_TERMINALS: usize = 64;
+
+pub const ROWS: usize = 80;
+
+// The sort in a row.
+pub fn sort_in(names: &[u8], row: usize) -> u64
+    requires { ⌜ Names (now names) ⌝ }
+    requires { ⌜ row < 80 ⌝ }
+    ensures { λ r. ⌜ r ≡ sortIn (now (names .entry)) row ⌝ }
+{
+    names[ROW * row] as u64
+}
+
+// Whether the name in a row is the word.
+fn is_name(names: &[u8], row: usize, word: &[u8]) -> bool
+    requires { ⌜ Names (now names) ⌝ }
+    requires { ⌜ row < 80 ⌝ }
+    ensures { λ r. ⌜ r ≡ sameBytes (nameIn (now (names .entry)) row) (now (word .entry)) ⌝ }
+{
+    let at = ROW * row;
+    if names[at + 1] as usize != word.len() {
+        return false;
+    }
+    let mut k = 0;
+    while k < word.len() {
+        if names[at + 2 + k] != word[k] {
+            return false;
+        }
+        k += 1;
+    }
+    true
+}
+
+// The place of the word among the names in so many rows from a row on; past the last of them where it is none of them.
+pub fn find_name(names: &[u8], first: usize, count: usize, word: &[u8]) -> usize
+    requires { ⌜ Names (now names) ⌝ }
+    requires { ⌜ first + count ≤ 80 ⌝ }
+    ensures { λ r. ⌜ r ≡ placeIn (namesFrom (now (names .entry)) first count) 0 (now (word .entry)) ⌝ }
+{
+    let mut place = 0;
+    while place < count {
+        if is_name(names, first + place, word) {
+            return place;
+        }
+        place += 1;
+    }
+    place
+}
+
+// Writes a name and its sort into a row.
+pub fn put_name(names: &mut [u8], row: usize, sort: u8, word: &[u8])
+    requires { ⌜ Names (now names) ⌝ }
+    requires { ⌜ row < 80 ⌝ }
+    requires { ⌜ length (now word) ≤ 64 ⌝ }
+    ensures { λ r. ⌜ now (names .exit) ≡ sets (now (names .entry)) (66 * row) (nameRow sort (now (word .entry))) ⌝ }
+{
+    let at = ROW * row;
+    names[at] = sort;
+    names[at + 1] = word.len() as u8;
+    let mut k = 0;
+    while k < 64 {
+        names[at + 2 + k] = if k < word.len() { word[k] } else { 0 };
+        k += 1;
+    }
+}

@@ -1,0 +1,94 @@
+-- The numbers of words: a name is a known word just when it has that word's number.
+use Prim.Native.Nat.{ℕ, suc, _+_, _≤_, _<_}
+use Prim.Native.String.{String}
+use native.Mathlib.Omega.{arith}
+use mathlib.Core.Path.{_≡_, refl, sym, ap, ap₂, _∙_}
+use mathlib.Core.Bool.{Bool, true, false, cond}
+use mathlib.Core.List.{List, [], _∷_}
+use lib.Dec.{eqb, ltb}
+use lib.ListN.{length, getD}
+use borrow.Author.Tests.{eq-eqb, eqb-true, eqb-false, lt-ltb, ltb-true}
+use Rattle.forest.specs.Lists.{sameBytes, spelling}
+use Rattle.forest.proofs.Bools.{and-left, and-right, apart, each}
+use Rattle.bits.specs.Operators.{operators}
+use Rattle.reserved.specs.Reserved.{isWord, knownWords, placeAmong, wordNumber}
+
+-- lists of bytes that are the same are equal
+same-bytes : (u v : List ℕ) → sameBytes u v ≡ true → u ≡ v
+unfolding sameBytes
+same-bytes [] [] e = refl
+same-bytes [] (b ∷ v) e = apart e
+same-bytes (a ∷ u) [] e = apart e
+same-bytes (a ∷ u) (b ∷ v) e = ap₂ _∷_ (eqb-true a b (and-left (eqb a b) (sameBytes u v) e)) (same-bytes u v (and-right (eqb a b) _ e))
+
+same-self : (u : List ℕ) → sameBytes u u ≡ true
+unfolding sameBytes
+same-self [] = refl
+same-self (a ∷ u) = rw (eq-eqb a a refl) (same-self u)
+
+-- a name's place is counted on
+place-from : (words : List String) (k : ℕ) (name : List ℕ) → k ≤ placeAmong words k name
+unfolding placeAmong
+place-from [] k name = omega arith
+place-from (w ∷ more) k name = go (isWord w name) (place-from more (k + 1) name)
+  where
+    go : (here : Bool) → k + 1 ≤ placeAmong more (k + 1) name → k ≤ cond here k (placeAmong more (k + 1) name)
+    go true h = omega arith
+    go false h = omega arith
+
+-- names that have one place are equal
+same-place : (words : List String) (k : ℕ) (u v : List ℕ) → placeAmong words k u ≡ placeAmong words k v → placeAmong words k v < k + length words → u ≡ v
+unfolding placeAmong
+same-place [] k u v e h = absurd (omega arith)
+same-place (w ∷ more) k u v e h =
+    go (isWord w u) refl (isWord w v) refl e h (place-from more (k + 1) u) (place-from more (k + 1) v) (same-place more (k + 1) u v)
+  where
+    go : (a : Bool) → isWord w u ≡ a → (b : Bool) → isWord w v ≡ b
+        → cond a k (placeAmong more (k + 1) u) ≡ cond b k (placeAmong more (k + 1) v)
+        → cond b k (placeAmong more (k + 1) v) < k + suc (length more)
+        → k + 1 ≤ placeAmong more (k + 1) u
+        → k + 1 ≤ placeAmong more (k + 1) v
+        → (placeAmong more (k + 1) u ≡ placeAmong more (k + 1) v → placeAmong more (k + 1) v < k + 1 + length more → u ≡ v)
+        → u ≡ v
+    go true eu true ev e h x y later = sym (same-bytes _ u eu) ∙ same-bytes _ v ev
+    go true eu false ev e h x y later = absurd (omega arith)
+    go false eu true ev e h x y later = absurd (omega arith)
+    go false eu false ev e h x y later = later e (omega arith)
+
+-- the number of a word
+abbrev pub numberOf : String → ℕ
+numberOf word = wordNumber (spelling word)
+
+-- whether a word has a number
+abbrev pub isKnown : String → Bool
+isKnown word = ltb (numberOf word) (length knownWords)
+
+-- a name is a known word just when it has the word's number
+pub by-number : (word : String) → isKnown word ≡ true → (name : List ℕ) → isWord word name ≡ eqb (wordNumber name) (numberOf word)
+unfolding wordNumber
+by-number word known name = go (isWord word name) refl (eqb (wordNumber name) (numberOf word)) refl
+  where
+    go : (a : Bool) → isWord word name ≡ a → (b : Bool) → eqb (wordNumber name) (numberOf word) ≡ b → a ≡ b
+    go true ea true eb = refl
+    go false ea false eb = refl
+    go true ea false eb = absurd (eqb-false _ _ eb (ap wordNumber (sym (same-bytes _ name ea))))
+    go false ea true eb =
+        let below = ltb-true (numberOf word) (length knownWords) known in
+        let e : name ≡ spelling word = same-place knownWords 0 name (spelling word) (eqb-true _ _ eb) (omega arith) in
+        sym ea ∙ ap (isWord word) e ∙ same-self (spelling word)
+
+-- known word k
+abbrev pub wordAt : ℕ → String
+wordAt k = getD knownWords k ""
+
+-- no two known words are the same: each has the number of its place
+pub number-at : (k : ℕ) → k < 65 → numberOf (wordAt k) ≡ k
+unfolding knownWords operators placeAmong sameBytes wordNumber
+number-at k h = eqb-true _ _ (each 65 (λ (j : ℕ). eqb (numberOf (wordAt j)) j) tt k h)
+
+-- a name is known word k just when its number is k
+pub by-place : (k : ℕ) → k < 65 → (name : List ℕ) → isWord (wordAt k) name ≡ eqb (wordNumber name) k
+unfolding knownWords operators
+by-place k h name =
+    let e = number-at k h in
+    by-number (wordAt k) (lt-ltb (numberOf (wordAt k)) (length knownWords) (omega arith)) name ∙ ap (eqb (wordNumber name)) e

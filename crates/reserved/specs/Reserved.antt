@@ -1,0 +1,79 @@
+-- Reserved words, and the numbers of the words that the reader tells apart.
+use Prim.Native.Nat.{ℕ, _+_}
+use Prim.Native.String.{String}
+use mathlib.Core.Bool.{Bool, false, cond, _||_}
+use mathlib.Core.List.{List, [], _∷_, _++_, map}
+use Rattle.forest.specs.Lists.{sameBytes, spelling}
+use Rattle.bits.specs.Operators.{Operator, operators}
+
+-- The commands that are carried: "`(set-logic BV)` first and once; then `declare-var`, `define-fun`, `synth-fun` with grammar, `constraint`; `(check-synth)`
+-- last".
+abbrev pub carriedCommands : List String
+carriedCommands = "set-logic" ∷ "declare-var" ∷ "define-fun" ∷ "synth-fun" ∷ "constraint" ∷ "check-synth" ∷ []
+
+-- "Other 2.1 commands": the rest of document 000's section 2.9.
+abbrev pub otherCommands : List String
+otherCommands =
+    "assume"
+    ∷ "chc-constraint"
+    ∷ "declare-weight"
+    ∷ "inv-constraint"
+    ∷ "optimize-synth"
+    ∷ "set-feature"
+    ∷ "oracle-assume"
+    ∷ "oracle-constraint"
+    ∷ "declare-oracle-fun"
+    ∷ "oracle-constraint-io"
+    ∷ "oracle-constraint-cex"
+    ∷ "oracle-constraint-membership"
+    ∷ "oracle-constraint-poswitness"
+    ∷ "oracle-constraint-negwitness"
+    ∷ "declare-correctness-oracle"
+    ∷ "declare-correctness-cex-oracle"
+    ∷ "declare-datatype"
+    ∷ "declare-datatypes"
+    ∷ "declare-sort"
+    ∷ "define-sort"
+    ∷ "set-info"
+    ∷ "set-option"
+    ∷ []
+
+-- "`true`, `false`, `Bool`, `BitVec`, `_`, `!`, `let`, `exists`, `forall`, `Constant` and `Variable`"
+abbrev pub otherWords : List String
+otherWords = "true" ∷ "false" ∷ "Bool" ∷ "BitVec" ∷ "_" ∷ "!" ∷ "let" ∷ "exists" ∷ "forall" ∷ "Constant" ∷ "Variable" ∷ []
+
+-- "Names: operators, command words of document 000, `true`, .. and `Variable` are reserved."
+unfoldable pub reservedWords : List String
+reservedWords = map (λ (o : Operator). o .name) operators ++ carriedCommands ++ otherCommands ++ otherWords
+
+-- Whether a name is the word.
+abbrev pub isWord : String → (name : List ℕ) → Bool
+isWord word name = sameBytes (spelling word) name
+
+-- Whether a name is one of the words.
+unfoldable pub isOneOf : List String → (name : List ℕ) → Bool
+isOneOf [] name = false
+isOneOf (w ∷ more) name = isWord w name || isOneOf more name
+
+-- Whether a name is reserved.
+unfoldable pub isReserved : (name : List ℕ) → Bool
+isReserved name = isOneOf reservedWords name
+
+-- Words that are not reserved but told apart: the logic that is carried, and the two responses that are no list.
+abbrev pub unreservedWords : List String
+unreservedWords = "BV" ∷ "fail" ∷ "infeasible" ∷ []
+
+-- The words that the reader tells apart; the operators are the last, so that one more of them moves no other.
+unfoldable pub knownWords : List String
+knownWords = unreservedWords ++ carriedCommands ++ otherCommands ++ otherWords ++ map (λ (o : Operator). o .name) operators
+
+-- The place of the first of the words that a name is, counted from k; past the last of them where it is none.
+unfoldable pub placeAmong : List String → (k : ℕ) → (name : List ℕ) → ℕ
+placeAmong [] k name = k
+placeAmong (w ∷ more) k name =
+    let later = placeAmong more (k + 1) name in
+    cond (isWord w name) k later
+
+-- The number of a name: its place among the known words, past the last of them where it is none.
+unfoldable pub wordNumber : (name : List ℕ) → ℕ
+wordNumber name = placeAmong knownWords 0 name

@@ -1,0 +1,57 @@
+-- What the gathering of rules asks and gives. Definitions that serve a step.
+use Prim.Native.Nat.{ℕ, _+_, _-_, _*_, _≤_, min}
+use mathlib.Core.Bool.{true}
+use mathlib.Core.List.{List, _++_}
+use mathlib.Core.Path.{_≡_}
+use lib.ListN.{length}
+use Rattle.forest.specs.Forest.{size}
+use Rattle.lexemes.specs.Lists.{Items}
+use Rattle.lexemes.specs.Standing.{Source, Stands}
+use Rattle.shapes.specs.Shapes.{all, groupShape, ruleShape}
+use Rattle.gathering.specs.Table.{uncountedTable}
+use Rattle.rules.specs.Rules.{Ruled, nodesPast, rulePast, rulesIn, rulesOf, sides, startTable}
+use Rattle.rules.specs.declared.Gathered.{Gathered}
+
+-- The rules `done` are gathered: their nodes stand in the first rows of one table, where each starts and its non-terminal in another, which has room for
+-- `most`; and the word past a limit is found.
+pub record Holds (nowhere most nodes : ℕ) (raw rules : List ℕ) (done : List Ruled) (g : Gathered) : Type 0 where
+  pub rest : List ℕ
+  pub raw-is : raw ≡ uncountedTable (sides done) ++ rest
+  pub rows : g .row ≡ size (sides done)
+  pub counted : g .rule ≡ length done
+  pub more : List ℕ
+  pub rules-are : g .rule ≤ most → rules ≡ startTable 0 done ++ more
+  pub room : 2 * most ≤ length rules
+  pub place-is : g .place ≡ min (rulePast nowhere most done) (nodesPast nowhere nodes done)
+
+-- Rules of a shape stand from word i to before word e, behind rules that are gathered, and there is a row for each of their words.
+pub record RulesBetween (lexemes : List ℕ) (i e : ℕ) (nowhere most nodes : ℕ) (raw rules : List ℕ) (g : Gathered) : Type 0 where
+  pub source : Source
+  pub same : source .lexemes ≡ lexemes
+  pub items : Items
+  pub stands : Stands source i items e
+  pub shaped : all ruleShape items ≡ true
+  pub done : List Ruled
+  pub holds : Holds nowhere most nodes raw rules done g
+  pub room : 4 * (g .row + (e - i)) ≤ length raw
+
+-- Groups stand from word i to before word e, and there is a row for each of their words.
+pub record GroupsBetween (lexemes : List ℕ) (i e : ℕ) (most : ℕ) (raw rules : List ℕ) : Type 0 where
+  pub source : Source
+  pub same : source .lexemes ≡ lexemes
+  pub items : Items
+  pub stands : Stands source i items e
+  pub shaped : all groupShape items ≡ true
+  pub raw-room : 4 * (e - i) ≤ length raw
+  pub rules-room : 2 * most ≤ length rules
+
+-- Their rules are gathered.
+abbrev pub RulesGathered : {lexemes : List ℕ} {i e most : ℕ} {raw rules : List ℕ} → GroupsBetween lexemes i e most raw rules
+    → (nowhere nodes : ℕ) → (rawAfter rulesAfter : List ℕ) → Gathered → Type 0
+RulesGathered {most = most} p nowhere nodes rawAfter rulesAfter g = Holds nowhere most nodes rawAfter rulesAfter (rulesIn 0 (p .items)) g
+
+-- The rules of the non-terminal A are gathered behind those before them.
+abbrev pub GroupGathered : {lexemes : List ℕ} {i e nowhere most nodes : ℕ} {raw rules : List ℕ} {g : Gathered}
+    → RulesBetween lexemes i e nowhere most nodes raw rules g → (A : ℕ) → (rawAfter rulesAfter : List ℕ) → Gathered → Type 0
+GroupGathered {nowhere = nowhere} {most = most} {nodes = nodes} p A rawAfter rulesAfter g =
+    Holds nowhere most nodes rawAfter rulesAfter (p .done ++ rulesOf A (p .items)) g

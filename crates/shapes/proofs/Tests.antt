@@ -1,0 +1,120 @@
+-- The tests of an item or a list by the codes of its words.
+use Prim.Native.Nat.{ℕ, _+_, _≤_, _<_}
+use native.Mathlib.Omega.{arith}
+use mathlib.Core.Path.{_≡_, refl, sym, ap, ap₂, _∙_}
+use mathlib.Core.Bool.{Bool, true, false, _&&_, _||_, not, and-false, and-true}
+use mathlib.Core.List.{List, [], _∷_}
+use lib.Dec.{eqb, leb}
+use borrow.Author.Tests.{eqb-true, le-leb, lt-leb, ne-eqb}
+use Rattle.forest.specs.Forest.{count}
+use Rattle.lexemes.specs.Lists.{after, indexed, inside, is, isAmong, isList, item}
+use Rattle.lexemes.specs.Table.{codeAt, codeOf}
+use Rattle.lexemes.specs.Standing.{ItemAt, ListAt}
+use Rattle.lexemes.proofs.ByCode.{codeFor, front-word, front-words, frontCode, list-code, symbol-code, word-code, words-code}
+use Rattle.lexemes.proofs.Standing.{front}
+use Rattle.lexemes.proofs.Listed.{at-item, first-code, held}
+use Rattle.lexemes.proofs.Spelt.{behind-word}
+use Rattle.shapes.specs.Shapes.{applicationShape, headShape, isPattern, setLogicShape, sortShape}
+use Rattle.shapes.specs.Steps.{ItemOf}
+use Rattle.shapes.proofs.Parts.{the-item}
+use Rattle.shapes.specs.Carried.{noGrammar, otherLogic, uncarriedStart}
+
+module _ {lexemes : List ℕ} {at : ℕ} where
+  module _ {code : ℕ} (ec : code ≡ codeAt lexemes at) where
+    code-of : (x : ItemAt lexemes at) → code ≡ codeOf (x .label)
+    code-of x = ec ∙ at-item x .code
+
+    pub sort-test : {r : Bool} → ((x : ItemAt lexemes at) → r ≡ (isList (x .label) && indexed "BitVec" 1 (x .operands)))
+        → (x : ItemAt lexemes at) → leb 5 code || r ≡ sortShape (x .label) (x .operands)
+    sort-test known x = ap₂ _||_ (ap (leb 5) (code-of x) ∙ sym (symbol-code (x .label))) (known x)
+
+    pub head-test : {r : Bool} → ((x : ItemAt lexemes at) → r ≡ (isList (x .label) && indexed "extract" 2 (x .operands)))
+        → (x : ItemAt lexemes at) → leb 5 code && not (eqb code 36 || eqb code 37 || eqb code 45 || eqb code 46) || r ≡ headShape (x .label) (x .operands)
+    unfolding codeFor
+    head-test known x =
+        let names = words-code ("true" ∷ "false" ∷ "Constant" ∷ "Variable" ∷ []) refl (x .label) in
+        rw (code-of x, known x, symbol-code (x .label), names)
+
+    pub pattern-test : {head : ℕ} → head ≡ codeAt lexemes (at + 1)
+        → (x : ItemAt lexemes at) → eqb code 1 && (eqb head 45 || eqb head 46) ≡ isPattern (x .label) (x .operands)
+    unfolding after codeFor
+    pattern-test {head} eh x = rw (code-of x, ← list-code (x .label)) (go (isList (x .label)) refl)
+      where
+        go : (b : Bool) → isList (x .label) ≡ b → b && (eqb head 45 || eqb head 46) ≡ b && isAmong ("Constant" ∷ "Variable" ∷ []) (item 0 (x .operands))
+        go true e =
+            let h = at-item x .a-list e in
+            rw (eh, front (x .same) (h .stands) (h .closes), front-words ("Constant" ∷ "Variable" ∷ []) refl 0 (x .operands))
+        go false e = refl
+
+  -- the second word of a list whose first is no bracket
+  second-code : (x : ListAt lexemes at) → 3 ≤ frontCode (x .operands) → codeAt lexemes (at + 2) ≡ frontCode (after 1 (x .operands))
+  second-code x h =
+      let l = held x in
+      let e : at + 1 + 1 ≡ at + 2 = omega arith in
+      rw (← e) (front (x .same) (behind-word (x .same) (x .operands) (l .stands) h) (l .closes))
+
+  module _ {first : ℕ} (ef : first ≡ codeAt lexemes (at + 1)) {second : ℕ} (es : second ≡ codeAt lexemes (at + 2)) where
+    pub start-test : (x : ListAt lexemes at)
+        → eqb first 42 || eqb first 43 || eqb first 44 || eqb first 41 || eqb first 40 && not (eqb second 39 || eqb second 69) ≡ uncarriedStart (x .operands)
+    unfolding after codeFor
+    start-test x =
+        rw (
+          ef,
+          first-code x,
+          front-words ("let" ∷ "exists" ∷ "forall" ∷ "!" ∷ []) refl 0 (x .operands),
+          front-word "_" refl 0 (x .operands),
+          front-words ("BitVec" ∷ "extract" ∷ []) refl 1 (x .operands),
+        )
+        (ap (λ (t : Bool). eqb f 42 || eqb f 43 || eqb f 44 || eqb f 41 || t) (go (eqb f 40) refl))
+      where
+        f : ℕ
+        f = frontCode (x .operands)
+
+        s : ℕ
+        s = frontCode (after 1 (x .operands))
+
+        go : (b : Bool) → eqb f 40 ≡ b → b && not (eqb second 39 || eqb second 69) ≡ b && not (eqb s 39 || eqb s 69)
+        go true e = rw (es, second-code x (omega (arith, eqb-true f 40 e)))
+        go false e = refl
+
+    -- `set-logic` with another logic
+    pub logic-test : first ≡ 8 → {r : Bool} → ((x : ListAt lexemes at) → r ≡ setLogicShape (x .operands))
+        → (x : ListAt lexemes at) → r && not (eqb second 5) ≡ otherLogic (x .operands)
+    unfolding after codeFor
+    logic-test e8 known x =
+        let f : frontCode (x .operands) ≡ 8 = sym (first-code x) ∙ sym ef ∙ e8 in
+        rw (known x, es, second-code x (omega arith), front-word "set-logic" refl 0 (x .operands), front-word "BV" refl 1 (x .operands), f)
+
+  module _ {first : ℕ} (ef : first ≡ codeAt lexemes (at + 1)) where
+    pub no-logic-test : (first ≡ 8 → ⊥) → (x : ListAt lexemes at) → false ≡ otherLogic (x .operands)
+    unfolding after codeFor
+    no-logic-test other x =
+        rw (front-word "set-logic" refl 0 (x .operands), ← first-code x, ← ef, ne-eqb first 8 other)
+
+    pub no-grammar-test : (first ≡ 11 → ⊥) → (x : ListAt lexemes at) → false ≡ noGrammar (x .operands)
+    unfolding after codeFor
+    no-grammar-test other x =
+        rw (front-word "synth-fun" refl 0 (x .operands), ← first-code x, ← ef, ne-eqb first 11 other)
+
+    pub grammar-test : {n : ℕ} → ((x : ListAt lexemes at) → n ≡ count (x .operands))
+        → (x : ListAt lexemes at) → eqb first 11 && eqb n 4 ≡ noGrammar (x .operands)
+    unfolding after codeFor
+    grammar-test counted x = rw (front-word "synth-fun" refl 0 (x .operands), ← first-code x, ← ef, counted x)
+
+-- a head and operands
+module _ {lexemes : List ℕ} {at n : ℕ} (counts : (x : ListAt lexemes at) → n ≡ count (x .operands)) where
+  pub short-test : n < 2 → (x : ListAt lexemes at) → false ≡ not (is "_" (item 0 (x .operands))) && applicationShape (x .operands)
+  short-test few x =
+      let F = x .operands in
+      let short : leb 2 (count F) ≡ false = lt-leb 2 (count F) (omega (arith, counts x)) in
+      sym (rw (short, and-false (headShape (item 0 F) (inside 0 F)), and-false (not (is "_" (item 0 F)))))
+
+  pub application-test : 2 ≤ n → {head : ℕ} (found : (x : ListAt lexemes at) → ItemOf x 0 head) {code : ℕ} → code ≡ codeAt lexemes head
+      → {r : Bool} → ((y : ItemAt lexemes head) → r ≡ headShape (y .label) (y .operands))
+      → (x : ListAt lexemes at) → not (eqb code 40) && r ≡ not (is "_" (item 0 (x .operands))) && applicationShape (x .operands)
+  unfolding codeFor
+  application-test enough found ec known x =
+      let F = x .operands in
+      let long : leb 2 (count F) ≡ true = le-leb 2 (count F) (omega (arith, counts x)) in
+      let y = the-item found x in
+      rw (long, and-true (headShape (item 0 F) (inside 0 F)), ec, at-item y .code, known y, word-code "_" refl (item 0 F))

@@ -1,0 +1,137 @@
+-- Walks into the lists of terms, and into all lists of a command.
+use Prim.Native.Nat.{ℕ, _+_, _-_, _≤_, _<_}
+use native.Mathlib.Omega.{arith}
+use mathlib.Core.Path.{_≡_, sym, ap, _∙_}
+use mathlib.Core.Bool.{Bool, true, false, _&&_, _||_, cond, not, and-assoc, and-true, or-assoc, or-false}
+use mathlib.Core.List.{List, [], _∷_}
+use lib.Dec.{leb}
+use borrow.Author.Tests.{leb-true}
+use Rattle.forest.specs.Forest.{count}
+use Rattle.forest.proofs.Bools.{and-left, and-right, apart}
+use Rattle.lexemes.specs.Lists.{Items, indexed, inside, is, isList, item}
+use Rattle.lexemes.specs.Table.{codeAt, nextAt, openCode}
+use Rattle.lexemes.specs.Standing.{Between, ItemAt, ListAt}
+use Rattle.lexemes.proofs.Listed.{as-item}
+use Rattle.lexemes.proofs.Pending.{DownAny, at-a-list, behind-less, down-behind, down-end, down-enter, down-skip, down-start, down-word}
+use Rattle.shapes.specs.Shapes.{applicationShape, headShape, termShapes}
+use Rattle.shapes.specs.Carried.{anyUncarried, uncarriedStart}
+
+-- whether a list is a term
+abbrev listTerm : Items → Bool
+listTerm ops = cond (is "_" (item 0 ops)) (indexed "extract" 2 ops) (applicationShape ops && termShapes true ops)
+
+-- it is `(_ extract i j)`, or a head and operands, or no term
+module _ (F : Items) where
+  extract-term : indexed "extract" 2 F ≡ true → listTerm F ≡ true
+  extract-term t = go (is "_" (item 0 F)) (indexed "extract" 2 F) (λ i. and-left _ _ (and-left _ _ (and-left _ _ i))) t
+    where
+      go : (u i : Bool) → (i ≡ true → u ≡ true) → i ≡ true → cond u i (applicationShape F && termShapes true F) ≡ true
+      go u i first t = rw (first t, t)
+
+  headed-term : not (is "_" (item 0 F)) && applicationShape F ≡ true → listTerm F ≡ termShapes true F
+  headed-term = go (is "_" (item 0 F)) (applicationShape F)
+    where
+      go : (u a : Bool) → not u && a ≡ true → cond u (indexed "extract" 2 F) (a && termShapes true F) ≡ termShapes true F
+      go true a t = apart t
+      go false a t = rw t
+
+  no-term : indexed "extract" 2 F ≡ false → not (is "_" (item 0 F)) && applicationShape F ≡ false → listTerm F ≡ false
+  no-term e = go (is "_" (item 0 F)) (applicationShape F)
+    where
+      go : (u a : Bool) → not u && a ≡ false → cond u (indexed "extract" 2 F) (a && termShapes true F) ≡ false
+      go true a t = e
+      go false a t = rw t
+
+-- whether all of the items that are pending further out are terms
+abbrev pub outerTerms : List Items → Bool
+outerTerms [] = true
+outerTerms (F ∷ more) = termShapes false F && outerTerms more
+
+-- all of the items are terms just when those that are pending are
+abbrev pub Terms : {lexemes : List ℕ} {first end : ℕ} → Between lexemes first end → (items : Items) → (outer : List Items) → Type 0
+Terms b items outer = termShapes false items && outerTerms outer ≡ termShapes false (b .items)
+
+module _ {lexemes : List ℕ} {first end : ℕ} where
+  pub terms-start : Between lexemes first end → DownAny lexemes first end first Terms
+  terms-start given = down-start (λ b. b) given (λ b. and-true (termShapes false (b .items)))
+
+  module _ {at : ℕ} (d : DownAny lexemes first end at Terms) where
+    pub terms-end : end ≤ at → (b : Between lexemes first end) → true ≡ termShapes false (b .items)
+    unfolding termShapes
+    terms-end h b = down-end d h b
+
+    module _ (h : at < end) {code : ℕ} (ec : code ≡ codeAt lexemes at) where
+      pub terms-word : (code ≡ openCode → ⊥) → DownAny lexemes first end (at + 1) Terms
+      unfolding termShapes
+      terms-word other = down-word d h ec other (λ b x source no-list outer known. rw no-list at known) (λ b next outer known. known)
+
+      module _ (opens : code ≡ openCode) {r : Bool} (extract : (x : ItemAt lexemes at) → r ≡ (isList (x .label) && indexed "extract" 2 (x .operands))) where
+        pub terms-skip : r ≡ true → {next : ℕ} → next ≡ nextAt lexemes at → DownAny lexemes first end next Terms
+        unfolding termShapes
+        terms-skip t e =
+            down-skip d h ec opens e (λ b x source outer known. rw (extract-term (x .operands) (sym (extract (as-item x)) ∙ t)) at known)
+
+        module _ (other : r ≡ false) {q : Bool}
+            (application : (x : ListAt lexemes at) → q ≡ (not (is "_" (item 0 (x .operands))) && applicationShape (x .operands))) where
+          module _ (t : q ≡ true) {next : ℕ} (e : next ≡ nextAt lexemes (at + 1)) where
+            headed : (x : ListAt lexemes at) → 0 < count (x .operands)
+            headed x =
+                let F = x .operands in
+                let a = and-right (not (is "_" (item 0 F))) (applicationShape F) (sym (application x) ∙ t) in
+                omega (arith, leb-true 2 (count F) (and-right (headShape (item 0 F) (inside 0 F)) (leb 2 (count F)) a))
+
+            pub terms-less : end - next < end - at
+            terms-less = behind-less d h ec opens headed e
+
+            pub terms-behind : DownAny lexemes first end next Terms
+            unfolding termShapes
+            terms-behind =
+                down-behind d h ec opens headed e
+                (λ b x source l ops rest first-is outer known.
+                let inner : listTerm (x .operands) ≡ termShapes false rest =
+                headed-term (x .operands) (sym (application x) ∙ t) ∙ ap (termShapes true) first-is in
+                sym (and-assoc (termShapes false rest) (termShapes false (x .more)) (outerTerms outer)) ∙ (rw inner at known))
+
+          pub terms-miss : q ≡ false → (b : Between lexemes first end) → false ≡ termShapes false (b .items)
+          unfolding termShapes
+          terms-miss t b =
+              let v = at-a-list d h ec opens b in
+              let x = v .list-here in
+              rw (no-term (x .operands) (sym (extract (as-item x)) ∙ other) (sym (application x) ∙ t)) at (v .known)
+
+-- whether a list that is not carried is among the items that are pending further out, or within one
+abbrev pub outerUncarried : List Items → Bool
+outerUncarried [] = false
+outerUncarried (F ∷ more) = anyUncarried F || outerUncarried more
+
+-- such a list is among all of the items just when it is among those that are pending
+abbrev pub Uncarried : {lexemes : List ℕ} {first end : ℕ} → Between lexemes first end → (items : Items) → (outer : List Items) → Type 0
+Uncarried b items outer = anyUncarried items || outerUncarried outer ≡ anyUncarried (b .items)
+
+module _ {lexemes : List ℕ} {first end : ℕ} where
+  pub uncarried-begin : Between lexemes first end → DownAny lexemes first end first Uncarried
+  uncarried-begin given = down-start (λ b. b) given (λ b. or-false (anyUncarried (b .items)))
+
+  module _ {at : ℕ} (d : DownAny lexemes first end at Uncarried) where
+    pub uncarried-end : end ≤ at → (b : Between lexemes first end) → false ≡ anyUncarried (b .items)
+    unfolding anyUncarried
+    uncarried-end h b = down-end d h b
+
+    module _ (h : at < end) {code : ℕ} (ec : code ≡ codeAt lexemes at) where
+      pub uncarried-word : (code ≡ openCode → ⊥) → DownAny lexemes first end (at + 1) Uncarried
+      unfolding anyUncarried
+      uncarried-word other = down-word d h ec other (λ b x source no-list outer known. rw no-list at known) (λ b next outer known. known)
+
+      module _ (opens : code ≡ openCode) {r : Bool} (starts : (x : ListAt lexemes at) → r ≡ uncarriedStart (x .operands)) where
+        pub uncarried-enter : r ≡ false → DownAny lexemes first end (at + 1) Uncarried
+        unfolding anyUncarried
+        uncarried-enter t =
+            down-enter d h ec opens
+            (λ b x source outer known.
+            sym (or-assoc (anyUncarried (x .operands)) (anyUncarried (x .more)) (outerUncarried outer)) ∙ (rw (sym (starts x) ∙ t) at known))
+
+        pub uncarried-found : r ≡ true → (b : Between lexemes first end) → true ≡ anyUncarried (b .items)
+        unfolding anyUncarried
+        uncarried-found t b =
+            let v = at-a-list d h ec opens b in
+            rw (sym (starts (v .list-here)) ∙ t) at (v .known)

@@ -1,0 +1,3 @@
+pub mod Shapes
+pub mod Carried
+pub mod Steps

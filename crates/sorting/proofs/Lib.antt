@@ -1,0 +1,12 @@
+pub mod Walks
+pub mod Wholes
+pub mod Commons
+pub mod RuleSorts
+pub mod OperatorSorts
+pub mod Arguments
+pub mod Items
+pub mod NodeSorts
+pub mod Faults
+pub mod Columns
+pub mod Filling
+pub mod Bench

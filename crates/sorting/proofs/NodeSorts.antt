@@ -1,0 +1,196 @@
+-- What the tables say of a node of the forms, and the sort of its tree.
+use Prim.Native.Nat.{ℕ, zero, suc, _+_, _/_, _%_, _≤_, _<_}
+use native.Mathlib.Omega.{arith}
+use borrow.Author.Tests.{not-false, not-true}
+use mathlib.Core.Bool.{not, Bool, true, false, cond, _&&_}
+use mathlib.Core.Path.{_≡_, refl, sym, ap, _∙_, subst}
+use mathlib.Core.List.{List, _++_}
+use mathlib.Core.Option.{Option, none as nothing, some}
+use lib.Dec.{eqb, leb, lit<}
+use lib.ListN.{getD, length}
+use Rattle.forest.proofs.Bools.{apart}
+use Rattle.forest.proofs.Nodes.{node-at}
+use Rattle.forest.proofs.Rows.{row-at}
+use Rattle.forest.specs.Forest.{Forest, count, from, join, nodesOf, none, size, tree}
+use Rattle.forest.specs.Rows.{numberAt, rows}
+use Rattle.grammar.proofs.Likeness.{proper-on}
+use Rattle.grammar.proofs.Reading.{ItemSays}
+use Rattle.grammar.specs.Derivation.{Item, Proper, anyArgument, anyLiteral, nonTerminal, the}
+use Rattle.grammar.specs.Tables.{formTable, itemCode, itemRow, itemValue}
+use Rattle.terms.specs.Nodes.{codeAt, operandsAt, rowWidth, valueAt}
+use Rattle.terms.specs.Sorts.{sortOver}
+use Rattle.bits.specs.Sorts.{when}
+use Rattle.sorting.specs.Forms.{FormScope, formSorts, itemSort, sortNumber, sorted, treeSort}
+use Rattle.sorting.specs.Steps.{Called, CalledGives, NodeAt, NodeGives, OperatorGives, SortedTrees, firstRow, leafSort, together, treeSorts}
+use Rattle.sorting.specs.Tables.{AllReal, Real}
+use Rattle.sorting.proofs.Items.{Callable, Told, callable, leaf-item, operator-item}
+use Rattle.sorting.proofs.RuleSorts.{number-of}
+use Rattle.sorting.proofs.Wholes.{all-present}
+
+-- The table of forms, whatever follows it, says of the node at a cursor what stands there.
+pub form-says : {forms : List ℕ} (all : Forest Item) (rest : List ℕ) → forms ≡ formTable all ++ rest → {p : ℕ} {i : Item} {ops more : Forest Item}
+    → from all p ≡ tree i ops more → ItemSays forms p i ops
+unfolding formTable
+form-says all rest t {p} {i} {ops} {more} e =
+    rw t (record { code = column 0 (lit< tt); value = column 1 (lit< tt); operands = column 2 (lit< tt); size = column 3 (lit< tt) })
+  where
+    column : (k : ℕ) → k < rowWidth → numberAt rowWidth (rows itemRow (nodesOf all) ++ rest) p k ≡ getD (itemRow (record { label = i; operands = ops })) k 0
+    column k h = row-at itemRow rowWidth (λ n. refl) (nodesOf all) rest p k _ _ (node-at all p i ops more e) h
+
+-- Proper forms are proper from any cursor on.
+proper-from : (k : ℕ) (F : Forest Item) (p : ℕ) → Proper k F → Proper k (from F p)
+unfolding from
+proper-from k F zero h = h
+proper-from k none (suc p) h = h
+proper-from k (tree i ops rest) (suc p) h = proper-from k (join ops rest) p (proper-on k i ops rest h)
+
+-- The first item of proper forms is told by its numbers.
+told-of : (k : ℕ) (i : Item) (ops rest : Forest Item) → Proper k (tree i ops rest) → Told i
+unfolding Proper
+told-of k (the l) ops rest h = h .0
+told-of k (nonTerminal A) ops rest h = tt
+told-of k (anyLiteral s) ops rest h = tt
+told-of k (anyArgument s) ops rest h = tt
+
+-- Forms whose items the reader makes, one after the other.
+real-join : (scope : FormScope) (a b : Forest Item) → AllReal scope a → AllReal scope b → AllReal scope (join a b)
+unfolding AllReal join
+real-join scope none b p q = q
+real-join scope (tree i ops rest) b p q = (p .0, p .1, real-join scope rest b (p .2) q)
+
+-- The same of what is left from a cursor on.
+real-from : (scope : FormScope) (F : Forest Item) (p : ℕ) → AllReal scope F → AllReal scope (from F p)
+unfolding AllReal from
+real-from scope F zero h = h
+real-from scope none (suc p) h = h
+real-from scope (tree i ops rest) (suc p) h = real-from scope (join ops rest) p (real-join scope ops rest (h .1) (h .2))
+
+-- The same of the first item.
+real-of : (scope : FormScope) (i : Item) (ops rest : Forest Item) → AllReal scope (tree i ops rest) → Real scope i
+unfolding AllReal
+real-of scope i ops rest h = h .0
+
+-- The sorts of forms are those of their trees together.
+pub sorts-together : (scope : FormScope) (F : Forest Item) → together (treeSorts scope F) ≡ formSorts scope F
+unfolding together treeSorts formSorts
+sorts-together scope none = refl
+sorts-together scope (tree i ops rest) = rw (sorts-together scope rest)
+
+-- There are as many as trees.
+pub sorts-count : (scope : FormScope) (F : Forest Item) → length (treeSorts scope F) ≡ count F
+unfolding treeSorts count
+sorts-count scope none = refl
+sorts-count scope (tree i ops rest) = ap suc (sorts-count scope rest)
+
+-- The number of a leaf's sort, which has so many operands.
+leaf-number : {n m sort s : ℕ} → n ≡ m → sort ≡ s → cond (eqb n 0) (sort + 1) 0 ≡ sortNumber (when (eqb m 0) s)
+leaf-number {m = m} {s = s} p q = rw (p, q) (number-of (eqb m 0) s)
+
+-- A node whose operands have no sorts.
+unsorted-node : (rule : List ℕ → Option ℕ) (sorts : Option (List ℕ)) → sorted sorts ≡ false → 0 ≡ sortNumber (sortOver rule sorts)
+unfolding sortOver
+unsorted-node rule nothing h = refl
+unsorted-node rule (some ss) h = apart (sym h)
+
+module _ {forms signatures column : List ℕ} {node : ℕ} {whole : Bool} where
+  -- An operand of the node has no sort.
+  pub node-fails : not whole ≡ true → NodeGives forms signatures column node whole 0
+  node-fails h e = unsorted-node (itemSort (e .given .scope) (e .item)) (formSorts (e .given .scope) (e .operands)) (sym (e .whole-is) ∙ not-true whole h)
+
+  -- What the tables say of the node.
+  says-of : (e : NodeAt forms signatures column node whole) → ItemSays forms node (e .item) (e .operands)
+  says-of e = form-says (e .given .F) (e .given .rest) (e .given .is-forms) (e .is)
+
+  -- Its item is told by its numbers.
+  told-at : (e : NodeAt forms signatures column node whole) → Told (e .item)
+  told-at e = told-of 16 (e .item) (e .operands) (e .rest) (subst (Proper 16) (e .is) (proper-from 16 (e .given .F) node (e .given .proper)))
+
+  -- Its item is one that the reader makes.
+  real-at : (e : NodeAt forms signatures column node whole) → Real (e .given .scope) (e .item)
+  real-at e =
+      let all = real-from (e .given .scope) (e .given .F) node (e .given .real) in
+      real-of (e .given .scope) (e .item) (e .operands) (e .rest) (subst (AllReal (e .given .scope)) (e .is) all)
+
+  -- The node's operands have sorts.
+  record Ready (e : NodeAt forms signatures column node whole) (n : ℕ) : Type 0 where
+    trees : SortedTrees forms column (node + 1) n
+    is : formSorts (e .given .scope) (e .operands) ≡ some (trees .sorts)
+
+  module _ (h : not whole ≡ false) {n : ℕ} (n-is : n ≡ operandsAt forms node) where
+    -- They have, where the test says so.
+    ready : (e : NodeAt forms signatures column node whole) → Ready e n
+    ready e =
+        let scope = e .given .scope in
+        let all = treeSorts scope (e .operands) in
+        let one = sorts-together scope (e .operands) in
+        let p = all-present forms column (node + 1) all (ap sorted one ∙ sym (e .whole-is) ∙ not-false whole h) (e .stand) in
+        record {
+          trees = record {
+            sorts = p .sorts;
+            stand = p .stand;
+            counted = n-is ∙ says-of e .operands ∙ sym (sorts-count scope (e .operands)) ∙ p .counted;
+          };
+          is = sym one ∙ p .is;
+        }
+
+    -- They stand behind the node.
+    pub operands-ready : NodeAt forms signatures column node whole → SortedTrees forms column (node + 1) n
+    operands-ready e = ready e .trees
+
+    -- The sort of its tree is that of its item over theirs.
+    over-operands : (e : NodeAt forms signatures column node whole)
+        → sortNumber (itemSort (e .given .scope) (e .item) (ready e .trees .sorts))
+        ≡ sortNumber (treeSort (e .given .scope) (e .item) (formSorts (e .given .scope) (e .operands)))
+    unfolding sortOver
+    over-operands e = rw (ready e .is)
+
+    module _ {code value : ℕ} (code-is : code ≡ codeAt forms node) (value-is : value ≡ valueAt forms node) where
+      -- The node is an operator.
+      pub operator-node : {r : ℕ} → code % 16 ≡ 2 → OperatorGives forms column (node + 1) n (code / 16) value r → NodeGives forms signatures column node whole r
+      operator-node {r} k w e =
+          let says = says-of e in
+          let c : code ≡ itemCode (e .item) = code-is ∙ says .code in
+          let v : value ≡ itemValue (e .item) = value-is ∙ says .value in
+          let q = operator-item (e .given .scope) (e .item) (told-at e) (rw c at k) (ready e .trees .sorts) in
+          (rw (c, v) at (w (ready e .trees))) ∙ ap sortNumber (sym q) ∙ over-operands e
+
+      module _ (k : leb 3 (code % 16) && leb (code % 16) 5 ≡ true) {row : ℕ} (row-is : row ≡ firstRow (code % 16)) where
+        -- The node applies a function or is a non-terminal.
+        called-at : (e : NodeAt forms signatures column node whole) → Callable signatures (e .given .scope) (e .item) (row + value)
+        called-at e =
+            let says = says-of e in
+            let c : code ≡ itemCode (e .item) = code-is ∙ says .code in
+            let v : value ≡ itemValue (e .item) = value-is ∙ says .value in
+            rw (row-is, c, v) (callable (e .given) (e .item) (real-at e) (rw c at k))
+
+        -- Its row is one of the table.
+        pub row-low : NodeAt forms signatures column node whole → row + value < 56
+        row-low e = called-at e .low
+
+        -- Its row can be held against the operands.
+        pub call-ready : NodeAt forms signatures column node whole → Called forms signatures column (node + 1) n (row + value)
+        call-ready e =
+            let q = called-at e in
+            record { trees = ready e .trees; by = q .by; row-is = q .row-is; low = q .low }
+
+        -- It has the sort that its row gives.
+        pub called-node : {r : ℕ} → CalledGives forms signatures column (node + 1) n (row + value) r → NodeGives forms signatures column node whole r
+        unfolding call-ready
+        called-node w e = w (call-ready e) ∙ ap sortNumber (sym (called-at e .gives (ready e .trees .sorts))) ∙ over-operands e
+
+    -- The node is a literal, a name, `(Constant σ)` or `(Variable σ)`.
+    pub leaf-node : {code sort r : ℕ} → code ≡ codeAt forms node → (code % 16 ≡ 2 → ⊥) → leb 3 (code % 16) && leb (code % 16) 5 ≡ false → sort ≡ leafSort code
+        → r ≡ cond (eqb n 0) (sort + 1) 0 → NodeGives forms signatures column node whole r
+    leaf-node {code} code-is k l s w e =
+        let c : code ≡ itemCode (e .item) = code-is ∙ says-of e .code in
+        let t = ready e .trees in
+        let q = leaf-item (e .given .scope) (e .item) (real-at e) (rw c at k) (rw c at l) (t .sorts) in
+        w ∙ leaf-number (t .counted) (s ∙ ap leafSort c) ∙ ap sortNumber (sym q) ∙ over-operands e
+
+-- What a leaf's code says of its sort is no more than the code.
+pub leaf-small : (code : ℕ) → leafSort code ≤ code / 16
+leaf-small code = go (eqb (code % 16) 0)
+  where
+    go : (b : Bool) → cond b (code / 16 % 128) (code / 16) ≤ code / 16
+    go true = omega arith
+    go false = omega arith

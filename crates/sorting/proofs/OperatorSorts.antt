@@ -1,0 +1,41 @@
+-- The sort of an operator by its rule.
+use Prim.Native.Nat.{ℕ, _≤_, _<_}
+use native.Mathlib.Omega.{arith}
+use mathlib.Core.Bool.{true, false, _&&_}
+use mathlib.Core.Path.{_≡_, _∙_}
+use mathlib.Core.List.{List}
+use borrow.Author.Tests.{eqb-true, leb-true, ltb-true}
+use lib.Dec.{eqb, leb, ltb}
+use lib.ListN.{length}
+use Rattle.forest.proofs.Bools.{and-left, and-right, each}
+use Rattle.bits.specs.Operators.{operatorAt, operatorCount, operatorSort, operators}
+use Rattle.bits.specs.Sorts.{ruleNumber}
+use Rattle.sorting.specs.Steps.{OperatorGives, RuleGives, Ruled, SortedTrees, least}
+
+-- Each operator has as many operands as its rule asks for.
+enough-operands : {o : ℕ} → o < operatorCount → least (operatorAt o .rule) ≤ operatorAt o .operands
+unfolding operatorAt operators
+enough-operands {o} h = leb-true _ _ (each operatorCount (λ (k : ℕ). leb (least (operatorAt k .rule)) (operatorAt k .operands)) tt o h)
+
+module _ {forms column : List ℕ} {place count : ℕ} (operator : ℕ) {n : ℕ} (n-is : n ≡ operatorAt operator .operands) where
+  module _ (fits : ltb operator operatorCount && eqb count n ≡ true) {rule : ℕ} (rule-is : rule ≡ ruleNumber (operatorAt operator .rule)) where
+    -- The rule can be asked.
+    pub rule-asked : SortedTrees forms column place count → Ruled forms column place count rule
+    rule-asked e =
+        let known = ltb-true operator operatorCount (and-left _ _ fits) in
+        let full = eqb-true count n (and-right (ltb operator operatorCount) _ fits) in
+        record { trees = e; by = operatorAt operator .rule; rule-is = rule-is; enough = omega (arith, enough-operands known, full, n-is) }
+
+    -- The operator has the sort that its rule gives.
+    pub operator-gives : (value : ℕ) {r : ℕ} → RuleGives forms column place count rule value r → OperatorGives forms column place count operator value r
+    unfolding operatorSort rule-asked
+    operator-gives value w e =
+        let test : ltb operator operatorCount && eqb (length (e .sorts)) (operatorAt operator .operands) ≡ true = rw (← e .counted, ← n-is) fits in
+        w (rule-asked e) ∙ rw test
+
+  -- There is no such operator, or it has another number of operands.
+  pub operator-fails : (value : ℕ) → ltb operator operatorCount && eqb count n ≡ false → OperatorGives forms column place count operator value 0
+  unfolding operatorSort
+  operator-fails value fails e =
+      let test : ltb operator operatorCount && eqb (length (e .sorts)) (operatorAt operator .operands) ≡ false = rw (← e .counted, ← n-is) fails in
+      rw test

@@ -1,0 +1,85 @@
+use Rattle.sorting.proofs.NodeSorts.{call-ready, called-node, leaf-node, leaf-small, node-fails, operator-node, operands-ready, row-low}
+use native.Mathlib.Omega.{arith}
+use borrow.Author.Needs.{needs}
+use Rattle.sorting.proofs.nodes.node_sort.Statement.{statement}
+use Rattle.sorting.proofs.nodes.node_sort.Tie as tie
+
+returns : tie.Need-returns
+returns c = search node-fails
+
+code-at-requires : tie.Need-code-at-requires
+code-at-requires c κs = search needs
+
+value-at-requires : tie.Need-value-at-requires
+value-at-requires c κs = search needs
+
+operands-at-requires : tie.Need-operands-at-requires
+operands-at-requires c κs = search needs
+
+add-operator-sort : tie.Need-add-operator-sort
+add-operator-sort c = search needs
+
+operator-sort-requires : tie.Need-operator-sort-requires
+operator-sort-requires c κs =
+    search operands-ready
+
+returns-2 : tie.Need-returns-2
+returns-2 c = search operator-node
+
+first-row-requires : tie.Need-first-row-requires
+first-row-requires c κs = search needs
+
+add-row : tie.Need-add-row
+add-row c =
+    let pre = c .before .before .before .before .before .before .before .before .before .before .pre in
+    let whole = c .before .before .before .before .before .before .if1 .left in
+    omega (
+      arith,
+      row-low whole (c .before .before .before .operands-at .ensures) (c .before .before .before .before .before .code-at .ensures)
+          (c .before .before .before .before .value-at .ensures) (c .before .if3 .taken) (c .first-row .ensures) pre,
+    )
+
+add-called-sort : tie.Need-add-called-sort
+add-called-sort c = search needs
+
+called-sort-requires : tie.Need-called-sort-requires
+called-sort-requires c κs =
+    call-ready (c .before .before .before .before .before .before .if1 .left) (c .before .before .before .operands-at .ensures)
+    (c .before .before .before .before .before .code-at .ensures) (c .before .before .before .before .value-at .ensures) (c .before .if3 .taken)
+    (c .first-row .ensures) (c .before .before .before .before .before .before .before .before .before .before .pre)
+
+returns-3 : tie.Need-returns-3
+returns-3 c = search called-node
+
+leaf-sort-requires : tie.Need-leaf-sort-requires
+leaf-sort-requires c κs = search needs
+
+add-number-when : tie.Need-add-number-when
+add-number-when c = omega (arith, leaf-small (c .before .before .before .before .before .code-at .result))
+
+number-when-requires : tie.Need-number-when-requires
+number-when-requires c κs = search needs
+
+returns-4 : tie.Need-returns-4
+returns-4 c = search leaf-node
+
+pub node-sort-spec : {M : Type 1} → statement M
+node-sort-spec =
+    tie.close
+    (tie.spec
+    returns
+    code-at-requires
+    value-at-requires
+    operands-at-requires
+    add-operator-sort
+    operator-sort-requires
+    returns-2
+    first-row-requires
+    add-row
+    add-called-sort
+    called-sort-requires
+    returns-3
+    leaf-sort-requires
+    add-number-when
+    number-when-requires
+    returns-4)

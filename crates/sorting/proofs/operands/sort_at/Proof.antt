@@ -1,0 +1,21 @@
+use lib.ListN.{List·getD-eq-default}
+use mathlib.Core.Path.{sym}
+use native.Mathlib.Omega.{arith}
+use borrow.Author.Needs.{needs}
+use Rattle.sorting.proofs.operands.sort_at.Statement.{statement}
+use Rattle.sorting.proofs.operands.sort_at.Tie as tie
+
+mul-result : tie.Need-mul-result
+mul-result c = search needs
+
+shared-slice-read-result : tie.Need-shared-slice-read-result
+shared-slice-read-result c = search needs
+
+returns : tie.Need-returns
+returns c = search needs
+
+returns-2 : tie.Need-returns-2
+returns-2 c = sym (List·getD-eq-default (c .before .args .column .now) 0 {n = c .before .args .node} (omega arith))
+
+pub sort-at-spec : {M : Type 1} → statement M
+sort-at-spec = tie.close (tie.spec mul-result shared-slice-read-result returns returns-2)

@@ -1,0 +1,79 @@
+-- What a form may name as a table: for each `define-fun`, synthesized function and non-terminal how many arguments it has, its sort, and the sorts of its
+-- arguments.
+use Prim.Native.Nat.{ℕ, _+_, _≤_, _<_}
+use mathlib.Core.List.{List, [], _∷_, _++_}
+use mathlib.Core.Path.{_≡_}
+use lib.ListN.{getD, length}
+use Rattle.forest.specs.Forest.{Forest, none, tree}
+use Rattle.forest.specs.Rows.{numberAt}
+use Rattle.bits.specs.Sorts.{Fit, maxWidth}
+use Rattle.grammar.specs.Derivation.{Item, Proper, anyArgument, anyLiteral, nonTerminal, the}
+use Rattle.grammar.specs.Tables.{formTable}
+use Rattle.terms.specs.Labels.{defined, function, literal, name, operator}
+use Rattle.terms.specs.Sorts.{Signature}
+use Rattle.sorting.specs.Forms.{FormScope}
+
+-- How many numbers a row has.
+abbrev pub signatureWidth : ℕ
+signatureWidth = 10
+
+-- The row of the first synthesized function: 32 `define-fun`s stand before it.
+abbrev pub functionRow : ℕ
+functionRow = 32
+
+-- The row of the first non-terminal: 8 synthesized functions stand before it.
+abbrev pub nonTerminalRow : ℕ
+nonTerminalRow = 40
+
+-- How many rows there are: 16 non-terminals stand last.
+abbrev pub allRows : ℕ
+allRows = 56
+
+-- Row r is that of a signature.
+pub record RowIs (signatures : List ℕ) (r : ℕ) (f : Signature) : Type 0 where
+  pub counted : numberAt signatureWidth signatures r 0 ≡ length (f .arguments)
+  pub result-is : numberAt signatureWidth signatures r 1 ≡ f .result
+  pub arguments-are : (k : ℕ) → k < length (f .arguments) → numberAt signatureWidth signatures r (2 + k) ≡ getD (f .arguments) k 0
+  pub few : length (f .arguments) ≤ 8
+  pub sort : f .result ≤ maxWidth
+
+-- Functions, the last first, have the rows from `base` on.
+unfoldable pub RowsAre : (signatures : List ℕ) → (base : ℕ) → List Signature → Type 0
+RowsAre signatures base [] = Unit {0}
+RowsAre signatures base (f ∷ earlier) = RowIs signatures (base + length earlier) f × RowsAre signatures base earlier
+
+-- Non-terminals, in their order, have the rows from r on, each as a function without arguments.
+unfoldable pub SortsAre : (signatures : List ℕ) → (r : ℕ) → List ℕ → Type 0
+SortsAre signatures r [] = Unit {0}
+SortsAre signatures r (s ∷ more) = RowIs signatures r (record { arguments = []; result = s }) × SortsAre signatures (r + 1) more
+
+-- A literal's value is one of its sort, and a name, a function or a non-terminal is one of those in scope, a name of its sort: the reader makes no others.
+abbrev pub Real : FormScope → Item → Type 0
+Real scope (the (literal s v w)) = Fit s v
+Real scope (the (name s k)) = (k < length (scope .terms .names)) × (getD (scope .terms .names) k 0 ≡ s)
+Real scope (the (operator o i j)) = Unit {0}
+Real scope (the (defined k)) = k < length (scope .terms .defined)
+Real scope (the (function k)) = k < length (scope .terms .functions)
+Real scope (nonTerminal A) = A < length (scope .nonTerminals)
+Real scope (anyLiteral s) = Unit {0}
+Real scope (anyArgument s) = Unit {0}
+
+-- The same of every node.
+unfoldable pub AllReal : FormScope → Forest Item → Type 0
+AllReal scope none = Unit {0}
+AllReal scope (tree i ops rest) = Real scope i × AllReal scope ops × AllReal scope rest
+
+-- The tables hold the forms F and what they may name.
+pub record Sortable (forms signatures : List ℕ) : Type 0 where
+  pub F : Forest Item
+  pub scope : FormScope
+  pub rest : List ℕ
+  pub is-forms : forms ≡ formTable F ++ rest
+  pub proper : Proper 16 F
+  pub real : AllReal scope F
+  pub defined-are : RowsAre signatures 0 (scope .terms .defined)
+  pub functions-are : RowsAre signatures functionRow (scope .terms .functions)
+  pub nonTerminals-are : SortsAre signatures nonTerminalRow (scope .nonTerminals)
+  pub few-defined : length (scope .terms .defined) ≤ 32
+  pub few-functions : length (scope .terms .functions) ≤ 8
+  pub few-nonTerminals : length (scope .nonTerminals) ≤ 16
