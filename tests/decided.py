@@ -58,9 +58,11 @@ for r in map(json.loads, open('tests/readings.jsonl')):
         if (s, p) in seen: continue
         seen.add((s, p)); cases.append((r['item'], s, p, number, w))
 
-MODULES = ['forest', 'spelling', 'words', 'bits', 'terms', 'reserved', 'lexemes', 'shapes', 'sorting', 'sorts', 'gathering', 'rules', 'naming', 'declaring', 'reader']
+MODULES = ['forest', 'spelling', 'words', 'bits', 'terms', 'grammar', 'reserved', 'lexemes', 'shapes', 'sorting', 'sorts', 'gathering', 'rules', 'naming', 'declaring',
+           'faults', 'heading', 'listing', 'headers', 'grammars', 'script', 'response']
 SKIP = {('terms', 'Costs'), ('terms', 'Values'), ('terms', 'Nodes'), ('lexemes', 'Table'), ('gathering', 'Table'), ('sorting', 'Tables'), ('naming', 'Table'),
-        ('words', 'Reading'), ('words', 'Table'), ('forest', 'Rows')}
+        ('words', 'Reading'), ('words', 'Table'), ('forest', 'Rows'), ('grammar', 'Derivation'), ('grammar', 'Tables'), ('grammar', 'Columns'),
+        ('grammar', 'Answer'), ('script', 'Tables')}
 DROP = set('startTable first from size AllSorted FunctionsSorted sortsOf operatorValue enquired faultFrom sortColumn knownWords placeAmong wordNumber'.split())
 uses = {}; unfolded = []
 for c in MODULES:
@@ -76,10 +78,9 @@ for c in MODULES:
                 kept.append(x); unfolded.append(x)
         if kept: uses['Rattle.%s.specs.%s' % (c, m)] = kept
 
-uses['Rattle.reader.specs.Limits'] = uses.get('Rattle.reader.specs.Limits', []) + ['allowed']
-uses['Rattle.reader.specs.Script'] += ['Known', 'Read', 'passed', 'refused', 'start']
-uses['Rattle.reader.specs.Response'] += ['Answered', 'bodies', 'refused as refusedBody']
-uses['Rattle.naming.specs.Scopes'] += ['Function']
+uses['Rattle.heading.specs.Heads'] = ['allowed']
+uses['Rattle.script.specs.Script'] += ['Known', 'Read', 'passed', 'refused', 'start']
+uses['Rattle.response.specs.Response'] += ['Answered', 'bodies', 'refused as refusedBody']
 
 def imports(names):
     return ', '.join(sorted(names, key=lambda n: (n.lower(), n)))
@@ -104,11 +105,6 @@ pub record Reading : Type 0 where
 abbrev row : (script : String) → ℕ → (response : String) → ℕ → List ℕ → Reading
 row s n r m a = record { script = s; scriptWords = n; response = r; responseWords = m; answer = a }
 
--- The functions in script order.
-abbrev turned : List Function → List Function → List Function
-turned done [] = done
-turned done (f ∷ fs) = turned (f ∷ done) fs
-
 -- The answer to a response.
 abbrev bodiesAnswer : Answered → List ℕ
 bodiesAnswer (refusedBody number place) = number ∷ place ∷ []
@@ -118,7 +114,7 @@ bodiesAnswer (bodies ts) = []
 abbrev bothAnswer : Reading → Read → List ℕ
 bothAnswer reading (refused number place) = number ∷ place ∷ []
 bothAnswer reading (passed k) =
-    bodiesAnswer (answered allowed (reading .responseWords) (k .defined) (turned [] (k .functions)) (itemsOf (spelling (reading .response))))
+    bodiesAnswer (answered allowed (reading .responseWords) (k .defined) (inScriptOrder (k .functions)) (itemsOf (spelling (reading .response))))
 
 -- What the definitions answer.
 abbrev defined : Reading → List ℕ

@@ -3,7 +3,7 @@
 
 It takes the texts of readings.jsonl and texts of its own, reads each by words.py, and writes crates/vectors/stdin and crates/vectors/stdout;
 with --check it only says whether these two files are what it would write. On the way it holds words.py to each reading whose answer
-arises from words.
+arises from words. The answer that the words and commands of both texts give is that of the reading, or is known from how a text is made.
 """
 import json
 import os
@@ -15,7 +15,7 @@ from words import RESPONSE, SCRIPT
 
 HERE = os.path.dirname(os.path.abspath(__file__))
 CRATE = os.path.join(HERE, "..", "crates", "vectors")
-MOST_INPUT = 1500000
+MOST_INPUT = 2000000
 READINGS_FROM_WORDS = 35
 
 
@@ -175,20 +175,163 @@ def texts_past_bytes(limits):
     yield "bytes-open", b"(" + b" " * (size - 1)
 
 
+# Limits of commands
+
+HERE_IT_IS = object()
+PASSES = (0, 3, 0)
+
+
+def command(pieces):
+    """A script around pieces: its logic, the pieces, and its end."""
+    return [b"(set-logic BV)"] + pieces + [b"(check-synth)"]
+
+
+def grammar(rules):
+    """A grammar of one non-terminal of sort Bool."""
+    return [b"((A Bool)) ((A Bool ("] + rules + [b"))))"]
+
+
+def function(name, arguments=()):
+    """A function of sort Bool whose grammar derives `true`."""
+    return [b"(synth-fun " + name + b" ("] + list(arguments) + [b") Bool "] + grammar([b"true"])
+
+
+def answers(*names):
+    """A response that gives `true` for each of the functions."""
+    return [b"("] + [b"(define-fun " + name + b" () Bool true)" for name in names] + [b")"]
+
+
+def numbered(count, make, last=None):
+    """Pieces for each number below the count, a mark before the last where one is to be past a limit."""
+    pieces = []
+    for i in range(count):
+        pieces += ([HERE_IT_IS] if i == last else []) + make(i)
+    return pieces
+
+
+def name_of(letter, i):
+    """A name of its own for each number."""
+    return letter + str(i).encode()
+
+
+def without_mark(pieces):
+    """The pieces but for the mark."""
+    return [piece for piece in pieces if piece is not HERE_IT_IS]
+
+
+def shallow(count):
+    """A term of as many nodes whose lists are not nested deeply: a row of pairs, the last node marked."""
+    def tree(n):
+        if n == 1:
+            return [b"true "]
+        if n == 2:
+            return [b"(not true)"]
+        left = (n - 1) // 2
+        return [b"(and "] + tree(left) + tree(n - 1 - left) + [b")"]
+    pieces = tree(count)
+    for i in range(len(pieces) - 1, -1, -1):
+        if pieces[i].startswith(b"(not"):
+            pieces[i:i + 1] = [b"(not ", HERE_IT_IS, b"true)"]
+            break
+        if pieces[i].startswith(b"true"):
+            pieces[i:i + 1] = [HERE_IT_IS, pieces[i]]
+            break
+    return pieces
+
+
+def limits_of_commands():
+    """Each limit on commands and what is in them, at it and one past it: a name, the pieces of both texts, and the number where the mark is at fault."""
+    f, none = function(b"f"), answers(b"f")
+    for count, number in ((8, 0), (9, 4)):
+        names = [name_of(b"f", i) for i in range(count)]
+        yield "functions-%d" % count, command(numbered(count, lambda i: function(names[i]), 8)), answers(*names), number
+        arguments = numbered(count, lambda i: [b"(" + name_of(b"a", i) + b" Bool)"], 8)
+        yield "arguments-%d" % count, command(function(b"f", arguments)), [b"((define-fun f ("] + without_mark(arguments) + [b") Bool true))"], number
+        yield "defined-arguments-%d" % count, command([b"(define-fun d ("] + arguments + [b") Bool true)"] + f), none, number
+    yield "response-arguments-9", command(f), [b"((define-fun f ("] + arguments + [b") Bool true))"], 4
+    for count, number in ((32, 0), (33, 4)):
+        defined = numbered(count, lambda i: [b"(define-fun " + name_of(b"d", i) + b" () Bool true)"], 32)
+        yield "defined-%d" % count, command(defined + f), none, number
+    for count, number in ((16, 0), (17, 4)):
+        yield "variables-%d" % count, command(numbered(count, lambda i: [b"(declare-var " + name_of(b"v", i) + b" Bool)"], 16) + f), none, number
+        declared = numbered(count, lambda i: [b"(" + name_of(b"A", i) + b" Bool)"], 16)
+        listed = [b"(" + name_of(b"A", i) + b" Bool (true))" for i in range(count)]
+        yield "non-terminals-%d" % count, command([b"(synth-fun f () Bool ("] + declared + [b") ("] + listed + [b"))"]), none, number
+    for count, number in ((64, 0), (65, 4)):
+        yield "constraints-%d" % count, command(f + numbered(count, lambda i: [b"(constraint true)"], 64)), none, number
+        width = [b"(_ BitVec "] + ([HERE_IT_IS] if number else []) + [str(count).encode() + b")"]
+        yield "width-%d" % count, command([b"(declare-var v "] + width + [b")"] + f), none, number
+    yield "width-0", command([b"(declare-var v ", HERE_IT_IS, b"(_ BitVec 0))"] + f), none, 8
+    for count, number in ((128, 0), (129, 4)):
+        rules = numbered(count, lambda i: [b"true "], 128)
+        yield "rules-%d" % count, command([b"(synth-fun f () Bool "] + grammar(rules)), none, number
+    for count, number in ((256, 0), (257, 4)):
+        term = shallow(count)
+        yield "nodes-body-%d" % count, command([b"(define-fun d () Bool "] + term + [b")"] + f), none, number
+        yield "nodes-constraint-%d" % count, command(f + [b"(constraint "] + term + [b")"]), none, number
+        yield "nodes-rule-%d" % count, command([b"(synth-fun f () Bool "] + grammar(term)), none, number
+        yield "nodes-response-%d" % count, command(f), [b"((define-fun f () Bool "] + term + [b"))"], number
+
+
+def joined(pieces):
+    """The bytes of pieces, and where the mark stands; None where there is none."""
+    text, mark = b"", None
+    for piece in pieces:
+        if piece is HERE_IT_IS:
+            mark = len(text)
+        else:
+            text += piece
+    return text, mark
+
+
+def texts_past_commands():
+    """The same as records with their answers; where a text passes, a mark in it says nothing."""
+    for name, script_pieces, response_pieces, number in limits_of_commands():
+        script, in_script = joined(script_pieces)
+        response, in_response = joined(response_pieces)
+        if number == 0:
+            answer = PASSES
+        elif in_response is not None and in_script is None:
+            answer = (number, 1, in_response)
+        else:
+            answer = (number, 0, in_script)
+        yield name, script, response, answer
+
+
 # Records
 
+def answer_of_words(script, response):
+    """The same for texts of which no list is a command: what the words give, else 5 at the first word or at the end."""
+    of_script, of_response = words.read(script, SCRIPT), words.read(response, RESPONSE)
+    if of_script.number == 1:
+        return (1, 0, of_script.place)
+    if of_response.number == 1:
+        return (1, 1, of_response.place)
+    if of_script.number:
+        return (of_script.number, 0, of_script.place)
+    return (5, 0, of_script.rows[0][1] if of_script.rows else len(script))
+
+
+def answer_of_texts(reading, script, response):
+    """The number, text and offset that both texts give to a reading: its own, or that both pass where it comes from what is given beside them."""
+    number, text, place = reading["answer"][:3]
+    if 1 <= number <= 12 and text < 2:
+        return (number, text, place)
+    return PASSES if script else answer_of_words(script, response)
+
+
 def records():
-    """Each record: its name, its script and its response."""
+    """Each record: its name, its script, its response, and the answer of both texts."""
     for reading, script, response in readings():
-        yield "reading-%d" % reading["item"], script, response
-    yield "empty-script", b"", b"a"
-    yield "empty-response", b"a", b""
-    for texts in (texts_of_bytes(), texts_of_forms(), texts_of_comments(), texts_of_brackets(), made_up(400)):
-        for name, text in texts:
-            yield name, text, text
-    for texts in (texts_past_words, texts_past_bytes):
-        for (name, script), (_, response) in zip(texts(SCRIPT), texts(RESPONSE)):
-            yield name, script, response
+        yield "reading-%d" % reading["item"], script, response, answer_of_texts(reading, script, response)
+    texts = [("empty-script", b"", b"a"), ("empty-response", b"a", b"")]
+    for some in (texts_of_bytes(), texts_of_forms(), texts_of_comments(), texts_of_brackets(), made_up(400)):
+        texts += [(name, text, text) for name, text in some]
+    for some in (texts_past_words, texts_past_bytes):
+        texts += [(name, script, response) for (name, script), (_, response) in zip(some(SCRIPT), some(RESPONSE))]
+    for name, script, response in texts:
+        yield name, script, response, answer_of_words(script, response)
+    yield from texts_past_commands()
 
 
 def digest(reading):
@@ -215,9 +358,9 @@ def report(text, limits):
 def files():
     """What the two files have to hold."""
     given, wanted = [], []
-    for name, script, response in records():
+    for name, script, response, answer in records():
         given.append("%s %s %s\n" % (name, script.hex() or "-", response.hex() or "-"))
-        wanted.append("%s script %s response %s\n" % (name, report(script, SCRIPT), report(response, RESPONSE)))
+        wanted.append("%s script %s response %s answer %d %d %d\n" % ((name, report(script, SCRIPT), report(response, RESPONSE)) + answer))
     if len({line.split()[0] for line in given}) != len(given):
         sys.exit("two records have one name")
     if sum(map(len, given)) > MOST_INPUT:

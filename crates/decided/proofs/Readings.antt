@@ -7,23 +7,24 @@ use Rattle.forest.specs.Lists.{spelling}
 use Rattle.bits.specs.Operators.{named, operatorAt, operatorOf, operators, operatorSort}
 use Rattle.bits.specs.Sorts.{sortBy}
 use Rattle.declaring.specs.New.{namedBy, newPairs}
+use Rattle.faults.specs.Faults.{ruleMisfit, termFault}
 use Rattle.forest.specs.Forest.{count, join, nodesOf}
 use Rattle.forest.specs.Lists.{sameBytes}
 use Rattle.gathering.specs.Terms.{cases, nodeWord, rawTerms}
+use Rattle.grammar.specs.Sorts.{formSorts, itemSort}
+use Rattle.headers.specs.Tokens.{argumentTokens, differing, wordsIn}
+use Rattle.heading.specs.Heads.{allowed}
 use Rattle.lexemes.specs.Lists.{after, allNumerals, inside, item}
 use Rattle.lexemes.specs.Standing.{itemsOf}
-use Rattle.naming.specs.Scopes.{formOf, Function, inOrder, isKnown, isNamed, placeIn, symbolMeans}
+use Rattle.listing.specs.Listing.{listingMisfit}
+use Rattle.naming.specs.Scopes.{formOf, inOrder, isKnown, isNamed, placeIn, symbolMeans}
 use Rattle.naming.specs.Unknown.{unknownIn}
-use Rattle.reader.specs.Grammars.{listingMisfit, ruleMisfit}
-use Rattle.reader.specs.Limits.{allowed}
-use Rattle.reader.specs.Response.{Answered, answered, argumentTokens, bodies, differing, judgedAll, judgedBody, judgedExtra, refused as refusedBody, wordsIn}
-use Rattle.reader.specs.Script.{grammarPlace, judged, Known, knownAfter, limitPlace, namePlace, passed, Read, readAll, refused, sortingPlace, start, termsIn}
-use Rattle.reader.specs.Sorting.{termFault}
 use Rattle.reserved.specs.Reserved.{isOneOf, isReserved, reservedWords}
+use Rattle.response.specs.Response.{Answered, answered, bodies, inScriptOrder, judgedAll, judgedBody, judgedExtra, refused as refusedBody}
 use Rattle.rules.specs.Rules.{nodesPast, rulePast, rulesIn, rulesOf, sides}
+use Rattle.script.specs.Script.{grammarPlace, judged, Known, knownAfter, limitPlace, namePlace, passed, Read, readAll, refused, sortingPlace, start, termsIn, tested}
 use Rattle.shapes.specs.Carried.{anyUncarried, notCarried}
 use Rattle.shapes.specs.Shapes.{all, commandShape, termShapes}
-use Rattle.sorting.specs.Forms.{formSorts, itemSort}
 use Rattle.sorts.specs.Written.{leastIn}
 use Rattle.spelling.specs.Kinds.{allIn, formed, hashed, kindOf, literal as literalKind, numeral as numeralKind, spelled, symbol as symbolKind}
 use Rattle.terms.specs.Sorts.{calledSort, labelSort, sameSorts, sortOver, withSort}
@@ -43,11 +44,6 @@ pub record Reading : Type 0 where
 abbrev row : (script : String) → ℕ → (response : String) → ℕ → List ℕ → Reading
 row s n r m a = record { script = s; scriptWords = n; response = r; responseWords = m; answer = a }
 
--- The functions in script order.
-abbrev turned : List Function → List Function → List Function
-turned done [] = done
-turned done (f ∷ fs) = turned (f ∷ done) fs
-
 -- The answer to a response.
 abbrev bodiesAnswer : Answered → List ℕ
 bodiesAnswer (refusedBody number place) = number ∷ place ∷ []
@@ -57,7 +53,7 @@ bodiesAnswer (bodies ts) = []
 abbrev bothAnswer : Reading → Read → List ℕ
 bothAnswer reading (refused number place) = number ∷ place ∷ []
 bothAnswer reading (passed k) =
-    bodiesAnswer (answered allowed (reading .responseWords) (k .defined) (turned [] (k .functions)) (itemsOf (spelling (reading .response))))
+    bodiesAnswer (answered allowed (reading .responseWords) (k .defined) (inScriptOrder (k .functions)) (itemsOf (spelling (reading .response))))
 
 -- What the definitions answer.
 abbrev defined : Reading → List ℕ
@@ -412,5 +408,5 @@ readings =
 
 -- The definitions answer every one of them so.
 pub decided : map defined readings ≡ map (λ (r : Reading). r .answer) readings
-unfolding after all allIn allNumerals answered anyUncarried argumentTokens bytesAt calledSort cases commandShape count differing formOf formSorts formed grammarPlace hashed inOrder inside isKnown isNamed isOneOf isReserved item itemSort itemsOf join judged judgedAll judgedBody judgedExtra kindOf knownAfter labelSort leastIn levelsAt levelsBefore limitPlace listingMisfit literalKind namePlace named namedBy newPairs nodeWord nodesOf nodesPast notCarried numeralKind operatorAt operatorOf operatorSort operators placeIn rawTerms readAll reservedWords ruleMisfit rulePast rulesIn rulesOf runEnd sameBytes sameSorts sides sortBy sortOver sortingPlace spelled startsFrom symbolKind symbolMeans termFault termShapes termsIn treesFrom unknownIn withSort wordAt wordEnd wordStarts wordsIn wordsOf
+unfolding after all allIn allNumerals answered anyUncarried argumentTokens bytesAt calledSort cases commandShape count differing formOf formSorts formed grammarPlace hashed inOrder inScriptOrder inside isKnown isNamed isOneOf isReserved item itemSort itemsOf join judged judgedAll judgedBody judgedExtra kindOf knownAfter labelSort leastIn levelsAt levelsBefore limitPlace listingMisfit literalKind namePlace named namedBy newPairs nodeWord nodesOf nodesPast notCarried numeralKind operatorAt operatorOf operatorSort operators placeIn rawTerms readAll reservedWords ruleMisfit rulePast rulesIn rulesOf runEnd sameBytes sameSorts sides sortBy sortOver sortingPlace spelled startsFrom symbolKind symbolMeans termFault termShapes termsIn tested treesFrom unknownIn withSort wordAt wordEnd wordStarts wordsIn wordsOf
 decided = refl

@@ -1,17 +1,19 @@
 -- What the parts of the test of new names ask and give. Definitions that serve a step.
-use Prim.Native.Nat.{ℕ, _+_, _≤_, _<_}
+use Prim.Native.Nat.{ℕ, _+_, _*_, _≤_, _<_}
 use mathlib.Core.Bool.{true}
-use mathlib.Core.List.{List, [], _∷_, _++_}
+use mathlib.Core.List.{List, _++_}
 use mathlib.Core.Path.{_≡_}
-use lib.ListN.{length}
-use Rattle.forest.specs.Forest.{count, tree}
+use lib.Seq.{sets}
+use Rattle.forest.specs.Forest.{count, none, tree}
+use Rattle.bits.specs.Sorts.{maxWidth}
 use Rattle.words.specs.Trees.{Lexeme}
-use Rattle.lexemes.specs.Lists.{Items, isSymbol}
-use Rattle.lexemes.specs.Standing.{Source, Stands}
+use Rattle.lexemes.specs.Lists.{Items, inside, isSymbol, item, nameOf}
+use Rattle.lexemes.specs.Standing.{Stands}
 use Rattle.shapes.specs.Shapes.{all, pairShape}
+use Rattle.sorts.specs.Written.{sortOf}
 use Rattle.naming.specs.Scopes.{namesOf, sortsOf}
-use Rattle.naming.specs.Steps.{Names}
-use Rattle.naming.specs.Table.{argumentRow, definedRow, functionRow, nameIn, namesFrom, nonTerminalRow, rowCount, sortIn, sortsFrom, variableRow}
+use Rattle.naming.specs.Steps.{Kept, Names, ShortNames, sourceOf}
+use Rattle.naming.specs.Table.{definedRow, functionRow, nameRow, namesFrom, rowCount, rowWidth, sortsFrom, variableRow}
 use Rattle.declaring.specs.New.{namedBy, newName, newPairs}
 use Rattle.declaring.specs.declared.Scope.{Scope}
 
@@ -20,29 +22,75 @@ pub record Few (scope : Scope) : Type 0 where
   pub variables : scope .variables ≤ 16
   pub defined : scope .defined ≤ 32
   pub functions : scope .functions ≤ 8
-  pub arguments : scope .arguments ≤ 8
-  pub listed : scope .listed ≤ 16
+  pub arguments : scope .first + scope .arguments ≤ rowCount
 
 -- The names in scope; in which order they stand makes no difference to whether one is taken.
 abbrev pub namesIn : (names : List ℕ) → Scope → List (List ℕ)
 namesIn names scope =
-    namesFrom names nonTerminalRow (scope .listed)
-    ++ namesFrom names argumentRow (scope .arguments)
+    namesFrom names (scope .first) (scope .arguments)
     ++ namesFrom names variableRow (scope .variables)
     ++ namesFrom names definedRow (scope .defined)
     ++ namesFrom names functionRow (scope .functions)
 
--- A symbol stands at word i, and the table has the names in scope.
-pub record NewName (text words lexemes names : List ℕ) (scope : Scope) (i : ℕ) : Type 0 where
+-- A symbol stands at word i, and the table has the names in scope and n more from `row` on.
+pub record NewName (text words lexemes names : List ℕ) (scope : Scope) (row n i : ℕ) : Type 0 where
   pub label : Lexeme
-  pub more : Items
   pub operands : Items
+  pub more : Items
   pub end : ℕ
-  pub stands : Stands (record { text = text; words = words; lexemes = lexemes }) i (tree label operands more) end
+  pub stands : Stands (sourceOf text words lexemes) i (tree label operands more) end
   pub a-symbol : isSymbol label ≡ true
   pub table : Names names
   pub few : Few scope
+  pub fits : row + n ≤ rowCount
 
 -- The word at fault is found.
-abbrev pub NameTested : {text words lexemes names : List ℕ} {scope : Scope} {i : ℕ} → NewName text words lexemes names scope i → (nowhere r : ℕ) → Type 0
-NameTested {names = names} {scope = scope} p nowhere r = r ≡ newName nowhere (namesIn names scope) (p .label)
+abbrev pub NameTested : {text words lexemes names : List ℕ} {scope : Scope} {row n i : ℕ} → NewName text words lexemes names scope row n i
+    → (nowhere r : ℕ) → Type 0
+NameTested {names = names} {scope = scope} {row = row} {n = n} p nowhere r = r ≡ newName nowhere (namesFrom names row n ++ namesIn names scope) (p .label)
+
+-- The sorts of pairs are at most 64 wide.
+unfoldable pub AllNarrow : (pairs : Items) → Type 0
+AllNarrow none = Unit {0}
+AllNarrow (tree l ops more) = (sortOf (item 1 ops) (inside 1 ops) ≤ maxWidth) × AllNarrow more
+
+-- Pairs stand from word i to before word e, the table has the names in scope, and behind and apart from these there is room for the names of the pairs from
+-- `row` on.
+pub record NewPairs (text words lexemes names : List ℕ) (scope : Scope) (row i e : ℕ) : Type 0 where
+  pub items : Items
+  pub stands : Stands (sourceOf text words lexemes) i items e
+  pub shaped : all pairShape items ≡ true
+  pub narrow : AllNarrow items
+  pub short : ShortNames (sourceOf text words lexemes)
+  pub table : Names names
+  pub few : Few scope
+  pub low : functionRow + 8 ≤ row
+  pub apart : (k : ℕ) → k < scope .arguments → row + count items ≤ scope .first + k
+  pub fits : row + count items ≤ rowCount
+
+-- The least word at fault is found, and the names and sorts of the pairs stand in the rows from `row` on.
+pub record PairsNamed {text words lexemes names : List ℕ} {scope : Scope} {row i e : ℕ} (p : NewPairs text words lexemes names scope row i e) (nowhere : ℕ)
+    (namesAfter : List ℕ) (r : ℕ) : Type 0 where
+  pub place-is : r ≡ newPairs nowhere (namesIn names scope) (p .items)
+  pub table : Names namesAfter
+  pub names-are : namesFrom namesAfter row (count (p .items)) ≡ namesOf (namedBy (p .items))
+  pub sorts-are : sortsFrom namesAfter row (count (p .items)) ≡ sortsOf (namedBy (p .items))
+  pub kept : Kept names row (count (p .items)) namesAfter
+
+-- A pair with a sort at most 64 wide stands at word i, and the table has the row.
+pub record PairAt (text words lexemes names : List ℕ) (row i : ℕ) : Type 0 where
+  pub label : Lexeme
+  pub operands : Items
+  pub more : Items
+  pub end : ℕ
+  pub stands : Stands (sourceOf text words lexemes) i (tree label operands more) end
+  pub shaped : pairShape label operands ≡ true
+  pub narrow : sortOf (item 1 operands) (inside 1 operands) ≤ maxWidth
+  pub short : ShortNames (sourceOf text words lexemes)
+  pub table : Names names
+  pub fits : row < rowCount
+
+-- The name and the sort of the pair are put into the row.
+abbrev pub PairPut : {text words lexemes names : List ℕ} {row i : ℕ} → PairAt text words lexemes names row i → (namesAfter : List ℕ) → Type 0
+PairPut {names = names} {row = row} p namesAfter =
+    namesAfter ≡ sets names (rowWidth * row) (nameRow (sortOf (item 1 (p .operands)) (inside 1 (p .operands))) (nameOf (item 0 (p .operands))))

@@ -1,10 +1,11 @@
-//! The evaluator, the run and the search for a derivation for C, so that their stack and time can be measured and a case can be run on tables made by hand. Their
-//! callers answer for the tables.
+//! The evaluator, the run, the search for a derivation and the reading of both texts for C, so that their stack and time can be measured and a case can be run on
+//! tables made by hand. Their callers answer for the tables.
 use meaning::costs::body_costs;
 use meaning::evaluator::eval_term;
 use meaning::running::all_passed;
 use meaning::running::left_of;
 use meaning::running::run_points;
+use texts::read::read_texts;
 ghost use Rattle.meaning.specs.Steps.{Evaluable, PointsRunnable, Pricing};
 ghost use Rattle.grammar.specs.Answer.{DerivePre};
 
@@ -69,4 +70,16 @@ pub extern "C" fn sverdhyll_measured_derive(
     requires { ⌜ DerivePre (now rules) (now forms) (now body) function (now area) ⌝ }
 {
     grammar::derive(rules, forms, body, function, area)
+}
+
+// The number of the answer that a script and a response have by their words and commands; puts its offset into `place`.
+#[no_mangle]
+pub extern "C" fn sverdhyll_measured_texts(
+    script: &[u8],
+    response: &[u8],
+    place: &mut usize,
+) -> usize {
+    let answer = read_texts(script, response);
+    *place = answer.place;
+    answer.number
 }

@@ -1,4 +1,5 @@
 pub mod Names
+pub mod Putting
 pub mod Digits
 pub mod Lookup
 pub mod Symbols

@@ -19,7 +19,7 @@ use Rattle.naming.specs.Table.{definedRow, functionRow, namesFrom, nonTe
 use Rattle.naming.specs.declared.Seen.{Seen}
 
 -- A name is one of the names just when its place is before their end.
-named-by-place : (names : List (List ℕ)) (k : ℕ) (n : List ℕ) → isNamed names n ≡ ltb (placeIn names k n) (k + length names)
+pub named-by-place : (names : List (List ℕ)) (k : ℕ) (n : List ℕ) → isNamed names n ≡ ltb (placeIn names k n) (k + length names)
 unfolding isNamed placeIn
 named-by-place [] k n = sym (le-ltb k (k + 0) (omega arith))
 named-by-place (m ∷ more) k n = go (sameBytes m n) (named-by-place more (k + 1) n)
@@ -29,7 +29,7 @@ named-by-place (m ∷ more) k n = go (sameBytes m n) (named-by-place more (k + 1
     go true e = sym (lt-ltb k (k + suc (length more)) (omega arith))
     go false e = let z : k + 1 + length more ≡ k + suc (length more) = omega arith in rw z at e
 
-named-append : (names others : List (List ℕ)) (n : List ℕ) → isNamed (names ++ others) n ≡ isNamed names n || isNamed others n
+pub named-append : (names others : List (List ℕ)) (n : List ℕ) → isNamed (names ++ others) n ≡ isNamed names n || isNamed others n
 unfolding isNamed
 named-append [] others n = refl
 named-append (m ∷ more) others n = rw (named-append more others n) (sym (or-assoc (sameBytes m n) (isNamed more n) (isNamed others n)))

@@ -30,6 +30,17 @@ pub record Names (names : List ℕ) : Type 0 where
   pub sized : length names ≡ rowWidth * rowCount
   pub short : (r : ℕ) → r < rowCount → getD names (rowWidth * r + 1) 0 ≤ longest
 
+-- The rows of a table but n from `row` on are what they were.
+pub record Kept (names : List ℕ) (row n : ℕ) (namesAfter : List ℕ) : Type 0 where
+  pub names-before : (r m : ℕ) → r + m ≤ row → namesFrom namesAfter r m ≡ namesFrom names r m
+  pub sorts-before : (r m : ℕ) → r + m ≤ row → sortsFrom namesAfter r m ≡ sortsFrom names r m
+  pub names-behind : (r m : ℕ) → row + n ≤ r → namesFrom namesAfter r m ≡ namesFrom names r m
+  pub sorts-behind : (r m : ℕ) → row + n ≤ r → sortsFrom namesAfter r m ≡ sortsFrom names r m
+
+-- Every symbol of a text is a name that a row holds.
+abbrev pub ShortNames : Source → Type 0
+ShortNames s = (i : ℕ) → literalCode < codeAt (s .lexemes) i → length (spelt s i) ≤ longest
+
 -- The rows that are seen hold what the view says; `define-fun`s and functions stand in script order.
 pub record Sees (names : List ℕ) (seen : Seen) (view : View) : Type 0 where
   pub table : Names names

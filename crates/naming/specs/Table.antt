@@ -23,7 +23,7 @@ definedRow = 16
 abbrev pub functionRow : ℕ
 functionRow = 48
 
--- The row of the first argument.
+-- The row of the first argument of a `define-fun`.
 abbrev pub argumentRow : ℕ
 argumentRow = 56
 
@@ -31,9 +31,13 @@ argumentRow = 56
 abbrev pub nonTerminalRow : ℕ
 nonTerminalRow = 64
 
--- How many rows there are.
+-- The row of the first argument of synthesized function j: "8 arguments".
+abbrev pub ownArgumentRow : (j : ℕ) → ℕ
+ownArgumentRow j = 80 + 8 * j
+
+-- How many rows there are: "8 synthesized functions".
 abbrev pub rowCount : ℕ
-rowCount = 80
+rowCount = 144
 
 -- The row of a name and its sort.
 abbrev pub nameRow : (sort : ℕ) → (name : List ℕ) → List ℕ

@@ -3,6 +3,7 @@ pub mod forms;
 mod literals;
 mod meanings;
 mod nodes;
+pub mod spelled;
 pub mod table;
 
 ghost use mathlib.Core.Path.{_≡_};

@@ -1,11 +1,11 @@
 //! What a node of a term stands for.
 use crate::Meaning;
 use crate::Seen;
-use crate::literals::bytes_at;
 use crate::literals::written_of;
 use crate::meanings::NOTHING;
 use crate::meanings::known_as;
 use crate::meanings::symbol_means;
+use crate::spelled::bytes_at;
 use lexemes::LITERAL;
 use lexemes::OPEN;
 use lexemes::SYMBOL;

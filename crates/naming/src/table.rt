@@ -11,7 +11,8 @@ ghost use Rattle.naming.specs.Table.{nameIn, nameRow, namesFrom, sortIn}
 // How many bytes a row has.
 pub const ROW: usize = 66;
 
-// The rows of the first variable, `define-fun`, synthesized function, argument and non-terminal; and how many rows there are.
+// The rows of the first variable, `define-fun`, synthesized function, argument of a `define-fun` and non-terminal; the row of the first argument of the first
+// synthesized function, with 8 rows for each; and how many rows there are.
 pub const VARIABLES: usize = 0;
 
 pub const DEFINED: usize = 16;
@@ -22,12 +23,14 @@ pub const ARGUMENTS: usize = 56;
 
 pub const NON_TERMINALS: usize = 64;
 
-pub const ROWS: usize = 80;
+pub const OWN_ARGUMENTS: usize = 80;
+
+pub const ROWS: usize = 144;
 
 // The sort in a row.
 pub fn sort_in(names: &[u8], row: usize) -> u64
     requires { ⌜ Names (now names) ⌝ }
-    requires { ⌜ row < 80 ⌝ }
+    requires { ⌜ row < 144 ⌝ }
     ensures { λ r. ⌜ r ≡ sortIn (now (names .entry)) row ⌝ }
 {
     names[ROW * row] as u64
@@ -36,7 +39,7 @@ pub fn sort_in(names: &[u8], row: usize) -> u64
 // Whether the name in a row is the word.
 fn is_name(names: &[u8], row: usize, word: &[u8]) -> bool
     requires { ⌜ Names (now names) ⌝ }
-    requires { ⌜ row < 80 ⌝ }
+    requires { ⌜ row < 144 ⌝ }
     ensures { λ r. ⌜ r ≡ sameBytes (nameIn (now (names .entry)) row) (now (word .entry)) ⌝ }
 {
     let at = ROW * row;
@@ -56,7 +59,7 @@ fn is_name(names: &[u8], row: usize, word: &[u8]) -> bool
 // The place of the word among the names in so many rows from a row on; past the last of them where it is none of them.
 pub fn find_name(names: &[u8], first: usize, count: usize, word: &[u8]) -> usize
     requires { ⌜ Names (now names) ⌝ }
-    requires { ⌜ first + count ≤ 80 ⌝ }
+    requires { ⌜ first + count ≤ 144 ⌝ }
     ensures { λ r. ⌜ r ≡ placeIn (namesFrom (now (names .entry)) first count) 0 (now (word .entry)) ⌝ }
 {
     let mut place = 0;
@@ -72,7 +75,7 @@ pub fn find_name(names: &[u8], first: usize, count: usize, word: &[u8]) -> usize
 // Writes a name and its sort into a row.
 pub fn put_name(names: &mut [u8], row: usize, sort: u8, word: &[u8])
     requires { ⌜ Names (now names) ⌝ }
-    requires { ⌜ row < 80 ⌝ }
+    requires { ⌜ row < 144 ⌝ }
     requires { ⌜ length (now word) ≤ 64 ⌝ }
     ensures { λ r. ⌜ now (names .exit) ≡ sets (now (names .entry)) (66 * row) (nameRow sort (now (word .entry))) ⌝ }
 {

@@ -1,1 +1,13 @@
-//! Scripts and responses: specs/ has the definitions of what a text says and of the order of refusals.
+//! The reader of scripts: one command after the other, each refusal at its place, and the tables of a script that passes.
+pub mod commands;
+pub mod scripts;
+mod steps;
+
+use script::Progress;
+
+// The number of an answer and its word, 0 where all commands so far pass; and what they have said.
+pub struct Step {
+    pub number: usize,
+    pub place: usize,
+    pub progress: Progress,
+}

@@ -10,7 +10,7 @@ use Rattle.forest.specs.Rows.{numberAt}
 use Rattle.forest.specs.Lists.{sameBytes}
 use Rattle.bits.specs.Operators.{named, operatorAt, operatorOf, operatorSort, operators}
 use Rattle.bits.specs.Sorts.{sortBy}
-use Rattle.grammar.specs.Derivation.{Item, Proper, nonTerminal, the}
+use Rattle.grammar.specs.Derivation.{Item, nonTerminal, the}
 use Rattle.grammar.specs.Tables.{formTable}
 use Rattle.terms.specs.Labels.{function, literal, operator}
 use Rattle.terms.specs.Sorts.{calledSort, labelSort, sameSorts, sortOver, withSort}
@@ -65,14 +65,13 @@ argument-is (suc k) l = absurd (omega arith)
 
 -- The table of forms of the first of them, and the signatures, are what is asked for.
 held : Sortable (formTable (test (pair none))) signatures
-unfolding AllReal Proper RowsAre SortsAre numberAt
+unfolding AllReal RowsAre SortsAre numberAt
 held = record {
   F = test (pair none);
   scope = scope;
   rest = [];
   is-forms = sym (append-nil (formTable (test (pair none))));
-  proper = (tt, (omega arith, (omega arith, refl, (omega arith, tt, tt)), tt), tt);
-  real = (omega arith, (tt, (omega arith, tt, (record { sort = omega arith; value = omega arith }, tt, tt)), tt), tt);
+  real = (omega arith, (omega arith, (omega arith, tt, (record { sort = omega arith; value = omega arith }, tt, tt)), tt), tt);
   defined-are = tt;
   functions-are = (record { counted = refl; result-is = refl; arguments-are = argument-is; few = omega arith; sort = omega arith }, tt);
   nonTerminals-are = (record { counted = refl; result-is = refl; arguments-are = λ k l. absurd (omega arith); few = omega arith; sort = omega arith }, tt);

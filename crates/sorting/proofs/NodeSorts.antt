@@ -13,10 +13,10 @@ use Rattle.forest.proofs.Nodes.{node-at}
 use Rattle.forest.proofs.Rows.{row-at}
 use Rattle.forest.specs.Forest.{Forest, count, from, join, nodesOf, none, size, tree}
 use Rattle.forest.specs.Rows.{numberAt, rows}
-use Rattle.grammar.proofs.Likeness.{proper-on}
 use Rattle.grammar.proofs.Reading.{ItemSays}
-use Rattle.grammar.specs.Derivation.{Item, Proper, anyArgument, anyLiteral, nonTerminal, the}
+use Rattle.grammar.specs.Derivation.{Item, anyArgument, anyLiteral, nonTerminal, the}
 use Rattle.grammar.specs.Tables.{formTable, itemCode, itemRow, itemValue}
+use Rattle.terms.specs.Labels.{defined, function, literal, name, operator}
 use Rattle.terms.specs.Nodes.{codeAt, operandsAt, rowWidth, valueAt}
 use Rattle.terms.specs.Sorts.{sortOver}
 use Rattle.bits.specs.Sorts.{when}
@@ -37,20 +37,16 @@ form-says all rest t {p} {i} {ops} {more} e =
     column : (k : ℕ) → k < rowWidth → numberAt rowWidth (rows itemRow (nodesOf all) ++ rest) p k ≡ getD (itemRow (record { label = i; operands = ops })) k 0
     column k h = row-at itemRow rowWidth (λ n. refl) (nodesOf all) rest p k _ _ (node-at all p i ops more e) h
 
--- Proper forms are proper from any cursor on.
-proper-from : (k : ℕ) (F : Forest Item) (p : ℕ) → Proper k F → Proper k (from F p)
-unfolding from
-proper-from k F zero h = h
-proper-from k none (suc p) h = h
-proper-from k (tree i ops rest) (suc p) h = proper-from k (join ops rest) p (proper-on k i ops rest h)
-
--- The first item of proper forms is told by its numbers.
-told-of : (k : ℕ) (i : Item) (ops rest : Forest Item) → Proper k (tree i ops rest) → Told i
-unfolding Proper
-told-of k (the l) ops rest h = h .0
-told-of k (nonTerminal A) ops rest h = tt
-told-of k (anyLiteral s) ops rest h = tt
-told-of k (anyArgument s) ops rest h = tt
+-- An item that the reader makes is told by its numbers.
+told-real : (scope : FormScope) (i : Item) → Real scope i → Told i
+told-real scope (the (literal s v w)) h = let e = h .sort in omega arith
+told-real scope (the (name s k)) h = tt
+told-real scope (the (operator o i j)) h = h
+told-real scope (the (defined k)) h = tt
+told-real scope (the (function k)) h = tt
+told-real scope (nonTerminal A) h = tt
+told-real scope (anyLiteral s) h = tt
+told-real scope (anyArgument s) h = tt
 
 -- Forms whose items the reader makes, one after the other.
 real-join : (scope : FormScope) (a b : Forest Item) → AllReal scope a → AllReal scope b → AllReal scope (join a b)
@@ -101,15 +97,15 @@ module _ {forms signatures column : List ℕ} {node : ℕ} {whole : Bool} where
   says-of : (e : NodeAt forms signatures column node whole) → ItemSays forms node (e .item) (e .operands)
   says-of e = form-says (e .given .F) (e .given .rest) (e .given .is-forms) (e .is)
 
-  -- Its item is told by its numbers.
-  told-at : (e : NodeAt forms signatures column node whole) → Told (e .item)
-  told-at e = told-of 16 (e .item) (e .operands) (e .rest) (subst (Proper 16) (e .is) (proper-from 16 (e .given .F) node (e .given .proper)))
-
   -- Its item is one that the reader makes.
   real-at : (e : NodeAt forms signatures column node whole) → Real (e .given .scope) (e .item)
   real-at e =
       let all = real-from (e .given .scope) (e .given .F) node (e .given .real) in
       real-of (e .given .scope) (e .item) (e .operands) (e .rest) (subst (AllReal (e .given .scope)) (e .is) all)
+
+  -- So it is told by its numbers.
+  told-at : (e : NodeAt forms signatures column node whole) → Told (e .item)
+  told-at e = told-real (e .given .scope) (e .item) (real-at e)
 
   -- The node's operands have sorts.
   record Ready (e : NodeAt forms signatures column node whole) (n : ℕ) : Type 0 where

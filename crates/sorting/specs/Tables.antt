@@ -7,7 +7,7 @@ use lib.ListN.{getD, length}
 use Rattle.forest.specs.Forest.{Forest, none, tree}
 use Rattle.forest.specs.Rows.{numberAt}
 use Rattle.bits.specs.Sorts.{Fit, maxWidth}
-use Rattle.grammar.specs.Derivation.{Item, Proper, anyArgument, anyLiteral, nonTerminal, the}
+use Rattle.grammar.specs.Derivation.{Item, anyArgument, anyLiteral, nonTerminal, the}
 use Rattle.grammar.specs.Tables.{formTable}
 use Rattle.terms.specs.Labels.{defined, function, literal, name, operator}
 use Rattle.terms.specs.Sorts.{Signature}
@@ -47,11 +47,12 @@ unfoldable pub SortsAre : (signatures : List ℕ) → (r : ℕ) → List ℕ →
 SortsAre signatures r [] = Unit {0}
 SortsAre signatures r (s ∷ more) = RowIs signatures r (record { arguments = []; result = s }) × SortsAre signatures (r + 1) more
 
--- A literal's value is one of its sort, and a name, a function or a non-terminal is one of those in scope, a name of its sort: the reader makes no others.
+-- A literal's value is one of its sort, the numbers of `extract` are below 64, and a name, a function or a non-terminal is one of those in scope, a name of its
+-- sort: the reader makes no others.
 abbrev pub Real : FormScope → Item → Type 0
 Real scope (the (literal s v w)) = Fit s v
 Real scope (the (name s k)) = (k < length (scope .terms .names)) × (getD (scope .terms .names) k 0 ≡ s)
-Real scope (the (operator o i j)) = Unit {0}
+Real scope (the (operator o i j)) = j < maxWidth
 Real scope (the (defined k)) = k < length (scope .terms .defined)
 Real scope (the (function k)) = k < length (scope .terms .functions)
 Real scope (nonTerminal A) = A < length (scope .nonTerminals)
@@ -69,7 +70,6 @@ pub record Sortable (forms signatures : List ℕ) : Type 0 where
   pub scope : FormScope
   pub rest : List ℕ
   pub is-forms : forms ≡ formTable F ++ rest
-  pub proper : Proper 16 F
   pub real : AllReal scope F
   pub defined-are : RowsAre signatures 0 (scope .terms .defined)
   pub functions-are : RowsAre signatures functionRow (scope .terms .functions)

@@ -1,5 +1,5 @@
 //! Reads records from standard input, one a line: a name, a script in hex and a response in hex, with a space between. For each it writes a line
-//! that says what the reader of words finds in the two texts.
+//! that says what the reader of words finds in the two texts, and the answer that both have.
 mod digest;
 mod hex;
 mod records;
@@ -10,10 +10,10 @@ ghost use mathlib.Core.Path.{_≡_};
 ghost use lib.ListN.{length};
 
 // Room for all of standard input.
-fn input_room() -> [u8; 1500000]
-    ensures { λ r. ⌜ 1500000 ≡ length r ⌝ }
+fn input_room() -> [u8; 2000000]
+    ensures { λ r. ⌜ 2000000 ≡ length r ⌝ }
 {
-    [0; 1500000]
+    [0; 2000000]
 }
 
 // Reads all of standard input and reports each record of it.

@@ -1,4 +1,5 @@
 //! Records and their fields.
+use crate::report::report_answer;
 use crate::report::report_text;
 use libc::STDOUT_FILENO;
 use readings::response_limits;
@@ -40,6 +41,7 @@ fn write_line(name: &[u8], script: &[u8], response: &[u8]) {
     report_text(script, script_limits());
     io::write_all(STDOUT_FILENO, b" response");
     report_text(response, response_limits());
+    report_answer(script, response);
     io::write_all(STDOUT_FILENO, b"\n");
 }
 

@@ -7,6 +7,7 @@ use readings::Reading;
 use readings::answers::number_of;
 use readings::answers::passed_of;
 use readings::answers::place_of;
+use texts::read::read_texts;
 use words::read_words;
 use words::word_at;
 ghost use mathlib.Core.Path.{_≡_};
@@ -79,4 +80,16 @@ pub fn report_text(digits: &[u8], limits: Limits) {
     let mut text = text_room();
     let n = decode(digits, &mut text);
     report_words(&text[..n], limits);
+}
+
+// Writes the answer that a script and a response, given in hex, have.
+pub fn report_answer(script_digits: &[u8], response_digits: &[u8]) {
+    let mut script = text_room();
+    let mut response = text_room();
+    let n = decode(script_digits, &mut script);
+    let m = decode(response_digits, &mut response);
+    let answer = read_texts(&script[..n], &response[..m]);
+    write_number(b" answer ", answer.number as u64);
+    write_number(b" ", answer.text as u64);
+    write_number(b" ", answer.place as u64);
 }

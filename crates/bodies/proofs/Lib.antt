@@ -1,0 +1,4 @@
+pub mod Fewer
+pub mod Limits
+pub mod Names
+pub mod Parts

@@ -1,0 +1,80 @@
+//! The three tests of a body.
+use crate::Body;
+use faults::bodies::body_fault;
+use gathering::gather::gather_terms;
+use gathering::limits::node_past;
+use gathering::sizes::count_nodes;
+use lexemes::next_at;
+use naming::Seen;
+use naming::forms::write_forms;
+ghost use mathlib.Core.Path.{_≡_};
+ghost use Prim.Native.Nat.{_*_};
+ghost use lib.ListN.{drop};
+ghost use Rattle.bodies.specs.Steps.{Limited, Named, Naming, TermAt, noSorts};
+ghost use Rattle.faults.specs.Steps.{BodyFound, BodySought};
+
+// Gathers the nodes of the term at a word, and finds the node past the first `most`.
+pub fn body_limit(lexemes: &[u64], at: usize, raw: &mut [u64], most: usize, nowhere: usize) -> Body
+    requires { ⌜ TermAt (now lexemes) (now raw) at ⌝ }
+    ensures { λ r. ⌜ ((p : TermAt (now (lexemes .entry)) (now (raw .entry)) at) → Limited p most nowhere (now (raw .exit)) r) ⌝ }
+{
+    let rows = gather_terms(lexemes, at, next_at(lexemes, at), raw, 0);
+    let place = node_past(lexemes, raw, 0, rows, most, nowhere);
+    Body { rows, place }
+}
+
+// Counts the nodes that are gathered of a term and writes their forms into the rows from `base` on; returns the least word with a name that is not known.
+pub fn body_names(
+    text: &[u8],
+    words: &[u32],
+    lexemes: &[u64],
+    names: &[u8],
+    raw: &mut [u64],
+    nodes: &mut [u64],
+    seen: Seen,
+    count: usize,
+    base: usize,
+    nowhere: usize,
+) -> usize
+    requires { ⌜ Naming (now text) (now words) (now lexemes) (now names) (now raw) (now nodes) seen count base nowhere ⌝ }
+    ensures { λ r. ⌜ ((p : Naming (now (text .entry)) (now (words .entry)) (now (lexemes .entry)) (now (names .entry)) (now (raw .entry)) (now (nodes .entry)) seen count base nowhere) → Named p (now (raw .exit)) (now (nodes .exit)) r) ⌝ }
+{
+    count_nodes(raw, count);
+    write_forms(
+        names,
+        seen,
+        text,
+        words,
+        lexemes,
+        raw,
+        count,
+        nodes,
+        base,
+        nowhere,
+    )
+}
+
+// The column of sorts before it is filled.
+fn no_sorts() -> [u64; 4096]
+    ensures { λ r. ⌜ r ≡ noSorts ⌝ }
+{
+    [0; 4096]
+}
+
+// The word at fault in a term, whose forms stand from row `base` on, that is to be of a sort.
+pub fn body_sort(
+    raw: &[u64],
+    nodes: &[u64],
+    signatures: &[u64],
+    count: usize,
+    base: usize,
+    sort: u64,
+    nowhere: usize,
+) -> usize
+    requires { ⌜ BodySought (now raw) (drop (4 * base) (now nodes)) (now signatures) noSorts count sort nowhere ⌝ }
+    ensures { λ r. ⌜ ((p : BodySought (now (raw .entry)) (drop (4 * base) (now (nodes .entry))) (now (signatures .entry)) noSorts count sort nowhere) → BodyFound p r) ⌝ }
+{
+    let mut column = no_sorts();
+    let forms = &nodes[4 * base..];
+    body_fault(raw, forms, signatures, &mut column, count, sort, nowhere)
+}

@@ -1,0 +1,4 @@
+pub mod Members
+pub mod Testing
+pub mod Pair
+pub mod Turns

@@ -1,0 +1,100 @@
+-- A pair that stands at a word: its name, its sort, and the row that they are put into.
+use Prim.Native.Nat.{ℕ, _+_, _*_, _≤_, _<_}
+use native.Mathlib.Omega.{arith}
+use mathlib.Core.Path.{_≡_, refl, sym, ap, ap₂, _∙_}
+use mathlib.Core.Bool.{true, _&&_}
+use mathlib.Core.List.{List}
+use lib.Dec.{eqb}
+use lib.ListN.{length}
+use lib.Seq.{sets}
+use Rattle.forest.specs.Forest.{count}
+use Rattle.forest.proofs.Bools.{and-left, and-right}
+use Rattle.words.specs.Trees.{Lexeme}
+use Rattle.lexemes.specs.Lists.{Items, inside, isList, isSymbol, item, nameOf}
+use Rattle.lexemes.specs.Standing.{ItemAt}
+use Rattle.lexemes.proofs.Listed.{item-room, list-from}
+use Rattle.shapes.specs.Shapes.{pairShape, sortShape}
+use Rattle.sorts.specs.Steps.{ShapedAt, SortAt}
+use Rattle.sorts.specs.Written.{sortOf}
+use Rattle.sorts.proofs.Parts.{pair-sort, sorted}
+use Rattle.sorts.proofs.Walked.{come-first, item-come}
+use Rattle.naming.specs.Steps.{bytesAt, sourceOf}
+use Rattle.naming.specs.Table.{longest, nameRow, rowCount}
+use Rattle.declaring.specs.Steps.{Few, NewName, PairAt, PairPut}
+use Rattle.declaring.specs.declared.Scope.{Scope}
+use Rattle.declaring.proofs.Testing.{SymbolAt, symbol-at}
+
+-- The name of a pair is a symbol.
+pub name-symbol : (l : Lexeme) (ops : Items) → pairShape l ops ≡ true → isSymbol (item 0 ops) ≡ true
+name-symbol l ops e =
+    let front = isList l && eqb (count ops) 2 in
+    and-right front (isSymbol (item 0 ops)) (and-left (front && isSymbol (item 0 ops)) (sortShape (item 1 ops) (inside 1 ops)) e)
+
+module _ {text words lexemes names : List ℕ} {row i : ℕ} (p : PairAt text words lexemes names row i) where
+  -- an item of the shape of pairs stands there
+  abbrev pub pair-here : ShapedAt pairShape lexemes i
+  pair-here = record {
+    here = record {
+      source = sourceOf text words lexemes;
+      same = refl;
+      label = p .label;
+      operands = p .operands;
+      more = p .more;
+      end = p .end;
+      stands = p .stands;
+    };
+    shaped = p .shaped;
+  }
+
+  -- within the table of lexemes
+  pub pair-room : 3 * i < length lexemes
+  pair-room = item-room (pair-here .here)
+
+  -- its name stands at the next word
+  abbrev pub name-item : ItemAt lexemes (i + 1)
+  name-item =
+      let s = sorted (p .label) (p .operands) 2 (p .shaped) in
+      let list = list-from (pair-here .here) (s .a-list) in
+      item-come list (come-first list) (omega (arith, s .long))
+
+  -- it is a new name
+  abbrev pub name-here : {scope : Scope} → Few scope → {first n : ℕ} → first + n ≤ rowCount → NewName text words lexemes names scope first n (i + 1)
+  name-here few fits = record {
+    label = name-item .label;
+    operands = name-item .operands;
+    more = name-item .more;
+    end = name-item .end;
+    stands = name-item .stands;
+    a-symbol = name-symbol (p .label) (p .operands) (p .shaped);
+    table = p .table;
+    few = few;
+    fits = fits;
+  }
+
+  symbol-here : SymbolAt text words lexemes (i + 1) (item 0 (p .operands))
+  symbol-here = symbol-at (name-item .stands) (name-symbol (p .label) (p .operands) (p .shaped))
+
+  -- the sort stands at the word behind it
+  abbrev pub sort-here : SortAt lexemes (i + 2)
+  sort-here = pair-sort pair-here
+
+  -- the name is not too long for a row
+  pub name-fits : length (nameOf (item 0 (p .operands))) ≤ longest
+  name-fits = rw (← symbol-here .spelled) (p .short (i + 1) (omega (arith, symbol-here .coded)))
+
+  module _ {bytes : List ℕ} (eb : bytes ≡ bytesAt text words (i + 1)) where
+    bytes-are : bytes ≡ nameOf (item 0 (p .operands))
+    bytes-are = eb ∙ symbol-here .spelled
+
+    pub bytes-fit : length bytes ≤ longest
+    bytes-fit = rw bytes-are name-fits
+
+  module _ {sort : ℕ} (es : (q : SortAt lexemes (i + 2)) → sort ≡ sortOf (q .here .label) (q .here .operands)) where
+    -- nor the sort too wide
+    pub sort-small : sort ≤ 64
+    sort-small = omega (arith, es sort-here, p .narrow)
+
+    -- name and sort are put into the row
+    pub pair-put : {bytes : List ℕ} → bytes ≡ bytesAt text words (i + 1) → {after : List ℕ} → after ≡ sets names (66 * row) (nameRow sort bytes)
+        → PairPut p after
+    pair-put eb e = e ∙ ap (sets names (66 * row)) (ap₂ nameRow (es sort-here) (bytes-are eb))

@@ -1,0 +1,42 @@
+use native.Mathlib.Omega.{arith}
+use Rattle.declaring.proofs.Pair.{bytes-fit, pair-put, pair-room, sort-here, sort-small}
+use borrow.Author.Needs.{needs}
+use Rattle.declaring.proofs.names.put_pair.Statement.{statement}
+use Rattle.declaring.proofs.names.put_pair.Tie as tie
+
+add-sort-of : tie.Need-add-sort-of
+add-sort-of c = omega (arith, pair-room (c .before .before .before .before .pre))
+
+sort-of-requires : tie.Need-sort-of-requires
+sort-of-requires c κs = search sort-here
+
+cast-sort : tie.Need-cast-sort
+cast-sort c = record { fits = omega (arith, sort-small (c .before .before .before .before .before .pre) (c .sort-of .ensures)) }
+
+add-bytes-at : tie.Need-add-bytes-at
+add-bytes-at c = omega (arith, pair-room (c .before .before .before .before .before .before .pre))
+
+bytes-at-requires : tie.Need-bytes-at-requires
+bytes-at-requires c κs = search needs
+
+put-name-requires : tie.Need-put-name-requires
+put-name-requires c κs = (search needs, (search needs, search bytes-fit))
+
+same-length : tie.Need-same-length
+same-length c = search needs
+
+returns : tie.Need-returns
+returns c = search pair-put
+
+pub put-pair-spec : {M : Type 1} → statement M
+put-pair-spec =
+    tie.close
+    (tie.spec
+    add-sort-of
+    sort-of-requires
+    cast-sort
+    add-bytes-at
+    bytes-at-requires
+    put-name-requires
+    same-length
+    returns)

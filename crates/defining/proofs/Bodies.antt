@@ -1,0 +1,156 @@
+-- The term of a command, by the word at which it stands: its tests may be made, and what is written of it is the term that is known.
+use Prim.Native.Nat.{ℕ, suc, _+_, _*_, _≤_, _<_}
+use native.Mathlib.Omega.{arith}
+use mathlib.Core.Path.{_≡_, refl, sym, ap, subst, _∙_}
+use mathlib.Core.Bool.{true, false}
+use mathlib.Core.List.{List, [], _++_}
+use lib.ListN.{length}
+use lib.Seq.{sets}
+use Rattle.forest.specs.Forest.{count, size, tree}
+use Rattle.bits.specs.Sorts.{maxWidth}
+use Rattle.grammar.specs.Tables.{formTable}
+use Rattle.words.specs.Trees.{Lexeme, wordOf}
+use Rattle.lexemes.specs.Lists.{Items, after, inside, isList, item}
+use Rattle.lexemes.specs.Standing.{ListAt, Source, Stands}
+use Rattle.lexemes.specs.Table.{nextAt}
+use Rattle.lexemes.proofs.Listed.{from-item}
+use Rattle.lexemes.proofs.Standing.{by-itself, forward, here, here-as}
+use Rattle.shapes.specs.Shapes.{termShape}
+use Rattle.sorts.proofs.Walked.{placed}
+use Rattle.gathering.specs.Table.{uncountedTable}
+use Rattle.gathering.specs.Terms.{rawTerm}
+use Rattle.gathering.proofs.Saying.{say-terms}
+use Rattle.naming.specs.Scopes.{View, formOf}
+use Rattle.naming.specs.Steps.{Sees, sourceOf}
+use Rattle.naming.specs.declared.Seen.{Seen}
+use Rattle.faults.specs.Steps.{Lawful, Signed}
+use Rattle.bodies.specs.Steps.{Limited, TermAt}
+use Rattle.bodies.specs.declared.Body.{Body}
+use Rattle.script.specs.Script.{termOf}
+use Rattle.script.specs.Tables.{CommandAt}
+use Rattle.script.proofs.Nodes.{Grown}
+use Rattle.script.proofs.Terms.{term-plain, term-size, term-table, term-tree}
+use Rattle.defining.specs.Steps.{Judging}
+use Rattle.defining.proofs.Judging.{item-ends}
+
+-- A term stands at word i of a lawful text of so many words, before word `close`.
+pub record BodyAt (text words lexemes : List ℕ) (i nowhere close : ℕ) (label : Lexeme) (operands : Items) : Type 0 where
+  pub more : Items
+  pub stands : Stands (sourceOf text words lexemes) i (tree label operands more) close
+  pub shaped : termShape label operands ≡ true
+  pub lawful : Lawful (sourceOf text words lexemes) nowhere
+  pub below : close ≤ nowhere
+  pub few : nowhere ≤ 4096
+
+-- The items behind item n stand from the word behind it on.
+pub next-stands : {s : Source} {j e : ℕ} (n : ℕ) (F : Items) → n < count F → Stands s j (after n F) e → {next : ℕ} → next ≡ nextAt (s .lexemes) j
+    → Stands s next (after (suc n) F) e
+next-stands n F h stands at = rw at (here-as refl (from-item n F h) stands .rest)
+
+-- Item n stands in front of those behind it.
+pub item-stands : {s : Source} {j e : ℕ} (n : ℕ) (F : Items) → n < count F → Stands s j (after n F) e
+    → Stands s j (tree (item n F) (inside n F) (after (suc n) F)) e
+item-stands {s} {j} {e} n F h stands = subst (λ (G : Items). Stands s j G e) (from-item n F h) stands
+
+module _ {text words lexemes : List ℕ} {i nowhere : ℕ} (x : CommandAt text words lexemes i nowhere) where
+  -- The items behind a command's word stand from the next word on.
+  pub behind-word : 0 < count (x .command) → isList (item 0 (x .command)) ≡ false
+      → Stands (sourceOf text words lexemes) (i + 2) (after 1 (x .command)) (x .close)
+  unfolding after
+  behind-word some a-word =
+      let list = here refl (x .stands) .a-list refl in
+      let same : list .close ≡ x .close = cc (list .label) in
+      let items : Stands (sourceOf text words lexemes) (i + 1) (after 0 (x .command)) (x .close) = rw (← same) (list .stands) in
+      let next = here refl (item-stands 0 (x .command) some items) .a-word a-word in
+      next-stands 0 (x .command) some items (omega (arith, next .0))
+
+  -- Its last word is one of the text.
+  pub close-below : x .close ≤ nowhere
+  close-below =
+      let list = here refl (x .stands) .a-list refl in
+      let same : list .close ≡ x .close = cc (list .label) in
+      omega (arith, x .lawful .ends (list .close) (omega (arith, list .closes)))
+
+  -- A command is a list.
+  abbrev pub listed : ListAt lexemes i
+  listed = record {
+    source = sourceOf text words lexemes;
+    same = refl;
+    close = x .close;
+    operands = x .command;
+    more = x .more;
+    end = x .end;
+    stands = x .stands;
+  }
+
+module _ {text words lexemes : List ℕ} {i nowhere close : ℕ} {label : Lexeme} {operands : Items}
+    (b : BodyAt text words lexemes i nowhere close label operands) where
+  -- The term ends before that word.
+  pub body-ends : nextAt lexemes i ≤ close
+  body-ends = forward (here refl (b .stands) .rest)
+
+  -- It begins within the text.
+  pub body-below : wordOf label < nowhere
+  body-below = omega (arith, placed (b .stands), here refl (b .stands) .ahead, item-ends (b .lawful) (b .stands))
+
+  -- Its nodes may be gathered.
+  abbrev pub body-term : {raw : List ℕ} → 4 * nowhere ≤ length raw → TermAt lexemes raw i
+  body-term room = record {
+    source = sourceOf text words lexemes;
+    same = refl;
+    label = label;
+    operands = operands;
+    more = b .more;
+    end = close;
+    stands = b .stands;
+    shaped = b .shaped;
+    room = omega (arith, item-ends (b .lawful) (b .stands));
+  }
+
+  module _ {raw : List ℕ} (room : 4 * nowhere ≤ length raw) {most : ℕ} {rawAfter : List ℕ} {body : Body}
+      (limited : (q : TermAt lexemes raw i) → Limited q most nowhere rawAfter body) {base : ℕ} (before : base ≤ i) where
+    -- Its nodes have rows before that word.
+    pub body-within : base + body .rows ≤ close
+    body-within = omega (arith, limited (body-term room) .few, body-ends, here refl (b .stands) .ahead)
+
+  module _ {raw : List ℕ} (rest : List ℕ) (raw-is : raw ≡ uncountedTable (rawTerm label operands) ++ rest)
+      {count : ℕ} (counted : count ≡ size (rawTerm label operands))
+      {base : ℕ} (fits : base + count ≤ close) (nodes : List ℕ) (nodes-room : 4 * nowhere ≤ length nodes) where
+    -- Its names and its sort may be tested.
+    abbrev pub body-judging : {names : List ℕ} {seen : Seen} {view : View} → Sees names seen view → {places : List ℕ} → Signed places view
+        → {sort : ℕ} → sort ≤ maxWidth → Judging text words lexemes names raw places nodes seen sort count base nowhere
+    body-judging {view = view} sees signed low = record {
+      naming = record {
+        i = i;
+        end = close;
+        label = label;
+        operands = operands;
+        more = b .more;
+        stands = b .stands;
+        shaped = b .shaped;
+        lawful = b .lawful;
+        rest = rest;
+        raw-is = raw-is;
+        counted = counted;
+        view = view;
+        sees = sees;
+        room = omega (arith, b .below);
+      };
+      signed = signed;
+      low = low;
+      few = omega (arith, b .below, b .few);
+    }
+
+    -- The forms that are written are the nodes of the term.
+    pub body-grown : (view : View) → view .nonTerminals ≡ []
+        → {nodesAfter : List ℕ} → nodesAfter ≡ sets nodes (4 * base) (formTable (formOf view (rawTerm label operands)))
+        → Grown nodes base count (termOf view label operands) nodesAfter
+    body-grown view closed e = record {
+      plain = term-plain view closed label operands (sourceOf text words lexemes) (b .lawful) (say-terms false (by-itself refl (b .stands)) (b .shaped));
+      label = _;
+      operands = _;
+      single = term-tree view closed label operands;
+      sized = counted ∙ sym (term-size view closed label operands);
+      room = omega (arith, b .below);
+      is = e ∙ ap (sets nodes (4 * base)) (term-table view closed label operands);
+    }

@@ -1,0 +1,79 @@
+use Rattle.script.proofs.Places.{command-word}
+use Rattle.defining.proofs.Constraints.{constraint-judging, constraint-known, limit-refused, row-place, term-at, term-refused}
+use native.Mathlib.Omega.{arith}
+use borrow.Author.Needs.{needs}
+use Rattle.defining.proofs.commands.constrain.Statement.{statement}
+use Rattle.defining.proofs.commands.constrain.Tie as tie
+
+add-body-limit : tie.Need-add-body-limit
+add-body-limit c = let d = c .before .before .before .before .before .before .before .pre .of in omega (arith, command-word (d .here), d .here .few)
+
+body-limit-requires : tie.Need-body-limit-requires
+body-limit-requires c κs = search term-at
+
+command-past-requires : tie.Need-command-past-requires
+command-past-requires c κs = search needs
+
+least-requires : tie.Need-least-requires
+least-requires c κs = search needs
+
+same-length : tie.Need-same-length
+same-length c = search needs
+
+returns : tie.Need-returns
+returns c = search limit-refused
+
+judge-body-requires : tie.Need-judge-body-requires
+judge-body-requires c κs = search constraint-judging
+
+same-length-2 : tie.Need-same-length-2
+same-length-2 c = search needs
+
+same-length-3 : tie.Need-same-length-3
+same-length-3 c = search needs
+
+same-length-4 : tie.Need-same-length-4
+same-length-4 c = search needs
+
+returns-2 : tie.Need-returns-2
+returns-2 c = term-refused (c .before .before .before .before .before .before .before .before .before .before .before .before .before .before .before .body-limit .ensures) (c .before .before .before .before .before .before .before .before .before .before .before .before .command-past .ensures) (c .before .before .before .before .before .before .before .before .before .before .before .least .ensures) (c .before .before .before .before .before .before .before .before .before .before .if1 .left) (c .before .before .before .before .before .before .judge-body .ensures) (c .if2 .taken)
+
+add-put-row : tie.Need-add-put-row
+add-put-row c = omega (arith, c .before .before .before .before .before .before .before .before .before .before .before .before .before .before .before .before .before .before .before .before .before .before .before .before .before .before .pre .of .counted .few-constraints)
+
+put-row-requires : tie.Need-put-row-requires
+put-row-requires c κs = row-place (c .before .before .before .before .before .before .before .before .before .before .before .before .before .before .before .before .before .body-limit .ensures) (c .before .before .before .before .before .before .before .before .before .before .before .before .before .before .command-past .ensures) (c .before .before .before .before .before .before .before .before .before .before .before .before .before .least .ensures) (c .before .before .before .before .before .before .before .before .before .before .before .before .if1 .left) (c .before .before .before .before .before .before .before .before .before .before .before .before .before .before .before .before .before .before .before .before .before .before .before .before .before .before .pre)
+
+same-length-5 : tie.Need-same-length-5
+same-length-5 c = search needs
+
+same-length-6 : tie.Need-same-length-6
+same-length-6 c = search needs
+
+same-length-7 : tie.Need-same-length-7
+same-length-7 c = search needs
+
+returns-3 : tie.Need-returns-3
+returns-3 c = constraint-known (c .before .before .before .before .before .before .before .before .before .before .before .before .before .before .before .before .before .before .before .before .body-limit .ensures) (c .before .before .before .before .before .before .before .before .before .before .before .before .before .before .before .before .before .command-past .ensures) (c .before .before .before .before .before .before .before .before .before .before .before .before .before .before .before .before .least .ensures) (c .before .before .before .before .before .before .before .before .before .before .before .before .before .before .before .if1 .left) (c .before .before .before .before .before .before .before .before .before .before .before .judge-body .ensures) (c .before .before .before .before .before .if2 .left) (c .before .before .put-row .ensures)
+
+pub constrain-spec : {M : Type 1} → statement M
+constrain-spec =
+    tie.close
+    (tie.spec
+    add-body-limit
+    body-limit-requires
+    command-past-requires
+    least-requires
+    same-length
+    returns
+    judge-body-requires
+    same-length-2
+    same-length-3
+    same-length-4
+    returns-2
+    add-put-row
+    put-row-requires
+    same-length-5
+    same-length-6
+    same-length-7
+    returns-3)

@@ -1,0 +1,27 @@
+use Rattle.faults.proofs.Rooted.{root-fits, root-misfits, root-within}
+use native.Mathlib.Omega.{arith}
+use borrow.Author.Needs.{needs}
+use Rattle.faults.proofs.roots.root_misfit.Statement.{statement}
+use Rattle.faults.proofs.roots.root_misfit.Tie as tie
+
+mul-if1 : tie.Need-mul-if1
+mul-if1 c = omega (arith, root-within (c .before .before .pre))
+
+shared-slice-read-if1 : tie.Need-shared-slice-read-if1
+shared-slice-read-if1 c = omega (arith, root-within (c .before .before .before .pre))
+
+add-if1 : tie.Need-add-if1
+add-if1 c = search needs
+
+returns : tie.Need-returns
+returns c = root-fits _ (c .if1 .taken)
+
+first-at-requires : tie.Need-first-at-requires
+first-at-requires c κs = search needs
+
+returns-2 : tie.Need-returns-2
+returns-2 c = root-misfits _ (c .before .if1 .left) (c .first-at .ensures)
+
+pub root-misfit-spec : {M : Type 1} → statement M
+root-misfit-spec =
+    tie.close (tie.spec mul-if1 shared-slice-read-if1 add-if1 returns first-at-requires returns-2)

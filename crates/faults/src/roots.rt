@@ -1,0 +1,14 @@
+//! The sort of the tree at a node.
+use gathering::first_at;
+ghost use Rattle.faults.specs.Steps.{RootAt, RootFits};
+
+// The first word of the tree at a node, where it is not of the sort; `nowhere` where it is.
+pub fn root_misfit(raw: &[u64], column: &[u64], node: usize, sort: u64, nowhere: usize) -> usize
+    requires { ⌜ RootAt (now raw) (now column) node sort ⌝ }
+    ensures { λ r. ⌜ ((p : RootAt (now (raw .entry)) (now (column .entry)) node sort) → RootFits p nowhere r) ⌝ }
+{
+    if column[node] == sort + 1 {
+        return nowhere;
+    }
+    first_at(raw, node)
+}

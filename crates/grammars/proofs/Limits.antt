@@ -1,0 +1,64 @@
+-- A grammar within its limits: its rules gathered, and the least word past a limit.
+use Prim.Native.Nat.{ℕ, _+_, _-_, min}
+use native.Mathlib.Omega.{arith}
+use mathlib.Core.Path.{_≡_, ap₂, _∙_}
+use mathlib.Core.List.{List}
+use Rattle.lexemes.specs.Standing.{Between}
+use Rattle.lexemes.specs.Table.{nextAt}
+use Rattle.lexemes.proofs.Standing.{forward}
+use Rattle.shapes.specs.Shapes.{groupShape}
+use Rattle.sorts.specs.Steps.{SynthFunAt}
+use Rattle.sorts.specs.Written.{grammarSorts}
+use Rattle.sorts.specs.declared.Fault.the-variants.{TooWide}
+use Rattle.rules.specs.Rules.{itemPast}
+use Rattle.rules.specs.Steps.{GroupsBetween, RulesGathered}
+use Rattle.rules.specs.declared.Gathered.{Gathered}
+use Rattle.standing.proofs.Rising.{rules-rise}
+use Rattle.grammars.specs.Steps.{GrammarAt, Limited, groupsWord, nonTerminalsWord}
+use Rattle.grammars.proofs.Commands.{as-list, groups, groups-within, items-between, items-shaped, pairs-between}
+use Rattle.grammars.proofs.Within.{rising-few}
+
+module _ {lexemes raw rules : List ℕ} {at : ℕ} (p : GrammarAt lexemes raw rules at) where
+  module _ {list : ℕ} (el : list ≡ groupsWord lexemes at) {close : ℕ} (ec : close ≡ nextAt lexemes list - 1) where
+    -- what is listed of each stands in its list, and there is room for its rules
+    abbrev pub listed-in : GroupsBetween lexemes (list + 1) close 128 raw rules
+    listed-in =
+        let within = groups-within (p .command) el in
+        let b = items-between (as-list groupShape (groups (p .command) el)) ec in
+        record {
+          source = b .source;
+          same = b .same;
+          items = b .items;
+          stands = b .stands;
+          shaped = items-shaped groupShape (groups (p .command) el);
+          raw-room = omega (arith, within .0, within .1, p .room);
+          rules-room = p .rules-room;
+        }
+
+  -- the rules are gathered and the word is found
+  pub limited : {nonTerminals : ℕ} → nonTerminals ≡ nonTerminalsWord lexemes at → {list : ℕ} → list ≡ groupsWord lexemes at
+      → {nowhere sorts : ℕ} → ((q : SynthFunAt lexemes at) → sorts ≡ grammarSorts TooWide nowhere (q .here .operands))
+      → {close : ℕ} → close ≡ nextAt lexemes nonTerminals - 1
+      → {declared : ℕ} → ((b : Between lexemes (nonTerminals + 1) close) → declared ≡ itemPast nowhere 16 (b .items))
+      → {end : ℕ} → end ≡ nextAt lexemes list - 1
+      → {rawAfter rulesAfter : List ℕ} {g : Gathered}
+      → ((q : GroupsBetween lexemes (list + 1) end 128 raw rules) → RulesGathered q nowhere 256 rawAfter rulesAfter g)
+      → {later : ℕ} → later ≡ min sorts (g .place) → {place : ℕ} → place ≡ min declared later
+      → Limited p nowhere rawAfter rulesAfter (record { row = g .row; rule = g .rule; place = place })
+  limited en el by-sorts ec by-declared ee by-rules e-later e =
+      let q = listed-in el ee in
+      let h = by-rules q in
+      let within = groups-within (p .command) el in
+      let few = rising-few _ (rules-rise (q .stands) (q .shaped) 0) (forward (q .stands)) in
+      record {
+        rest = h .rest;
+        raw-is = h .raw-is;
+        raw-long = h .raw-long;
+        rows-are = h .rows;
+        few = omega (arith, h .rows, few, within .0, within .1);
+        counted = h .counted;
+        more = h .more;
+        rules-are = h .rules-are;
+        rules-long = h .rules-long;
+        place-is = e ∙ ap₂ min (by-declared (pairs-between (p .command) en ec)) (e-later ∙ ap₂ min (by-sorts (p .command)) (h .place-is));
+      }

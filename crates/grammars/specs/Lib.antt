@@ -1,0 +1,2 @@
+pub mod Grammars
+pub mod Steps

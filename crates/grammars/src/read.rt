@@ -1,0 +1,157 @@
+//! The four tests of a grammar.
+use crate::parts::close_at;
+use crate::parts::groups_at;
+use crate::parts::non_terminals_at;
+use crate::parts::result_at;
+use declaring::Scope;
+use declaring::names::new_pairs;
+use faults::bodies::fault_word;
+use gathering::sizes::count_nodes;
+use lexemes::items::count_items;
+use listing::listed::listing_misfit;
+use listing::listed::start_misfit;
+use naming::Seen;
+use naming::forms::write_forms;
+use naming::table::NON_TERMINALS;
+use rules::Gathered;
+use rules::gather::gather_rules;
+use rules::limits::item_past;
+use sorts::Fault;
+use sorts::headers::grammar_place;
+use sorts::places::least;
+use sorts::places::sort_of;
+ghost use Rattle.grammars.specs.Steps.{Declared, GrammarAt, GrammarNamed, Limited, ListsTested, Naming, Sorted, Sorting};
+
+// Gathers the rules of the `synth-fun` at a word, and finds the least word past a limit.
+pub fn grammar_past(
+    lexemes: &[u64],
+    at: usize,
+    raw: &mut [u64],
+    rules: &mut [u64],
+    nowhere: usize,
+) -> Gathered
+    requires { ⌜ GrammarAt (now lexemes) (now raw) (now rules) at ⌝ }
+    ensures { λ r. ⌜ ((p : GrammarAt (now (lexemes .entry)) (now (raw .entry)) (now (rules .entry)) at) → Limited p nowhere (now (raw .exit)) (now (rules .exit)) r) ⌝ }
+{
+    let non_terminals = non_terminals_at(lexemes, at);
+    let groups = groups_at(lexemes, at);
+    let sorts = grammar_place(lexemes, at, Fault::TooWide, nowhere);
+    let listed = item_past(
+        lexemes,
+        non_terminals + 1,
+        close_at(lexemes, non_terminals),
+        16,
+        nowhere,
+    );
+    let gathered = gather_rules(
+        lexemes,
+        groups + 1,
+        close_at(lexemes, groups),
+        raw,
+        rules,
+        128,
+        256,
+        nowhere,
+    );
+    Gathered {
+        row: gathered.row,
+        rule: gathered.rule,
+        place: least(listed, least(sorts, gathered.place)),
+    }
+}
+
+// Puts the non-terminals of the `synth-fun` at a word into their rows and writes the forms of its rules, whose nodes are gathered, from row `base` on; returns
+// the least word at fault in a name.
+pub fn grammar_names(
+    text: &[u8],
+    words: &[u32],
+    lexemes: &[u64],
+    names: &mut [u8],
+    raw: &mut [u64],
+    forms: &mut [u64],
+    scope: Scope,
+    at: usize,
+    nodes: usize,
+    base: usize,
+    nowhere: usize,
+) -> usize
+    requires { ⌜ Naming (now text) (now words) (now lexemes) (now names) (now raw) (now forms) scope at nodes base nowhere ⌝ }
+    ensures { λ r. ⌜ ((p : Naming (now (text .entry)) (now (words .entry)) (now (lexemes .entry)) (now (names .entry)) (now (raw .entry)) (now (forms .entry)) scope at nodes base nowhere) → GrammarNamed p (now (names .exit)) (now (raw .exit)) (now (forms .exit)) r) ⌝ }
+{
+    let non_terminals = non_terminals_at(lexemes, at);
+    let first = non_terminals + 1;
+    let close = close_at(lexemes, non_terminals);
+    let seen = Seen {
+        first: scope.first,
+        names: scope.arguments,
+        defined: scope.defined,
+        functions: 0,
+        non_terminals: count_items(lexemes, first, close),
+    };
+    let new = new_pairs(
+        text,
+        words,
+        lexemes,
+        names,
+        scope,
+        NON_TERMINALS,
+        first,
+        close,
+        nowhere,
+    );
+    let sorts = grammar_place(lexemes, at, Fault::Unknown, nowhere);
+    count_nodes(raw, nodes);
+    let unknown = write_forms(
+        names,
+        seen,
+        text,
+        words,
+        lexemes,
+        raw,
+        nodes,
+        forms,
+        base,
+        nowhere,
+    );
+    least(new, least(sorts, unknown))
+}
+
+// The least word at fault in the sorts of the grammar of the `synth-fun` at a word; fills in the sorts of its nodes.
+pub fn grammar_sorts(
+    lexemes: &[u64],
+    raw: &[u64],
+    forms: &[u64],
+    signatures: &[u64],
+    column: &mut [u64],
+    at: usize,
+    nodes: usize,
+    nowhere: usize,
+) -> usize
+    requires { ⌜ Sorting (now lexemes) (now raw) (now forms) (now signatures) (now column) at nodes nowhere ⌝ }
+    ensures { λ r. ⌜ ((p : Sorting (now (lexemes .entry)) (now (raw .entry)) (now (forms .entry)) (now (signatures .entry)) (now (column .entry)) at nodes nowhere) → Sorted p (now (column .exit)) r) ⌝ }
+{
+    let written = grammar_place(lexemes, at, Fault::Empty, nowhere);
+    let within = fault_word(raw, forms, signatures, column, nodes, nowhere);
+    least(written, within)
+}
+
+// The least word at fault in what the grammar of the `synth-fun` at a word declares, `listed` non-terminals, and lists; `nowhere` where there is none.
+pub fn lists_misfit(
+    text: &[u8],
+    words: &[u32],
+    lexemes: &[u64],
+    names: &[u8],
+    at: usize,
+    listed: usize,
+    nowhere: usize,
+) -> usize
+    requires { ⌜ Declared (now text) (now words) (now lexemes) (now names) at listed ⌝ }
+    ensures { λ r. ⌜ ((p : Declared (now (text .entry)) (now (words .entry)) (now (lexemes .entry)) (now (names .entry)) at listed) → ListsTested p nowhere r) ⌝ }
+{
+    let non_terminals = non_terminals_at(lexemes, at);
+    let groups = groups_at(lexemes, at);
+    let sort = sort_of(lexemes, result_at(lexemes, at));
+    let start = start_misfit(lexemes, non_terminals, sort, nowhere);
+    let again = listing_misfit(text, words, lexemes, names, groups, listed, nowhere);
+    least(start, again)
+}

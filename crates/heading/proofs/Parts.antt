@@ -1,0 +1,110 @@
+-- The parts of a head: where its name, its arguments and its sort stand, and what they are.
+use Prim.Native.Nat.{ℕ, _+_, _-_, _*_, _≤_, _<_, min}
+use native.Mathlib.Omega.{arith}
+use mathlib.Core.Path.{_≡_, refl, ap₂, _∙_}
+use mathlib.Core.Bool.{Bool, true, _&&_}
+use mathlib.Core.List.{List}
+use lib.ListN.{length}
+use Rattle.forest.proofs.Bools.{and-left}
+use Rattle.lexemes.specs.Lists.{Items, inside, isSymbol, item, nameOf}
+use Rattle.lexemes.specs.Table.{nextAt}
+use Rattle.lexemes.specs.Standing.{Between, ItemAt}
+use Rattle.lexemes.proofs.Listed.{item-ahead, item-room, list-room}
+use Rattle.shapes.specs.Shapes.{headerShape, listOf, pairShape, sortShape}
+use Rattle.rules.specs.Rules.{itemPast}
+use Rattle.sorts.specs.Steps.{AllBetween, HeaderAt}
+use Rattle.sorts.specs.Written.{headerPlace}
+use Rattle.sorts.specs.declared.Fault.the-variants.{TooWide}
+use Rattle.sorts.proofs.Commands.{header-arguments}
+use Rattle.sorts.proofs.Parts.{list-between}
+use Rattle.sorts.proofs.Walked.{Come, come-behind, come-first, item-come, symbol-word}
+use Rattle.naming.specs.Steps.{bytesAt, sourceOf}
+use Rattle.naming.specs.Table.{longest}
+use Rattle.declaring.specs.declared.Scope.{Scope}
+use Rattle.declaring.proofs.Testing.{SymbolAt, symbol-at}
+use Rattle.heading.specs.Heads.{allowed}
+use Rattle.heading.specs.Steps.{HeadAt, HeadLimited}
+
+-- The name of a command with a header is a symbol.
+name-symbol : (c : Items) → headerShape c ≡ true → isSymbol (item 1 c) ≡ true
+name-symbol c e =
+    let name = isSymbol (item 1 c) in
+    let arguments = listOf pairShape (item 2 c) (inside 2 c) in
+    and-left name arguments (and-left (name && arguments) (sortShape (item 3 c) (inside 3 c)) e)
+
+module _ {lexemes : List ℕ} {at : ℕ} where
+  module _ (p : HeaderAt lexemes at) {arguments : ℕ} (ea : arguments ≡ nextAt lexemes (at + 2)) where
+    -- the list of arguments stands within the table of lexemes
+    pub arguments-room : 3 * arguments < length lexemes
+    arguments-room = item-room (header-arguments p ea .here)
+
+    module _ {result : ℕ} (er : result ≡ nextAt lexemes arguments) where
+      -- and ends behind its bracket
+      pub arguments-ahead : arguments < result
+      arguments-ahead = item-ahead (header-arguments p ea .here) er
+
+      -- the arguments are pairs
+      abbrev pub arguments-between : AllBetween pairShape lexemes (arguments + 1) (result - 1)
+      arguments-between = list-between (header-arguments p ea) er
+
+  module _ {arguments : ℕ} (ea : arguments ≡ nextAt lexemes (at + 2)) {result : ℕ} (er : result ≡ nextAt lexemes arguments) where
+    -- they stand between the brackets of their list
+    abbrev pub items-between : HeaderAt lexemes at → Between lexemes (arguments + 1) (result - 1)
+    items-between p = arguments-between p ea er .between
+
+    -- the word past a limit
+    pub head-limited : (nowhere : ℕ) {ninth : ℕ} → ((b : Between lexemes (arguments + 1) (result - 1)) → ninth ≡ itemPast nowhere 8 (b .items))
+        → {wide : ℕ} → ((q : HeaderAt lexemes at) → wide ≡ headerPlace TooWide nowhere (q .here .operands))
+        → {r : ℕ} → r ≡ min ninth wide → (p : HeaderAt lexemes at) → HeadLimited p allowed nowhere r
+    head-limited nowhere by-items by-sorts e p = e ∙ ap₂ min (by-items (items-between p)) (by-sorts p)
+
+module _ {text words lexemes names : List ℕ} {scope : Scope} {synthesized : Bool} {at : ℕ}
+    (p : HeadAt text words lexemes names scope synthesized at) where
+  -- a command with a header stands there
+  abbrev pub header-here : HeaderAt lexemes at
+  header-here = record {
+    here = record {
+      source = sourceOf text words lexemes;
+      same = refl;
+      close = p .close;
+      operands = p .command;
+      more = p .more;
+      end = p .end;
+      stands = p .stands;
+    };
+    named = p .named;
+    long = p .long;
+    shaped = p .shaped;
+  }
+
+  -- within the table of lexemes
+  pub head-room : 3 * at < length lexemes
+  head-room = list-room (header-here .here)
+
+  -- its name stands two words on
+  abbrev pub name-item : ItemAt lexemes (at + 2)
+  name-item =
+      let x = header-here .here in
+      let come : Come x 1 (at + 2) = come-behind x (come-first x) (omega (arith, p .long)) (symbol-word (item 0 (p .command)) (p .named)) (omega arith) in
+      item-come x come (omega (arith, p .long))
+
+  -- and is a symbol
+  pub a-symbol : isSymbol (item 1 (p .command)) ≡ true
+  a-symbol = name-symbol (p .command) (p .shaped)
+
+  -- told by its code and its bytes
+  symbol-here : SymbolAt text words lexemes (at + 2) (item 1 (p .command))
+  symbol-here = symbol-at (name-item .stands) a-symbol
+
+  -- not too long for a row
+  pub name-fits : length (nameOf (item 1 (p .command))) ≤ longest
+  name-fits = rw (← symbol-here .spelled) (p .short (at + 2) (omega (arith, symbol-here .coded)))
+
+  module _ {bytes : List ℕ} (eb : bytes ≡ bytesAt text words (at + 2)) where
+    -- the bytes of its word are the name
+    pub bytes-are : bytes ≡ nameOf (item 1 (p .command))
+    bytes-are = eb ∙ symbol-here .spelled
+
+    -- and fit a row
+    pub bytes-fit : length bytes ≤ longest
+    bytes-fit = rw bytes-are name-fits

@@ -1,0 +1,34 @@
+-- The head of a command: its new name, its arguments and its sort. The least word at fault; nowhere, a number past every word, where there is none.
+use Prim.Native.Nat.{ℕ, min}
+use mathlib.Core.List.{List, _∷_}
+use Rattle.lexemes.specs.Lists.{Items, inside, item, nameOf}
+use Rattle.declaring.specs.New.{newName, newPairs}
+use Rattle.rules.specs.Rules.{itemPast}
+use Rattle.sorts.specs.Written.{headerPlace}
+use Rattle.sorts.specs.declared.Fault.the-variants.{TooWide, Unknown}
+
+-- "8 synthesized functions, 32 `define-fun`s, 16 variables, 64 constraints, 8 arguments, 16 non-terminals and 128 rules a grammar, 256 nodes .. a body,
+-- constraint or rule"
+pub record Counts : Type 0 where
+  pub functions : ℕ
+  pub defined : ℕ
+  pub variables : ℕ
+  pub constraints : ℕ
+  pub arguments : ℕ
+  pub nonTerminals : ℕ
+  pub rules : ℕ
+  pub nodes : ℕ
+
+-- Document 01's numbers.
+abbrev pub allowed : Counts
+allowed = record { functions = 8; defined = 32; variables = 16; constraints = 64; arguments = 8; nonTerminals = 16; rules = 128; nodes = 256 }
+
+-- 4, "past a limit", in a function's arguments and sort.
+abbrev pub headerPast : Counts → (nowhere : ℕ) → Items → ℕ
+headerPast counts nowhere c = min (itemPast nowhere (counts .arguments) (inside 2 c)) (headerPlace TooWide nowhere c)
+
+-- 7, "name unknown, taken or reserved", in a command's new name, its arguments and its sort: "A command's name is in scope from there to the end, its arguments
+-- .. only within it".
+abbrev pub headerNames : (nowhere : ℕ) → (scope : List (List ℕ)) → Items → ℕ
+headerNames nowhere scope c =
+    min (newName nowhere scope (item 1 c)) (min (newPairs nowhere (nameOf (item 1 c) ∷ scope) (inside 2 c)) (headerPlace Unknown nowhere c))

@@ -1,0 +1,127 @@
+//! The tests of a head.
+use declaring::Scope;
+use declaring::names::new_name;
+use declaring::names::new_pairs;
+use lexemes::next_at;
+use naming::spelled::bytes_at;
+use naming::table::ARGUMENTS;
+use naming::table::DEFINED;
+use naming::table::FUNCTIONS;
+use naming::table::OWN_ARGUMENTS;
+use naming::table::put_name;
+use rules::limits::item_past;
+use sorts::Fault;
+use sorts::headers::header_place;
+use sorts::places::least;
+use sorts::places::sort_of;
+ghost use mathlib.Core.Path.{_≡_};
+ghost use Rattle.sorts.specs.Steps.{HeaderAt};
+ghost use Rattle.declaring.specs.Steps.{Few};
+ghost use Rattle.heading.specs.Heads.{allowed};
+ghost use Rattle.heading.specs.Steps.{HeadAt, HeadLimited, HeadNamed, OwnNamed, firstRow, grownBy, ownRow};
+
+// The least word past a limit in the head of the command at a word: its ninth argument, or the width of a sort; `nowhere` where there is none.
+pub fn head_past(lexemes: &[u64], at: usize, nowhere: usize) -> usize
+    requires { ⌜ HeaderAt (now lexemes) at ⌝ }
+    ensures { λ r. ⌜ ((p : HeaderAt (now (lexemes .entry)) at) → HeadLimited p allowed nowhere r) ⌝ }
+{
+    let arguments = next_at(lexemes, at + 2);
+    let close = next_at(lexemes, arguments) - 1;
+    let ninth = item_past(lexemes, arguments + 1, close, 8, nowhere);
+    let wide = header_place(lexemes, at, Fault::TooWide, nowhere);
+    least(ninth, wide)
+}
+
+// The row of a command's own name.
+fn own_row(scope: Scope, synthesized: bool) -> usize
+    requires { ⌜ Few scope ⌝ }
+    ensures { λ r. ⌜ r ≡ ownRow synthesized scope ⌝ }
+{
+    if synthesized {
+        FUNCTIONS + scope.functions
+    } else {
+        DEFINED + scope.defined
+    }
+}
+
+// The row of its first argument.
+fn first_row(scope: Scope, synthesized: bool) -> usize
+    requires { ⌜ Few scope ⌝ }
+    ensures { λ r. ⌜ r ≡ firstRow synthesized scope ⌝ }
+{
+    if synthesized {
+        OWN_ARGUMENTS + 8 * scope.functions
+    } else {
+        ARGUMENTS
+    }
+}
+
+// The scope with the command's own name in it.
+fn grown(scope: Scope, synthesized: bool) -> Scope
+    requires { ⌜ Few scope ⌝ }
+    ensures { λ r. ⌜ r ≡ grownBy synthesized scope ⌝ }
+{
+    let mut later = scope;
+    if synthesized {
+        later.functions += 1;
+    } else {
+        later.defined += 1;
+    }
+    later
+}
+
+// Puts the name of the command at a word into its row, with the sort of its result; returns the word of the name where it is reserved or taken, else `nowhere`.
+fn own_name(
+    text: &[u8],
+    words: &[u32],
+    lexemes: &[u64],
+    names: &mut [u8],
+    scope: Scope,
+    synthesized: bool,
+    at: usize,
+    nowhere: usize,
+) -> usize
+    requires { ⌜ HeadAt (now text) (now words) (now lexemes) (now names) scope synthesized at ⌝ }
+    ensures { λ r. ⌜ ((p : HeadAt (now (text .entry)) (now (words .entry)) (now (lexemes .entry)) (now (names .entry)) scope synthesized at) → OwnNamed p nowhere (now (names .exit)) r) ⌝ }
+{
+    let row = own_row(scope, synthesized);
+    let result = next_at(lexemes, next_at(lexemes, at + 2));
+    let sort = sort_of(lexemes, result) as u8;
+    let place = new_name(text, words, lexemes, names, scope, row, 0, at + 2, nowhere);
+    put_name(names, row, sort, bytes_at(text, words, at + 2));
+    place
+}
+
+// Puts the name and the arguments of the command at a word into their rows; returns the least word whose name is reserved, taken or no sort's; `nowhere` where there is none.
+pub fn head_names(
+    text: &[u8],
+    words: &[u32],
+    lexemes: &[u64],
+    names: &mut [u8],
+    scope: Scope,
+    synthesized: bool,
+    at: usize,
+    nowhere: usize,
+) -> usize
+    requires { ⌜ HeadAt (now text) (now words) (now lexemes) (now names) scope synthesized at ⌝ }
+    ensures { λ r. ⌜ ((p : HeadAt (now (text .entry)) (now (words .entry)) (now (lexemes .entry)) (now (names .entry)) scope synthesized at) → HeadNamed p nowhere (now (names .exit)) r) ⌝ }
+{
+    let arguments = next_at(lexemes, at + 2);
+    let close = next_at(lexemes, arguments) - 1;
+    let later = grown(scope, synthesized);
+    let first = first_row(scope, synthesized);
+    let own = own_name(text, words, lexemes, names, scope, synthesized, at, nowhere);
+    let within = new_pairs(
+        text,
+        words,
+        lexemes,
+        names,
+        later,
+        first,
+        arguments + 1,
+        close,
+        nowhere,
+    );
+    let sorts = header_place(lexemes, at, Fault::Unknown, nowhere);
+    least(own, least(within, sorts))
+}

@@ -1,0 +1,4 @@
+pub mod Empty
+pub mod Start
+pub mod Groups
+pub mod Listing

@@ -1,0 +1,69 @@
+-- Which command it is: a word is not two of the commands' words.
+use Prim.Native.Nat.{ℕ}
+use Prim.Native.String.{String}
+use mathlib.Core.Bool.{Bool, true, false}
+use mathlib.Core.List.{List, [], _∷_}
+use mathlib.Core.Path.{_≡_, refl, subst}
+use lib.Dec.{eqb}
+use borrow.Author.Tests.{eqb-true}
+use Rattle.forest.specs.Lists.{sameBytes, spelling}
+use Rattle.forest.proofs.Bools.{and-left, and-right, apart}
+use Rattle.reserved.specs.Reserved.{isWord}
+use Rattle.lexemes.specs.Lists.{Items, is, item, nameOf}
+
+-- The tests of a command's word: whether it declares a variable, defines a function, synthesizes one, constrains.
+pub record Tests (c : Items) (declared defined synthesized constrained : Bool) : Type 0 where
+  pub declares : is "declare-var" (item 0 c) ≡ declared
+  pub defines : is "define-fun" (item 0 c) ≡ defined
+  pub synthesizes : is "synth-fun" (item 0 c) ≡ synthesized
+  pub constrains : is "constraint" (item 0 c) ≡ constrained
+
+-- A command is one of the four, or none of them.
+pub data Command (c : Items) : Type 0 where
+  declaring : Tests c true false false false → Command c
+  defining : Tests c false true false false → Command c
+  synthesizing : Tests c false false true false → Command c
+  constraining : Tests c false false false true → Command c
+  another : Tests c false false false false → Command c
+
+-- Lists of bytes that are found the same are.
+same-bytes : (u v : List ℕ) → sameBytes u v ≡ true → u ≡ v
+unfolding sameBytes
+same-bytes [] [] h = refl
+same-bytes [] (b ∷ v) h = apart h
+same-bytes (a ∷ u) [] h = apart h
+same-bytes (a ∷ u) (b ∷ v) h =
+    let first = eqb-true a b (and-left (eqb a b) (sameBytes u v) h) in
+    let more = same-bytes u v (and-right (eqb a b) (sameBytes u v) h) in
+    cc
+
+-- A name that is one word is no other.
+other-word : (one other : String) → isWord other (spelling one) ≡ false → (name : List ℕ) → isWord one name ≡ true → isWord other name ≡ false
+other-word one other differ name h = subst (λ (n : List ℕ). isWord other n ≡ false) (same-bytes (spelling one) name h) differ
+
+-- Every command is one of these.
+pub command : (c : Items) → Command c
+unfolding sameBytes
+command c = go (is "declare-var" (item 0 c)) (is "define-fun" (item 0 c)) (is "synth-fun" (item 0 c)) (is "constraint" (item 0 c)) refl refl refl refl
+  where
+    name : List ℕ
+    name = nameOf (item 0 c)
+
+    go : (declared defined synthesized constrained : Bool) → is "declare-var" (item 0 c) ≡ declared → is "define-fun" (item 0 c) ≡ defined
+        → is "synth-fun" (item 0 c) ≡ synthesized → is "constraint" (item 0 c) ≡ constrained → Command c
+    go true f s t d e g h = declaring (record {
+      declares = d;
+      defines = other-word "declare-var" "define-fun" refl name d;
+      synthesizes = other-word "declare-var" "synth-fun" refl name d;
+      constrains = other-word "declare-var" "constraint" refl name d;
+    })
+    go false true s t d e g h = defining (record {
+      declares = d;
+      defines = e;
+      synthesizes = other-word "define-fun" "synth-fun" refl name e;
+      constrains = other-word "define-fun" "constraint" refl name e;
+    })
+    go false false true t d e g h =
+        synthesizing (record { declares = d; defines = e; synthesizes = g; constrains = other-word "synth-fun" "constraint" refl name g })
+    go false false false true d e g h = constraining (record { declares = d; defines = e; synthesizes = g; constrains = h })
+    go false false false false d e g h = another (record { declares = d; defines = e; synthesizes = g; constrains = h })

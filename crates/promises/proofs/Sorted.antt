@@ -1,0 +1,110 @@
+-- A script that passes is sorted, and so is what its grammars derive (demand 3).
+use Prim.Native.Nat.{ℕ, _≤_, _<_}
+use native.Mathlib.Omega.{arith}
+use mathlib.Core.Bool.{Bool, true, false, cond, not, _||_}
+use mathlib.Core.List.{List, [], _∷_, List·Memᴰ, List·Memᴰ·head, List·Memᴰ·tail}
+use mathlib.Core.Option.{some}
+use mathlib.Core.Path.{_≡_, refl, sym, _∙_, subst}
+use lib.Dec.{ltb}
+use lib.ListN.{length, length-map}
+use borrow.Author.Tests.{lt-ltb, ltb-false}
+use Rattle.forest.specs.Forest.{none, tree}
+use Rattle.terms.specs.Labels.{Terms}
+use Rattle.terms.specs.Sorts.{AllSorted, sortOver, sortsOf as termSorts, withSort}
+use Rattle.grammar.specs.Derivation.{Derives, nonTerminal}
+use Rattle.grammar.specs.Sorts.{formSorts, itemSort}
+use Rattle.grammar.proofs.Sorts.{derived-sorts}
+use Rattle.words.specs.Trees.{wordOf}
+use Rattle.lexemes.specs.Lists.{Items, isList}
+use Rattle.lexemes.specs.Standing.{Source, Stands}
+use Rattle.naming.specs.Scopes.{Defined, Function, Named}
+use Rattle.shapes.specs.Carried.{notCarried}
+use Rattle.shapes.specs.Shapes.{commandShape}
+use Rattle.heading.specs.Heads.{Counts}
+use Rattle.script.specs.Script.{Known, Read, andThen, grammarPlace, judged, tested, knownAfter, limitPlace, namePlace, outOfPlace, passed, readAll, refused}
+use Rattle.script.specs.Script.{sortingPlace, start}
+use Rattle.promises.specs.Sorted.{AllBool, AllRulesSorted, RulesSorted, Sorted, grammarScope}
+use Rattle.promises.proofs.After.{after-command}
+use Rattle.promises.proofs.Commands.{command}
+use Rattle.promises.proofs.Growing.{AllBefore, Sound}
+use Rattle.script.proofs.Places.{Below, stands-below}
+
+-- A refusal is not what passes.
+never-passed : {A : Type 0} (number place : ℕ) {k : Known} → refused number place ≡ passed k → A
+never-passed number place h = let z : _≡_ {A = ℕ} 0 1 = cc in absurd (omega arith)
+
+-- A test that does not end the reading has failed, and what follows passes.
+not-refused : (test : Bool) (number place : ℕ) {later : Read} {k : Known} → cond test (refused number place) later ≡ passed k
+    → (test ≡ false) × (later ≡ passed k)
+not-refused true number place h = never-passed number place h
+not-refused false number place h = (refl, h)
+
+-- Where a refusal is the other case, it is not what was read.
+only-passed : (test : Bool) (number place : ℕ) {read : Read} {k : Known} → cond test read (refused number place) ≡ passed k → read ≡ passed k
+only-passed true number place h = h
+only-passed false number place h = never-passed number place h
+
+-- What follows a command that passes.
+followed : (read : Read) (next : Known → Read) {k : Known} → andThen read next ≡ passed k → (later : Known) × (read ≡ passed later) × (next later ≡ passed k)
+followed (refused number place) next h = never-passed number place h
+followed (passed later) next h = (later, refl, h)
+
+-- A command that passes has no fault in its sorts and its grammar, and what it says is known.
+record NoFault (nowhere : ℕ) (k : Known) (c : Items) (said later : Known) : Type 0 where
+  sorts : nowhere ≤ sortingPlace nowhere k c
+  rules : nowhere ≤ grammarPlace nowhere k c
+  is : said ≡ later
+
+-- Such is every command that passes.
+no-faults : (counts : Counts) (nowhere : ℕ) (k : Known) (at : ℕ) (c : Items) (said : Known) {later : Known}
+    → judged counts nowhere k at c said ≡ passed later → NoFault nowhere k c said later
+unfolding judged tested
+no-faults counts nowhere k at c said h =
+    let carried = not-refused (notCarried c) _ _ h in
+    let shaped = not-refused (not (commandShape c) || outOfPlace k c) _ _ (carried .1) in
+    let limited = not-refused (ltb (limitPlace counts nowhere k at c) nowhere) _ _ (shaped .1) in
+    let named = not-refused (ltb (namePlace nowhere k c) nowhere) _ _ (limited .1) in
+    let sorted = not-refused (ltb (sortingPlace nowhere k c) nowhere) _ _ (named .1) in
+    let ruled = not-refused (ltb (grammarPlace nowhere k c) nowhere) _ _ (sorted .1) in
+    record { sorts = ltb-false _ _ (sorted .0); rules = ltb-false _ _ (ruled .0); is = cc (ruled .1) }
+
+module _ (counts : Counts) (nowhere : ℕ) where
+  -- What is known after commands that pass is sound, where it was before.
+  passed-sound : (items : Items) {k later : Known} → Below nowhere items → Sound k → readAll counts nowhere k items ≡ passed later → Sound later
+  unfolding Below readAll
+  passed-sound none {k} {later} below sound h = let same : k ≡ later = cc (only-passed (k .ended) _ _ h) in subst Sound same sound
+  passed-sound (tree l c more) {k} below sound h =
+      let read = judged counts nowhere k (wordOf l) c (knownAfter k c) in
+      let next = followed read (λ (later : Known). readAll counts nowhere later more) (only-passed (isList l) _ _ h) in
+      let fine = no-faults counts nowhere k (wordOf l) c (knownAfter k c) (next .1) in
+      let some-word : 0 < nowhere = omega (arith, below .0 .first) in
+      let after = after-command k c some-word (below .1) sound (fine .sorts) (fine .rules) (command c) in
+      passed-sound more (below .2) (subst Sound (fine .is) after) (next .2)
+
+  -- Every rule, body and constraint of a script that passes has its sort, where its items stand before word `nowhere`.
+  pub passed-sorted : {s : Source} {i : ℕ} (items : Items) {k : Known} → Stands s i items nowhere → readAll counts nowhere start items ≡ passed k → Sorted k
+  unfolding AllBefore AllBool AllRulesSorted AllSorted
+  passed-sorted items stands h =
+      let first : Sound start = record { sorted = record { bodies = tt; functions = tt; constraints = tt }; before = tt } in
+      passed-sound items (stands-below nowhere stands (omega arith)) first h .sorted
+
+-- The rules of each of the functions are sorted.
+of-function : {defs : List Defined} (fs : List Function) {f : Function} → AllRulesSorted defs fs → List·Memᴰ f fs → RulesSorted defs f
+unfolding AllRulesSorted
+of-function {defs} (g ∷ others) all (List·Memᴰ·head e) = subst (RulesSorted defs) (sym e) (all .0)
+of-function (g ∷ others) all (List·Memᴰ·tail m) = of-function others (all .1) m
+
+-- What a grammar with sorted rules derives has the function's sort.
+pub rules-derive : {defs : List Defined} {f : Function} {T : Terms} {ds : List ℕ} → RulesSorted defs f
+    → Derives (f .grammar) (tree (nonTerminal 0) none none) T ds → termSorts (grammarScope defs f .terms) T ≡ some (f .result ∷ [])
+unfolding formSorts itemSort sortOver withSort
+rules-derive {defs} {f} s d =
+    let scope = grammarScope defs f in
+    let long = length-map (f .nonTerminals) (λ (n : Named). n .sort) in
+    let sorts = derived-sorts (f .grammar) scope (sym (s .arguments)) (λ r h. omega (arith, s .heads r h)) (s .rules) d in
+    sorts ∙ rw (lt-ltb 0 (length (scope .nonTerminals)) (omega (arith, s .start .0)), s .start .1)
+
+-- "Every term that a function's grammar derives .. has that function's sort, though no sort check was run on the term".
+pub derived-sorted : {k : Known} {f : Function} {T : Terms} {ds : List ℕ} → Sorted k → List·Memᴰ f (k .functions)
+    → Derives (f .grammar) (tree (nonTerminal 0) none none) T ds → termSorts (grammarScope (k .defined) f .terms) T ≡ some (f .result ∷ [])
+derived-sorted {k} sorted member d = rules-derive (of-function (k .functions) (sorted .functions) member) d

@@ -1,0 +1,6 @@
+pub mod Words
+pub mod After
+pub mod Judging
+pub mod Testing
+pub mod Reading
+pub mod Walking

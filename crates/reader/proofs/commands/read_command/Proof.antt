@@ -1,0 +1,115 @@
+use Rattle.reader.proofs.Reading.{few-after, in-shape, read-misplaced, read-tested, read-uncarried, word-near}
+use native.Mathlib.Omega.{arith}
+use borrow.Author.Needs.{needs}
+use Rattle.reader.proofs.commands.read_command.Statement.{statement}
+use Rattle.reader.proofs.commands.read_command.Tie as tie
+
+not-carried-requires : tie.Need-not-carried-requires
+not-carried-requires c κs = search needs
+
+answer-requires : tie.Need-answer-requires
+answer-requires c κs = search needs
+
+returns : tie.Need-returns
+returns c = read-uncarried (c .before .before .not-carried .ensures) (c .before .if1 .taken) (c .answer .ensures)
+
+add-code-at : tie.Need-add-code-at
+add-code-at c = omega (arith, word-near (c .before .before .before .before .before .before .before .before .before .before .pre))
+
+code-at-requires : tie.Need-code-at-requires
+code-at-requires c κs = search needs
+
+command-shape-requires : tie.Need-command-shape-requires
+command-shape-requires c κs = search needs
+
+out-of-place-requires : tie.Need-out-of-place-requires
+out-of-place-requires c κs = search needs
+
+answer-requires-2 : tie.Need-answer-requires-2
+answer-requires-2 c κs = search needs
+
+returns-2 : tie.Need-returns-2
+returns-2 c =
+    read-misplaced
+    (c .before .before .before .before .before .before .not-carried .ensures)
+    (c .before .before .before .before .before .if1 .left)
+    (c .before .before .before .before .code-at .ensures)
+    (c .before .before .before .command-shape .ensures)
+    (c .before .before .out-of-place .ensures)
+    (c .before .if2 .taken)
+    (c .answer2 .ensures)
+
+test-command-requires : tie.Need-test-command-requires
+test-command-requires c κs =
+    let come = c .before .before .before .before .before in
+    in-shape
+    (come .before .before .before .before .before .not-carried .ensures)
+    (come .before .before .before .before .if1 .left)
+    (come .before .before .before .code-at .ensures)
+    (come .before .before .command-shape .ensures)
+    (come .before .out-of-place .ensures)
+    (come .if2 .left)
+    (c .before .before .before .before .before .before .before .before .before .before .before .before .before .before .before .before .before .before .before .pre)
+
+step-by-requires : tie.Need-step-by-requires
+step-by-requires c κs =
+    let come = c .before .before .before .before .before .before .before .before .before .before .before .before .before .before .before .before in
+    few-after
+    (come .before .before .before .before .before .not-carried .ensures)
+    (come .before .before .before .before .if1 .left)
+    (come .before .before .before .code-at .ensures)
+    (come .before .before .command-shape .ensures)
+    (come .before .out-of-place .ensures)
+    (come .if2 .left)
+    (c .before .before .before .before .before .before .before .before .before .before .test-command .ensures)
+    (c .before .before .before .before .before .before .before .before .before .before .before .before .before .before .before .before .before .before .before .before .before .before .before .before .before .before .before .before .before .before .pre)
+
+same-length : tie.Need-same-length
+same-length c = search needs
+
+same-length-2 : tie.Need-same-length-2
+same-length-2 c = search needs
+
+same-length-3 : tie.Need-same-length-3
+same-length-3 c = search needs
+
+same-length-4 : tie.Need-same-length-4
+same-length-4 c = search needs
+
+same-length-5 : tie.Need-same-length-5
+same-length-5 c = search needs
+
+returns-3 : tie.Need-returns-3
+returns-3 c =
+    let come = c .before .before .before .before .before .before .before .before .before .before .before .before .before .before .before .before .before in
+    read-tested
+    (come .before .before .before .before .before .not-carried .ensures)
+    (come .before .before .before .before .if1 .left)
+    (come .before .before .before .code-at .ensures)
+    (come .before .before .command-shape .ensures)
+    (come .before .out-of-place .ensures)
+    (come .if2 .left)
+    (c .before .before .before .before .before .before .before .before .before .before .before .test-command .ensures)
+    (c .step-by .ensures)
+
+pub read-command-spec : {M : Type 1} → statement M
+read-command-spec =
+    tie.close
+    (tie.spec
+    not-carried-requires
+    answer-requires
+    returns
+    add-code-at
+    code-at-requires
+    command-shape-requires
+    out-of-place-requires
+    answer-requires-2
+    returns-2
+    test-command-requires
+    step-by-requires
+    same-length
+    same-length-2
+    same-length-3
+    same-length-4
+    same-length-5
+    returns-3)

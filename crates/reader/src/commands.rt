@@ -1,0 +1,132 @@
+//! Commands, each with its tests in their order.
+use crate::Step;
+use crate::steps::answer;
+use crate::steps::out_of_place;
+use crate::steps::step_by;
+use defining::commands::constrain;
+use defining::commands::define_fun;
+use lexemes::code_at;
+use lexemes::codes::CONSTRAINT;
+use lexemes::codes::DECLARE_VAR;
+use lexemes::codes::DEFINE_FUN;
+use lexemes::codes::SYNTH_FUN;
+use script::Progress;
+use script::Verdict;
+use shapes::carried::not_carried;
+use shapes::commands::command_shape;
+use synthesizing::command::synth_fun;
+use variables::command::declare_var;
+ghost use mathlib.Core.Path.{_≡_};
+ghost use Rattle.reader.specs.Steps.{CommandRead, CommandTested, Commanded, Shaped};
+
+// The verdict of a command that says nothing but itself.
+fn passing(place: usize) -> Verdict
+    ensures { λ r. ⌜ r ≡ record { number = 0; place = place; rows = 0 } ⌝ }
+{
+    Verdict {
+        number: 0,
+        place: place,
+        rows: 0,
+    }
+}
+
+// Tests the command of the code at a word, which is of its shape: 4, 7, 8 and 9.
+fn test_command(
+    text: &[u8],
+    words: &[u32],
+    lexemes: &[u64],
+    names: &mut [u8],
+    raw: &mut [u64],
+    places: &mut [u64],
+    nodes: &mut [u64],
+    forms: &mut [u64],
+    progress: Progress,
+    code: u64,
+    at: usize,
+    nowhere: usize,
+) -> Verdict
+    requires { ⌜ Shaped (now text) (now words) (now lexemes) (now names) (now raw) (now places) (now nodes) (now forms) progress code at nowhere ⌝ }
+    ensures { λ r. ⌜ ((c : Shaped (now (text .entry)) (now (words .entry)) (now (lexemes .entry)) (now (names .entry)) (now (raw .entry)) (now (places .entry)) (now (nodes .entry)) (now (forms .entry)) progress code at nowhere) → CommandTested c (now (names .exit)) (now (raw .exit)) (now (places .exit)) (now (nodes .exit)) (now (forms .exit)) r) ⌝ }
+{
+    match code {
+        DECLARE_VAR => declare_var(text, words, lexemes, names, progress, at, nowhere),
+        DEFINE_FUN => define_fun(
+            text,
+            words,
+            lexemes,
+            names,
+            raw,
+            places,
+            nodes,
+            progress,
+            at,
+            nowhere,
+        ),
+        SYNTH_FUN => synth_fun(
+            text,
+            words,
+            lexemes,
+            names,
+            raw,
+            places,
+            forms,
+            progress,
+            at,
+            nowhere,
+        ),
+        CONSTRAINT => constrain(
+            text,
+            words,
+            lexemes,
+            names,
+            raw,
+            places,
+            nodes,
+            progress,
+            at,
+            nowhere,
+        ),
+        _ => passing(at),
+    }
+}
+
+// Reads the command at a word: 6, 5, then 4, 7, 8 and 9 by its own tests.
+pub fn read_command(
+    text: &[u8],
+    words: &[u32],
+    lexemes: &[u64],
+    names: &mut [u8],
+    raw: &mut [u64],
+    places: &mut [u64],
+    nodes: &mut [u64],
+    forms: &mut [u64],
+    progress: Progress,
+    at: usize,
+    nowhere: usize,
+) -> Step
+    requires { ⌜ Commanded (now text) (now words) (now lexemes) (now names) (now raw) (now places) (now nodes) (now forms) progress at nowhere ⌝ }
+    ensures { λ r. ⌜ ((c : Commanded (now (text .entry)) (now (words .entry)) (now (lexemes .entry)) (now (names .entry)) (now (raw .entry)) (now (places .entry)) (now (nodes .entry)) (now (forms .entry)) progress at nowhere) → CommandRead c (now (names .exit)) (now (raw .exit)) (now (places .exit)) (now (nodes .exit)) (now (forms .exit)) r) ⌝ }
+{
+    if not_carried(lexemes, at) {
+        return answer(6, at, progress);
+    }
+    let code = code_at(lexemes, at + 1);
+    if !command_shape(lexemes, at) | out_of_place(progress, code) {
+        return answer(5, at, progress);
+    }
+    let verdict = test_command(
+        text,
+        words,
+        lexemes,
+        names,
+        raw,
+        places,
+        nodes,
+        forms,
+        progress,
+        code,
+        at,
+        nowhere,
+    );
+    step_by(progress, code, verdict)
+}

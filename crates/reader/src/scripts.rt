@@ -1,0 +1,79 @@
+//! The commands of a script, one after the other.
+use crate::Step;
+use crate::commands::read_command;
+use crate::steps::answer;
+use lexemes::OPEN;
+use lexemes::code_at;
+use lexemes::next_at;
+use script::Progress;
+ghost use mathlib.Core.Path.{_≡_};
+ghost use Rattle.reader.specs.Steps.{ScriptAt, ScriptRead, lastStep, nothingSaid};
+
+// What is said before the first command.
+fn nothing_said() -> Progress
+    ensures { λ r. ⌜ r ≡ nothingSaid ⌝ }
+{
+    Progress {
+        logic: false,
+        ended: false,
+        variables: 0,
+        defined: 0,
+        functions: 0,
+        constraints: 0,
+        nodes: 0,
+        forms: 0,
+    }
+}
+
+// The answer at the end of a script: 5 where there was no `check-synth`.
+fn end_of_script(progress: Progress, nowhere: usize) -> Step
+    ensures { λ r. ⌜ r ≡ lastStep nowhere (progress .ended) progress ⌝ }
+{
+    if progress.ended {
+        return answer(0, nowhere, progress);
+    }
+    answer(5, nowhere, progress)
+}
+
+// Reads the commands of a script of so many words, up to the first faulty one.
+pub fn read_script(
+    text: &[u8],
+    words: &[u32],
+    lexemes: &[u64],
+    names: &mut [u8],
+    raw: &mut [u64],
+    places: &mut [u64],
+    nodes: &mut [u64],
+    forms: &mut [u64],
+    nowhere: usize,
+) -> Step
+    requires { ⌜ ScriptAt (now text) (now words) (now lexemes) (now names) (now raw) (now places) (now nodes) (now forms) nowhere ⌝ }
+    ensures { λ r. ⌜ ((p : ScriptAt (now (text .entry)) (now (words .entry)) (now (lexemes .entry)) (now (names .entry)) (now (raw .entry)) (now (places .entry)) (now (nodes .entry)) (now (forms .entry)) nowhere) → ScriptRead p (now (names .exit)) (now (places .exit)) (now (nodes .exit)) (now (forms .exit)) r) ⌝ }
+{
+    let mut progress = nothing_said();
+    let mut at = 0;
+    while at < nowhere {
+        if code_at(lexemes, at) != OPEN {
+            return answer(5, at, progress);
+        }
+        let step = read_command(
+            text,
+            words,
+            lexemes,
+            names,
+            raw,
+            places,
+            nodes,
+            forms,
+            progress,
+            at,
+            nowhere,
+        );
+        if step.number != 0 {
+            return step;
+        }
+        progress = step.progress;
+        at = next_at(lexemes, at);
+    }
+    end_of_script(progress, nowhere)
+}

@@ -1,0 +1,184 @@
+-- The `define-fun` for a function, and its body in the tables.
+use Prim.Native.Nat.{ℕ, _+_, _*_, _≤_, _<_}
+use native.Mathlib.Omega.{arith}
+use mathlib.Core.Path.{_≡_, refl, sym, ap, _∙_, subst}
+use mathlib.Core.Bool.{true, false}
+use mathlib.Core.List.{List, [], _∷_, _++_}
+use lib.ListN.{drop, getD, length, set}
+use lib.Seq.{sets}
+use Rattle.forest.specs.Forest.{join, size, tree}
+use Rattle.terms.specs.Labels.{Terms}
+use Rattle.meaning.specs.Tables.{Stands as TermStands}
+use Rattle.lexemes.specs.Lists.{Items, inside, item}
+use Rattle.lexemes.specs.Table.{nextAt}
+use Rattle.lexemes.proofs.Standing.{by-itself}
+use Rattle.gathering.proofs.Saying.{say-terms}
+use Rattle.naming.specs.Scopes.{Defined, Function}
+use Rattle.naming.specs.Steps.{sourceOf}
+use Rattle.heading.specs.Heads.{allowed}
+use Rattle.script.specs.Script.{termOf}
+use Rattle.script.specs.Tables.{PlacesHold, bodiesPlace, firstsPlace, functionsPlace}
+use Rattle.script.specs.declared.Progress.{Progress}
+use Rattle.script.specs.declared.Verdict.{Verdict}
+use Rattle.script.proofs.Answered.{body-held, body-places, first-put, grammars-kept, node-put, other-place}
+use Rattle.script.proofs.Nodes.{Grown, stands-wider, term-stands}
+use Rattle.script.proofs.Terms.{term-plain, term-size, term-table, term-tree}
+use Rattle.response.specs.Response.{Answered, judgedBody, refused, responseView, withBody}
+use Rattle.response.specs.Steps.{Answering, Comparing, Gathered, ListIn, Matched, OneMore, Outlined, Taken, bodyAt, bodyOf, matched, outlined}
+use Rattle.response.proofs.Comparing.{command-list, j-low, rows-room}
+use Rattle.response.proofs.Parts.{body-first, body-item, body-shaped}
+
+-- A `define-fun` for a function is one of a right shape within the limits, held to the function.
+judged-is : (nowhere : ℕ) (defs : List Defined) (f : Function) (at : ℕ) (c : Items) (later : Answered)
+    → judgedBody allowed nowhere defs f at c later ≡ outlined allowed nowhere at c (matched nowhere defs f c (withBody (bodyOf defs f c) later))
+unfolding judgedBody matched outlined
+judged-is nowhere defs f at c later = refl
+
+module _ {text words lexemes names raw places nodes : List ℕ} {p : Progress} {at j base nowhere : ℕ} where
+  -- Its shape and limits may be tested.
+  abbrev pub list-in : Answering text words lexemes names raw places nodes p at j base nowhere → ListIn lexemes raw at nowhere
+  list-in a = record { here = command-list a; ends = a .reading .lawful .ends; room = a .reading .raw-room }
+
+  -- The tables hold what is known in `base` rows.
+  abbrev held-in : (a : Answering text words lexemes names raw places nodes p at j base nowhere) → PlacesHold places nodes base (a .known)
+  held-in a =
+      let h = a .reading .places-hold in
+      record {
+        long = h .long;
+        defined-rows = h .defined-rows;
+        function-rows = h .function-rows;
+        all = h .all;
+        rest = h .rest;
+        nodes-are = h .nodes-are;
+        rows-are = a .based ∙ h .rows-are;
+        plain = h .plain;
+        bodies-at = h .bodies-at;
+        constraints-at = h .constraints-at;
+      }
+
+  module _ {rawAfter : List ℕ} {v : Verdict} (eo : (x : ListIn lexemes raw at nowhere) → Outlined x rawAfter v) where
+    -- It is refused by its shape or a limit.
+    pub outline-stops : (v .number ≡ 0 → ⊥) → (a : Answering text words lexemes names raw places nodes p at j base nowhere) → Taken a places nodes v
+    outline-stops ne a = record {
+      stops = λ some later. judged-is nowhere (a .known .defined) (a .function) at (a .command) later ∙ eo (list-in a) .stops some _;
+      goes-on = λ z. absurd (ne z);
+      one-more = λ z. absurd (ne z);
+      few = λ z. absurd (ne z);
+      grammars-hold = a .reading .grammars-hold;
+    }
+
+    module _ (z : v .number ≡ 0) where
+      -- The same, with the nodes of its body gathered.
+      abbrev pub to-compare : Answering text words lexemes names raw places nodes p at j base nowhere
+          → Comparing text words lexemes names rawAfter places nodes p at j (v .rows) base nowhere
+      to-compare a =
+          let r = a .reading in
+          let o = eo (list-in a) in
+          record {
+            asked = record {
+              known = a .known;
+              end = a .end;
+              rows = a .rows;
+              based = a .based;
+              reading = record {
+                items = r .items;
+                stands = r .stands;
+                lawful = r .lawful;
+                few = r .few;
+                counted = r .counted;
+                names-hold = r .names-hold;
+                places-hold = r .places-hold;
+                forms = r .forms;
+                grammars-hold = r .grammars-hold;
+                low = r .low;
+                passed = r .passed;
+                raw-room = rw (o .long) (r .raw-room);
+                nodes-room = r .nodes-room;
+              };
+              close = a .close;
+              command = a .command;
+              more = a .more;
+              is = a .is;
+              function = a .function;
+              later = a .later;
+              next = a .next;
+            };
+            gathered = o .gathered z;
+          }
+
+      module _ {nodesAfter : List ℕ} {h : Verdict}
+          (eh : (q : Comparing text words lexemes names rawAfter places nodes p at j (v .rows) base nowhere) → Matched q nodesAfter h) where
+        -- It is refused by 12, 7 or 8.
+        pub matched-stops : (h .number ≡ 0 → ⊥) → (a : Answering text words lexemes names raw places nodes p at j base nowhere) → Taken a places nodesAfter h
+        matched-stops ne a = record {
+          stops = λ some later.
+              judged-is nowhere (a .known .defined) (a .function) at (a .command) later ∙ eo (list-in a) .goes-on z _ ∙ eh (to-compare a) .stops some _;
+          goes-on = λ e. absurd (ne e);
+          one-more = λ e. absurd (ne e);
+          few = λ e. absurd (ne e);
+          grammars-hold = a .reading .grammars-hold;
+        }
+
+        module _ (zh : h .number ≡ 0) where
+          -- The nodes of its body are written behind the others.
+          grown : (a : Answering text words lexemes names raw places nodes p at j base nowhere)
+              → Grown nodes base (h .rows) (bodyOf (a .known .defined) (a .function) (a .command) .term) nodesAfter
+          grown a =
+              let q = to-compare a in
+              let g = q .gathered in
+              let view = responseView (a .known .defined) (a .function) in
+              let l = item 4 (a .command) in
+              let ops = inside 4 (a .command) in
+              let m = eh q in
+              let b = body-item (command-list a) (g .by) (g .shaped) in
+              let shape = body-shaped (command-list a) (g .by) (g .shaped) in
+              let sized = term-size view refl l ops in
+              let taken = m .taken in
+              record {
+                plain = term-plain view refl l ops (sourceOf text words lexemes) (a .reading .lawful) (say-terms false (by-itself refl (b .stands)) shape);
+                label = _;
+                operands = _;
+                single = term-tree view refl l ops;
+                sized = taken ∙ g .counted ∙ sym sized;
+                room = omega (arith, taken, rows-room q);
+                is = m .written zh ∙ ap (λ (t : List ℕ). sets nodes (4 * base) t) (term-table view refl l ops);
+              }
+
+          module _ {placesAfter : List ℕ} {first : ℕ} (ef : first ≡ bodyAt lexemes at)
+              (put : placesAfter ≡ set (set places (592 + j) base) (2744 + j) first) where
+            -- Its body stands in the tables.
+            body-taken : (a : Answering text words lexemes names raw places nodes p at j base nowhere)
+                → OneMore places base (a .known) (a .reading .places-hold .all) j (bodyOf (a .known .defined) (a .function)
+                (a .command)) placesAfter nodesAfter (h .rows)
+            body-taken a =
+                let low = j-low a in
+                let counted = a .reading .counted in
+                let hold = held-in a in
+                let g = grown a in
+                let t = bodyOf (a .known .defined) (a .function) (a .command) .term in
+                let c = to-compare a .gathered in
+                record {
+                  places-hold = body-held (body-places places j base first low put) hold g (omega (arith, counted .defined-are, counted .few-defined))
+                      (omega (arith, counted .functions-are, counted .few-functions)) (omega (arith, counted .constraints-are, counted .few-constraints));
+                  begins = rw (node-put places j base first low put (omega (arith, hold .long))) (term-stands hold g);
+                  first-is = first-put places j base first low put (omega (arith, hold .long)) ∙ ef ∙ sym (body-first (command-list a) (c .by) (c .shaped));
+                  wider = λ n x s. stands-wider (hold .all) t s;
+                  same-bodies = λ n l. other-place places j base first low put (592 + n) (λ e. omega arith) (λ e. omega arith);
+                  same-firsts = λ n l. other-place places j base first low put (2744 + n) (λ e. omega arith) (λ e. omega arith);
+                }
+
+            -- It passes.
+            pub body-passes : (a : Answering text words lexemes names raw places nodes p at j base nowhere) → Taken a placesAfter nodesAfter h
+            body-passes a =
+                let counted = a .reading .counted in
+                let few = to-compare a .gathered .few in
+                let taken = eh (to-compare a) .taken in
+                record {
+                  stops = λ ne. absurd (ne zh);
+                  goes-on = λ e later.
+                      judged-is nowhere (a .known .defined) (a .function) at (a .command) later ∙ eo (list-in a) .goes-on z _ ∙ eh (to-compare a) .goes-on zh _;
+                  one-more = λ e. body-taken a;
+                  few = λ e. omega arith;
+                  grammars-hold = grammars-kept (body-places places j base first (j-low a) put) (a .reading .forms) (p .forms) (a .known .functions)
+                      (omega (arith, counted .functions-are, counted .few-functions)) (a .reading .grammars-hold);
+                }

@@ -1,0 +1,92 @@
+use Rattle.response.proofs.Comparing.{command-list, j-low}
+use Rattle.response.proofs.Taking.{body-passes, list-in, matched-stops, outline-stops, to-compare}
+use native.Mathlib.Omega.{arith}
+use mathlib.Core.Path.{refl}
+use lib.Seq.{lt-length-set}
+use borrow.Author.Needs.{needs}
+use Rattle.response.proofs.functions.read_body.Statement.{statement}
+use Rattle.response.proofs.functions.read_body.Tie as tie
+
+outline-requires : tie.Need-outline-requires
+outline-requires c κs = list-in (c .before .before .before .before .before .before .before .before .pre)
+
+same-length : tie.Need-same-length
+same-length c = search needs
+
+returns : tie.Need-returns
+returns c = outline-stops (c .before .before .before .before .outline .ensures) (c .if1 .taken)
+
+held-to-requires : tie.Need-held-to-requires
+held-to-requires c κs = to-compare (c .before .before .before .before .before .before .before .outline .ensures) (c .before .before .before .if1 .left) (c .before .before .before .before .before .before .before .before .before .before .before .before .before .before .before .before .pre)
+
+same-length-2 : tie.Need-same-length-2
+same-length-2 c = search needs
+
+same-length-3 : tie.Need-same-length-3
+same-length-3 c = search needs
+
+same-length-4 : tie.Need-same-length-4
+same-length-4 c = search needs
+
+returns-2 : tie.Need-returns-2
+returns-2 c = matched-stops (c .before .before .before .before .before .before .before .before .before .before .before .before .before .before .outline .ensures) (c .before .before .before .before .before .before .before .before .before .before .if1 .left) (c .before .before .before .before .before .before .held-to .ensures) (c .if2 .taken)
+
+body-word-requires : tie.Need-body-word-requires
+body-word-requires c κs = command-list (c .before .before .before .before .before .before .before .before .before .before .before .before .before .before .before .before .before .before .before .before .before .before .before .pre)
+
+add-places : tie.Need-add-places
+add-places c = omega (arith, j-low (c .before .before .before .before .before .before .before .before .before .before .before .before .before .before .before .before .before .before .before .before .before .before .before .before .pre))
+
+mul-places : tie.Need-mul-places
+mul-places c = omega (arith, j-low (c .before .before .before .before .before .before .before .before .before .before .before .before .before .before .before .before .before .before .before .before .before .before .before .before .pre), c .before .before .before .before .before .before .before .before .before .before .before .before .before .before .before .before .before .before .before .before .before .before .before .before .pre .reading .places-hold .long)
+
+slice-write-places : tie.Need-slice-write-places
+slice-write-places c = omega (arith, j-low (c .before .before .before .before .before .before .before .before .before .before .before .before .before .before .before .before .before .before .before .before .before .before .before .before .pre), c .before .before .before .before .before .before .before .before .before .before .before .before .before .before .before .before .before .before .before .before .before .before .before .before .pre .reading .places-hold .long)
+
+add-places-2 : tie.Need-add-places-2
+add-places-2 c = omega (arith, j-low (c .before .before .before .before .before .before .before .before .before .before .before .before .before .before .before .before .before .before .before .before .before .before .before .before .pre))
+
+mul-places-2 : tie.Need-mul-places-2
+mul-places-2 c = omega (arith, j-low (c .before .before .before .before .before .before .before .before .before .before .before .before .before .before .before .before .before .before .before .before .before .before .before .before .pre), c .before .before .before .before .before .before .before .before .before .before .before .before .before .before .before .before .before .before .before .before .before .before .before .before .pre .reading .places-hold .long)
+
+slice-write-places-2 : tie.Need-slice-write-places-2
+slice-write-places-2 c =
+    let given = c .before .before .before .before .before .before .before .before .before .before .before .before .before .before .before .before .before .before .before .before .before .before .before .before .pre in
+    lt-length-set (c .before .before .before .before .before .before .before .before .before .before .before .before .before .before .before .before .before .before .before .before .before .before .before .before .args .places .now) _ _ (omega (arith, j-low given, given .reading .places-hold .long))
+
+same-length-5 : tie.Need-same-length-5
+same-length-5 c = search needs
+
+same-length-6 : tie.Need-same-length-6
+same-length-6 c = search needs
+
+same-length-7 : tie.Need-same-length-7
+same-length-7 c = search needs
+
+returns-3 : tie.Need-returns-3
+returns-3 c =
+    body-passes (c .before .before .before .before .before .before .before .before .before .before .before .before .before .before .before .outline .ensures) (c .before .before .before .before .before .before .before .before .before .before .before .if1 .left) (c .before .before .before .before .before .before .before .held-to .ensures) (c .before .if2 .left) (c .body-word .ensures) refl
+
+pub read-body-spec : {M : Type 1} → statement M
+read-body-spec =
+    tie.close
+    (tie.spec
+    outline-requires
+    same-length
+    returns
+    held-to-requires
+    same-length-2
+    same-length-3
+    same-length-4
+    returns-2
+    body-word-requires
+    add-places
+    mul-places
+    slice-write-places
+    add-places-2
+    mul-places-2
+    slice-write-places-2
+    same-length-5
+    same-length-6
+    same-length-7
+    returns-3)

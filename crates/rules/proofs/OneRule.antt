@@ -1,0 +1,147 @@
+-- A rule that is gathered behind others.
+use Prim.Native.Nat.{ℕ, suc, _+_, _-_, _*_, _≤_, _<_, min}
+use native.Mathlib.Nat.{zero-add}
+use native.Mathlib.Omega.{arith}
+use mathlib.Core.Path.{_≡_, refl, sym, ap, _∙_}
+use mathlib.Core.List.{List, [], _∷_, _++_}
+use lib.ListN.{length, drop, set, length-append}
+use lib.Seq.{drop-append-seam, length-sets, sets}
+use Rattle.forest.specs.Forest.{size}
+use Rattle.forest.specs.Rows.{over}
+use Rattle.forest.proofs.Laws.{size-join}
+use Rattle.forest.proofs.Rows.{over-more}
+use Rattle.words.specs.Trees.{Lexeme, wordOf}
+use Rattle.lexemes.specs.Lists.{Items}
+use Rattle.gathering.specs.Steps.{GatheredRule, GatheringRule, TermNodes, WordPast}
+use Rattle.gathering.specs.Terms.{rawRule}
+use Rattle.gathering.proofs.Saying.{say-rule}
+use Rattle.sorts.proofs.Walked.{placed}
+use Rattle.rules.specs.Rules.{Ruled, nodesPast, rulePast, rulesOf, sides, startTable}
+use Rattle.rules.specs.Steps.{RuleAt, RuleGathered}
+use Rattle.rules.specs.declared.Gathered.{Gathered}
+use Rattle.rules.proofs.Listing.{first-past, length-starts, no-rule-past, nodes-more, nodes-within, sides-more, some-node, starts-append, still-past}
+
+-- two numbers written one after the other
+pub pair-written : (l : List ℕ) (i a b : ℕ) → set (set l i a) (i + 1) b ≡ sets l i (a ∷ b ∷ [])
+pair-written l i a b = let one : i + 1 ≡ suc i = omega arith in rw one
+
+-- the row of one rule more, written behind those of the rules
+starts-written : (table : List ℕ) (done : List Ruled) (r : Ruled) (more : List ℕ) → table ≡ startTable 0 done ++ more → 2 * length done + 2 ≤ length table
+    → sets table (2 * length done) (size (sides done) ∷ r .head ∷ []) ≡ over (startTable 0 (done ++ r ∷ [])) table
+unfolding startTable
+starts-written table done r more is room =
+    let starts = startTable 0 done in
+    let row = size (sides done) ∷ r .head ∷ [] in
+    let long = length-starts 0 done in
+    let all : startTable 0 (done ++ r ∷ []) ≡ starts ++ row = rw zero-add at (starts-append 0 done (r ∷ [])) in
+    let lent : table ≡ over starts table =
+    is ∙ ap (λ (l : List ℕ). starts ++ l) (sym (drop-append-seam starts more) ∙ ap (λ (l : List ℕ). drop (length starts) l) (sym is)) in
+    ap (λ (l : List ℕ). sets l (2 * length done) row) lent
+    ∙ ap (λ (i : ℕ). sets (over starts table) i row) (sym long)
+    ∙ over-more starts row table (omega arith)
+    ∙ ap (λ (l : List ℕ). over l table) (sym all)
+
+-- the rule of the non-terminal A that an item is
+abbrev ruled : (A : ℕ) → Lexeme → Items → Ruled
+ruled A l ops = record { head = A; first = wordOf l; side = rawRule l ops }
+
+module _ {lexemes : List ℕ} {at nowhere most nodes : ℕ} {raw rules : List ℕ} {g : Gathered} where
+  -- the rule and the rows behind which its nodes go
+  abbrev pub rule-here : RuleAt lexemes at nowhere most nodes raw rules g → GatheringRule lexemes at raw (g .row)
+  rule-here p = record {
+    source = p .source;
+    same = p .same;
+    label = p .label;
+    operands = p .operands;
+    end = p .end;
+    stands = p .stands;
+    shaped = p .shaped;
+    rows = record { before = sides (p .done); rest = p .holds .rest; is = p .holds .raw-is; counted = p .holds .rows; room = p .room };
+  }
+
+  module _ {rawAfter : List ℕ} {row : ℕ} (gathered : (q : GatheringRule lexemes at raw (g .row)) → GatheredRule q rawAfter row) where
+    -- its nodes
+    abbrev pub nodes-here : RuleAt lexemes at nowhere most nodes raw rules g → TermNodes lexemes rawAfter (g .row) row
+    nodes-here p =
+        let q = gathered (rule-here p) in
+        record {
+          source = p .source;
+          same = p .same;
+          before = sides (p .done);
+          F = rawRule (p .label) (p .operands);
+          rest = q .rest;
+          is = q .is;
+          begins = p .holds .rows;
+          ends = q .counted;
+          say = say-rule (p .stands) (p .shaped);
+        }
+
+    module _ {past : ℕ} (known : (q : TermNodes lexemes rawAfter (g .row) row) → WordPast q nodes nowhere past)
+        {place : ℕ} (least : place ≡ min (g .place) past) (A : ℕ) where
+      module _ (p : RuleAt lexemes at nowhere most nodes raw rules g) where
+        -- the rules that were gathered, and this one behind them
+        all : List Ruled
+        all = p .done ++ ruled A (p .label) (p .operands) ∷ []
+
+        -- there is one more
+        counted : g .rule + 1 ≡ length all
+        unfolding all
+        counted = rw length-append (omega (arith, p .holds .counted))
+
+        -- it is gathered behind them, whatever becomes of its start and of the word past a limit
+        one-more : {rulesAfter : List ℕ} (more : List ℕ) → (g .rule + 1 ≤ most → rulesAfter ≡ startTable 0 all ++ more) → length rulesAfter ≡ length rules
+            → {word : ℕ} → word ≡ min (rulePast nowhere most all) (min (nodesPast nowhere nodes (p .done)) past)
+            → RuleGathered p A rawAfter rulesAfter (record { row = row; rule = g .rule + 1; place = word })
+        unfolding all rulesOf
+        one-more more rules-are long is-word =
+            let q = gathered (rule-here p) in
+            let own = rawRule (p .label) (p .operands) in
+            let sides-are = sides-more (p .done) A (p .label) (p .operands) in
+            record {
+              rest = q .rest;
+              raw-is = rw sides-are (q .is);
+              raw-long = q .long;
+              rows = rw sides-are (q .counted);
+              counted = counted;
+              few = omega (arith, q .counted, size-join (sides (p .done)) own, some-node (p .label) (p .operands), p .holds .few);
+              more = more;
+              rules-are = rules-are;
+              rules-long = long;
+              room = omega (arith, p .holds .room);
+              place-is = omega (arith, is-word, nodes-more nowhere nodes (p .done) (ruled A (p .label) (p .operands)), known (nodes-here p));
+            }
+
+      -- its start and its non-terminal are put into the table, which has room for it
+      pub rule-put : g .rule < most → {rulesAfter : List ℕ} → rulesAfter ≡ sets rules (2 * g .rule) (g .row ∷ A ∷ [])
+          → (p : RuleAt lexemes at nowhere most nodes raw rules g)
+          → RuleGathered p A rawAfter rulesAfter (record { row = row; rule = g .rule + 1; place = place })
+      unfolding all rulesOf
+      rule-put h {rulesAfter} put p =
+          let done = p .done in
+          let starts = p .holds .rules-are (omega arith) in
+          let r = ruled A (p .label) (p .operands) in
+          let written = starts-written rules done r (p .holds .more) starts (omega (arith, p .holds .counted, p .holds .room)) in
+          let before = no-rule-past nowhere most done (omega (arith, p .holds .counted)) in
+          let now = no-rule-past nowhere most (all p) (omega (arith, counted p)) in
+          one-more p (drop (length (startTable 0 (all p))) rules) (λ _. put ∙ rw (p .holds .counted, p .holds .rows) written)
+          (ap length put ∙ length-sets rules (2 * g .rule) (g .row ∷ A ∷ [])) (omega (arith, p .holds .place-is))
+
+      -- it is the first for which there is no room
+      pub rule-past : most ≤ g .rule → g .rule ≡ most → {lesser : ℕ} → lesser ≡ min place at
+          → (p : RuleAt lexemes at nowhere most nodes raw rules g)
+          → RuleGathered p A rawAfter rules (record { row = row; rule = g .rule + 1; place = lesser })
+      unfolding all rulesOf
+      rule-past h last lesser p =
+          let done = p .done in
+          let before = no-rule-past nowhere most done (omega (arith, p .holds .counted)) in
+          let now = first-past nowhere most done (ruled A (p .label) (p .operands)) (omega (arith, p .holds .counted)) in
+          one-more p [] (λ (over : g .rule + 1 ≤ most). absurd (omega arith)) refl
+          (omega (arith, p .holds .place-is, nodes-within nowhere nodes done, placed (p .stands)))
+
+      -- it is behind that one
+      pub rule-behind : most ≤ g .rule → (g .rule ≡ most → ⊥) → (p : RuleAt lexemes at nowhere most nodes raw rules g)
+          → RuleGathered p A rawAfter rules (record { row = row; rule = g .rule + 1; place = place })
+      unfolding all rulesOf
+      rule-behind h other p =
+          let now = still-past nowhere most (p .done) (ruled A (p .label) (p .operands)) (omega (arith, p .holds .counted)) in
+          one-more p [] (λ (over : g .rule + 1 ≤ most). absurd (omega arith)) refl (omega (arith, p .holds .place-is))

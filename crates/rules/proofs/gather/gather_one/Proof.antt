@@ -1,0 +1,69 @@
+use Rattle.rules.proofs.OneRule.{nodes-here, rule-behind, rule-here, rule-past, rule-put}
+use borrow.Author.Needs.{needs}
+use Rattle.rules.proofs.gather.gather_one.Statement.{statement}
+use Rattle.rules.proofs.gather.gather_one.Tie as tie
+
+gather-rule-requires : tie.Need-gather-rule-requires
+gather-rule-requires c κs = search rule-here
+
+node-past-requires : tie.Need-node-past-requires
+node-past-requires c κs = search nodes-here
+
+least-requires : tie.Need-least-requires
+least-requires c κs = search needs
+
+put-rule-requires : tie.Need-put-rule-requires
+put-rule-requires c κs = search needs
+
+add-t23 : tie.Need-add-t23
+add-t23 c = search needs
+
+same-length : tie.Need-same-length
+same-length c = search needs
+
+same-length-2 : tie.Need-same-length-2
+same-length-2 c = search needs
+
+returns : tie.Need-returns
+returns c = search rule-put
+
+add-t24 : tie.Need-add-t24
+add-t24 c = search needs
+
+least-requires-2 : tie.Need-least-requires-2
+least-requires-2 c κs = search needs
+
+same-length-3 : tie.Need-same-length-3
+same-length-3 c = search needs
+
+returns-2 : tie.Need-returns-2
+returns-2 c = search rule-past
+
+add-t26 : tie.Need-add-t26
+add-t26 c = search needs
+
+same-length-4 : tie.Need-same-length-4
+same-length-4 c = search needs
+
+returns-3 : tie.Need-returns-3
+returns-3 c = search rule-behind
+
+pub gather-one-spec : {M : Type 1} → statement M
+gather-one-spec =
+    tie.close
+    (tie.spec
+    gather-rule-requires
+    node-past-requires
+    least-requires
+    put-rule-requires
+    add-t23
+    same-length
+    same-length-2
+    returns
+    add-t24
+    least-requires-2
+    same-length-3
+    returns-2
+    add-t26
+    same-length-4
+    returns-3)

@@ -1,0 +1,44 @@
+use Prim.Native.Nat.{_*_}
+use Rattle.rules.proofs.OneRule.{pair-written}
+use lib.ListN.{length-set}
+use native.Mathlib.Omega.{arith}
+use borrow.Author.Needs.{needs}
+use Rattle.rules.proofs.gather.put_rule.Statement.{statement}
+use Rattle.rules.proofs.gather.put_rule.Tie as tie
+
+mul-row : tie.Need-mul-row
+mul-row c = search needs
+
+mul-rules : tie.Need-mul-rules
+mul-rules c = search needs
+
+slice-write-rules : tie.Need-slice-write-rules
+slice-write-rules c = search needs
+
+add-rules : tie.Need-add-rules
+add-rules c = search needs
+
+mul-rules-2 : tie.Need-mul-rules-2
+mul-rules-2 c = search needs
+
+slice-write-rules-2 : tie.Need-slice-write-rules-2
+slice-write-rules-2 c = simp length-set (omega arith)
+
+same-length : tie.Need-same-length
+same-length c = search needs
+
+returns : tie.Need-returns
+returns c = pair-written (c .args .rules .now) (2 * c .args .rule) _ _
+
+pub put-rule-spec : {M : Type 1} → statement M
+put-rule-spec =
+    tie.close
+    (tie.spec
+    mul-row
+    mul-rules
+    slice-write-rules
+    add-rules
+    mul-rules-2
+    slice-write-rules-2
+    same-length
+    returns)

@@ -1,0 +1,37 @@
+-- Which command it is, by the code of its word.
+use Prim.Native.Nat.{ℕ}
+use Prim.Native.String.{String}
+use mathlib.Core.Bool.{true}
+use mathlib.Core.Path.{_≡_, refl, sym, ap, _∙_}
+use lib.Dec.{eqb}
+use borrow.Author.Tests.{eqb-true}
+use Rattle.reserved.proofs.Numbers.{isKnown}
+use Rattle.lexemes.specs.Lists.{Items, is, item}
+use Rattle.lexemes.specs.Table.{codeOf}
+use Rattle.lexemes.proofs.ByCode.{codeFor, word-code}
+
+-- The tests of a command's word, by its code.
+pub record Chosen (c : Items) (code : ℕ) : Type 0 where
+  pub sets : is "set-logic" (item 0 c) ≡ eqb code 8
+  pub declares : is "declare-var" (item 0 c) ≡ eqb code 9
+  pub defines : is "define-fun" (item 0 c) ≡ eqb code 10
+  pub synthesizes : is "synth-fun" (item 0 c) ≡ eqb code 11
+  pub constrains : is "constraint" (item 0 c) ≡ eqb code 12
+  pub ends : is "check-synth" (item 0 c) ≡ eqb code 13
+
+-- A command whose word is known.
+pub chosen : (word : String) → isKnown word ≡ true → (c : Items) → is word (item 0 c) ≡ true → Chosen c (codeFor word)
+unfolding codeFor
+chosen word known c h = record {
+  sets = told "set-logic" refl;
+  declares = told "declare-var" refl;
+  defines = told "define-fun" refl;
+  synthesizes = told "synth-fun" refl;
+  constrains = told "constraint" refl;
+  ends = told "check-synth" refl;
+}
+  where
+    told : (other : String) → isKnown other ≡ true → is other (item 0 c) ≡ eqb (codeFor word) (codeFor other)
+    told other k =
+        let same : codeOf (item 0 c) ≡ codeFor word = eqb-true _ _ (sym (word-code word known (item 0 c)) ∙ h) in
+        word-code other k (item 0 c) ∙ ap (λ (n : ℕ). eqb n (codeFor other)) same

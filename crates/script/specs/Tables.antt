@@ -1,0 +1,163 @@
+-- What is known after each command as tables: the table of names; a table of places; the nodes of bodies and constraints; and the forms of rules. The table of
+-- places has the signatures in front, then where each body and each constraint begins, four numbers for each synthesized function, and its rules.
+use Prim.Native.Nat.{ℕ, _+_, _*_, _≤_}
+use Prim.Native.String.{String}
+use mathlib.Core.Bool.{true}
+use mathlib.Core.List.{List, [], _∷_, _++_, map}
+use mathlib.Core.Path.{_≡_}
+use lib.ListN.{drop, getD, length, take}
+use Rattle.forest.specs.Forest.{size, tree}
+use Rattle.words.specs.Trees.{list}
+use Rattle.lexemes.specs.Lists.{Items, is, item}
+use Rattle.shapes.specs.Shapes.{commandShape}
+use Rattle.heading.specs.Heads.{allowed}
+use Rattle.lexemes.specs.Standing.{Stands as Standing}
+use Rattle.faults.specs.Steps.{Lawful}
+use Rattle.terms.specs.Labels.{Terms}
+use Rattle.terms.specs.Nodes.{AllPlain, nodeTable}
+use Rattle.terms.specs.Sorts.{Definition, Signature}
+use Rattle.meaning.specs.Tables.{BodiesAt, Stands}
+use Rattle.grammar.specs.Tables.{formTable, rightSides, ruleTable}
+use Rattle.sorting.specs.Tables.{RowsAre, functionRow as functionSignature}
+use Rattle.naming.specs.Scopes.{Defined, Function, definedNames, functionNames, inOrder, namesOf, signatureOf, sortsOf}
+use Rattle.naming.specs.Steps.{Names, sourceOf}
+use Rattle.naming.specs.Table.{definedRow, functionRow, namesFrom, ownArgumentRow, sortsFrom, variableRow}
+use Rattle.script.specs.Script.{Known, Read, knownAfter, passed, refused, tested}
+use Rattle.script.specs.declared.Progress.{Progress}
+use Rattle.script.specs.declared.Verdict.{Verdict}
+
+-- Where the numbers of bodies begin, behind 56 rows of signatures: 32 of `define-fun`s and 8 of synthesized functions.
+abbrev pub bodiesPlace : ℕ
+bodiesPlace = 560
+
+-- Where the numbers of constraints begin, 64 of them.
+abbrev pub constraintsPlace : ℕ
+constraintsPlace = 600
+
+-- Where the numbers of synthesized functions begin, four for each of 8.
+abbrev pub functionsPlace : ℕ
+functionsPlace = 664
+
+-- Where the rules of synthesized function j begin, behind the numbers of functions: two numbers for each of 128 rules.
+abbrev pub rulesPlace : (j : ℕ) → ℕ
+rulesPlace j = 32 + 256 * j
+
+-- Where the first words of the bodies of synthesized functions begin, behind their rules.
+abbrev pub firstsPlace : ℕ
+firstsPlace = 2744
+
+-- How many numbers the table of places has.
+abbrev pub placesLength : ℕ
+placesLength = 2752
+
+-- The numbers of each kind are those of what is known, and within the limits.
+pub record Counted (p : Progress) (k : Known) : Type 0 where
+  pub logic-is : p .logic ≡ k .logic
+  pub ended-is : p .ended ≡ k .ended
+  pub variables-are : p .variables ≡ length (k .variables)
+  pub defined-are : p .defined ≡ length (k .defined)
+  pub functions-are : p .functions ≡ length (k .functions)
+  pub constraints-are : p .constraints ≡ length (k .constraints)
+  pub few-variables : p .variables ≤ 16
+  pub few-defined : p .defined ≤ 32
+  pub few-functions : p .functions ≤ 8
+  pub few-constraints : p .constraints ≤ 64
+
+-- The arguments of functions, the last first, stand in their own rows.
+unfoldable pub ArgumentsHold : (names : List ℕ) → List Function → Type 0
+ArgumentsHold names [] = Unit {0}
+ArgumentsHold names (f ∷ earlier) =
+    (namesFrom names (ownArgumentRow (length earlier)) (length (f .arguments)) ≡ namesOf (f .arguments))
+    × (sortsFrom names (ownArgumentRow (length earlier)) (length (f .arguments)) ≡ sortsOf (f .arguments))
+    × (length (f .arguments) ≤ 8)
+    × ArgumentsHold names earlier
+
+-- The table of names has the names that are known.
+pub record NamesHold (names : List ℕ) (k : Known) : Type 0 where
+  pub table : Names names
+  pub variables-are : namesFrom names variableRow (length (k .variables)) ≡ namesOf (k .variables)
+  pub variable-sorts : sortsFrom names variableRow (length (k .variables)) ≡ sortsOf (k .variables)
+  pub defined-are : namesFrom names definedRow (length (k .defined)) ≡ inOrder (definedNames (k .defined))
+  pub functions-are : namesFrom names functionRow (length (k .functions)) ≡ inOrder (functionNames (k .functions))
+  pub arguments-are : ArgumentsHold names (k .functions)
+
+-- The definitions of `define-fun`s.
+abbrev pub definitionsOf : List Defined → List Definition
+definitionsOf ds = map (λ (d : Defined). d .definition) ds
+
+-- Their signatures.
+abbrev pub definedSignatures : List Defined → List Signature
+definedSignatures ds = map (λ (d : Defined). d .definition .signature) ds
+
+-- Terms, from number m on, begin at the nodes that the table has for constraints.
+unfoldable pub ConstraintsAt : (all : Terms) → (places : List ℕ) → (m : ℕ) → List Terms → Type 0
+ConstraintsAt all places m [] = Unit {0}
+ConstraintsAt all places m (t ∷ more) = Stands all (getD places (constraintsPlace + m) 0) t × ConstraintsAt all places (m + 1) more
+
+-- The tables have the signatures, the bodies and the constraints that are known, in so many rows of nodes.
+pub record PlacesHold (places nodes : List ℕ) (rows : ℕ) (k : Known) : Type 0 where
+  pub long : length places ≡ placesLength
+  pub defined-rows : RowsAre places 0 (definedSignatures (k .defined))
+  pub function-rows : RowsAre places functionSignature (map signatureOf (k .functions))
+  pub all : Terms
+  pub rest : List ℕ
+  pub nodes-are : nodes ≡ nodeTable all ++ rest
+  pub rows-are : rows ≡ size all
+  pub plain : AllPlain all
+  pub bodies-at : BodiesAt all (drop bodiesPlace places) 0 (definitionsOf (k .defined))
+  pub constraints-at : ConstraintsAt all places 0 (k .constraints)
+
+-- The numbers of function j, in the part of the table of places that begins with those of functions, and its rules and forms, in the first `rows` rows: where its
+-- forms begin, how many rows they take, how many rules there are, and how many `define-fun`s stand before it.
+pub record GrammarHeld (numbers forms : List ℕ) (rows : ℕ) (j : ℕ) (f : Function) : Type 0 where
+  pub rules-are : getD numbers (4 * j + 2) 0 ≡ length (f .grammar .rules)
+  pub few-rules : length (f .grammar .rules) ≤ 128
+  pub before-is : getD numbers (4 * j + 3) 0 ≡ f .before
+  pub table-is : take (2 * length (f .grammar .rules)) (drop (rulesPlace j) numbers) ≡ ruleTable 0 (f .grammar .rules)
+  pub forms-are : take (4 * getD numbers (4 * j + 1) 0) (drop (4 * getD numbers (4 * j) 0) forms) ≡ formTable (rightSides (f .grammar .rules))
+  pub within : getD numbers (4 * j) 0 + getD numbers (4 * j + 1) 0 ≤ rows
+  pub sized : getD numbers (4 * j + 1) 0 ≡ size (rightSides (f .grammar .rules))
+
+-- The same of every function, the last first.
+unfoldable pub GrammarsHold : (numbers forms : List ℕ) → (rows : ℕ) → List Function → Type 0
+GrammarsHold numbers forms rows [] = Unit {0}
+GrammarsHold numbers forms rows (f ∷ earlier) = GrammarHeld numbers forms rows (length earlier) f × GrammarsHold numbers forms rows earlier
+
+-- All tables hold what is known.
+pub record TablesHold (names places nodes forms : List ℕ) (p : Progress) (k : Known) : Type 0 where
+  pub counted : Counted p k
+  pub names-hold : NamesHold names k
+  pub places-hold : PlacesHold places nodes (p .nodes) k
+  pub grammars-hold : GrammarsHold (drop functionsPlace places) forms (p .forms) (k .functions)
+  pub forms-room : 4 * p .forms ≤ length forms
+
+-- A verdict is what a test finds.
+abbrev pub Says : Verdict → Read → Type 0
+Says v (refused number place) = (v .number ≡ number) × (v .place ≡ place)
+Says v (passed k) = v .number ≡ 0
+
+-- A command stands at word i of a lawful text of so many words, at most 4,096.
+pub record CommandAt (text words lexemes : List ℕ) (i nowhere : ℕ) : Type 0 where
+  pub close : ℕ
+  pub command : Items
+  pub more : Items
+  pub end : ℕ
+  pub stands : Standing (sourceOf text words lexemes) i (tree (list i close) command more) end
+  pub lawful : Lawful (sourceOf text words lexemes) nowhere
+  pub few : nowhere ≤ 4096
+
+-- A command of the word, of its shape, stands at word i, and what is known before it.
+pub record CommandOf (word : String) (text words lexemes : List ℕ) (p : Progress) (i nowhere : ℕ) : Type 0 where
+  pub here : CommandAt text words lexemes i nowhere
+  pub by : is word (item 0 (here .command)) ≡ true
+  pub shaped : commandShape (here .command) ≡ true
+  pub known : Known
+  pub counted : Counted p known
+
+-- What is known after a command.
+abbrev pub After : {word : String} {text words lexemes : List ℕ} {p : Progress} {i nowhere : ℕ} → CommandOf word text words lexemes p i nowhere → Known
+After c = knownAfter (c .known) (c .here .command)
+
+-- The verdict is that of the command's tests.
+abbrev pub Tested : {word : String} {text words lexemes : List ℕ} {p : Progress} {i nowhere : ℕ} → CommandOf word text words lexemes p i nowhere → Verdict → Type 0
+Tested {i = i} {nowhere = nowhere} c v = Says v (tested allowed nowhere (c .known) i (c .here .command) (After c))

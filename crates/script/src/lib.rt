@@ -1,0 +1,21 @@
+//! Scripts: what is known after each command, in tables.
+
+// What the commands before have said: whether the logic was set and `check-synth` was met, how many there are of each kind, and how many rows of nodes and of
+// forms are taken.
+pub struct Progress {
+    pub logic: bool,
+    pub ended: bool,
+    pub variables: usize,
+    pub defined: usize,
+    pub functions: usize,
+    pub constraints: usize,
+    pub nodes: usize,
+    pub forms: usize,
+}
+
+// The number of an answer and its word, 0 where a command passes; and how many rows of nodes or forms it takes.
+pub struct Verdict {
+    pub number: usize,
+    pub place: usize,
+    pub rows: usize,
+}

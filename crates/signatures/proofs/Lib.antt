@@ -1,0 +1,4 @@
+pub mod Written
+pub mod Writing
+pub mod Signed
+pub mod Sorted

@@ -1,0 +1,11 @@
+pub mod Within
+pub mod Small
+pub mod Headers
+pub mod Putting
+pub mod After
+pub mod Naming
+pub mod Grammars
+pub mod Sorting
+pub mod Holding
+pub mod Passing
+pub mod Testing

@@ -1,0 +1,238 @@
+-- The sorts of a `synth-fun`: what the tests of its sorts and of its grammar ask, where its names are in order.
+use Prim.Native.Nat.{ℕ, zero, suc, _+_, _-_, _*_, _≤_, _<_, min}
+use native.Mathlib.Nat.{add-zero}
+use native.Mathlib.Omega.{arith}
+use mathlib.Core.Path.{_≡_, refl, sym, ap, ap₂, _∙_}
+use mathlib.Core.List.{List, [], _∷_, _++_, append-assoc}
+use lib.ListN.{drop, getD, length, length-drop, length-map, length-replicate, take}
+use lib.Seq.{drop-at, length-sets, length-take-le, sets, sets-eq, take-all}
+use Rattle.forest.specs.Forest.{Node, count, nodesOf, none, tree}
+use Rattle.bits.specs.Sorts.{maxWidth}
+use Rattle.sorting.specs.Forms.{sortColumn}
+use Rattle.sorting.specs.Tables.{RowsAre, SortsAre}
+use Rattle.lexemes.specs.Lists.{Items, inside, item, nameOf}
+use Rattle.bodies.specs.Steps.{noSorts}
+use Rattle.gathering.specs.Terms.{Raw}
+use Rattle.naming.specs.Scopes.{Defined, View, formOf, namesOf, sortsOf}
+use Rattle.naming.specs.Steps.{sourceOf}
+use Rattle.naming.specs.Table.{nonTerminalRow, sortIn, sortsFrom}
+use Rattle.naming.specs.Unknown.{unknownIn}
+use Rattle.declaring.specs.New.{namedBy, newPairs}
+use Rattle.declaring.specs.Steps.{AllNarrow}
+use Rattle.sorts.specs.Steps.{HeaderAt}
+use Rattle.sorts.specs.Written.{grammarSorts, headerPlace}
+use Rattle.sorts.specs.declared.Fault.the-variants.{Empty, Unknown}
+use Rattle.sorts.proofs.Commands.{header}
+use Rattle.faults.specs.Faults.{scopeOf}
+use Rattle.faults.specs.Steps.{RulesFound, RulesSought, Signed}
+use Rattle.heading.specs.Heads.{headerNames}
+use Rattle.grammars.specs.Grammars.{grammarNames}
+use Rattle.grammars.specs.Steps.{Declared, ListsTested, Sorted, Sorting}
+use Rattle.rules.specs.Rules.{sides}
+use Rattle.rules.specs.declared.Gathered.{Gathered}
+use Rattle.signatures.specs.Steps.{Listed, Listing}
+use Rattle.signatures.proofs.Sorted.{rows-before}
+use Rattle.script.specs.Script.{Known, argumentsOf, grammarPlace, scope, sortingPlace, viewOf}
+use Rattle.script.specs.Tables.{definedSignatures}
+use Rattle.script.specs.declared.Progress.{Progress}
+use Rattle.synthesizing.specs.Steps.{Unsorted, formsSaid, ruledBy}
+use Rattle.synthesizing.specs.declared.Header.{Header}
+use Rattle.synthesizing.proofs.Within.{past-neither, past-none}
+use Rattle.synthesizing.proofs.Small.{Small, closes-within, grammar-is, name-is, nodes-rise, nodes-say}
+use Rattle.synthesizing.proofs.Small.{rules-trees, small, sorting-is, synth-at, synth-named, synth-shaped}
+use Rattle.synthesizing.proofs.After.{named-long}
+use Rattle.synthesizing.proofs.Grammars.{forms-size, length-forms}
+
+-- No place is past nowhere.
+unknown-most : (nowhere : ℕ) (view : View) (nodes : List (Node Raw)) → unknownIn nowhere view nodes ≤ nowhere
+unfolding unknownIn
+unknown-most nowhere view [] = omega arith
+unknown-most nowhere view (n ∷ more) = omega (arith, unknown-most nowhere view more)
+
+-- The sort in one of the rows.
+sort-in-row : (names : List ℕ) (r n j : ℕ) → j < n → sortIn names (r + j) ≡ getD (sortsFrom names r n) j 0
+unfolding sortsFrom
+sort-in-row names r zero j h = absurd (omega arith)
+sort-in-row names r (suc n) zero h = rw add-zero
+sort-in-row names r (suc n) (suc j) h = let next : r + suc j ≡ r + 1 + j = omega arith in rw next (sort-in-row names (r + 1) n j (omega arith))
+
+-- The sort of one of the pairs.
+narrow-sort : (F : Items) (j : ℕ) → j < count F → AllNarrow F → getD (sortsOf (namedBy F)) j 0 ≤ maxWidth
+unfolding AllNarrow count namedBy
+narrow-sort none j h narrow = absurd (omega arith)
+narrow-sort (tree l ops more) zero h narrow = narrow .0
+narrow-sort (tree l ops more) (suc j) h narrow = narrow-sort more j (omega arith) (narrow .1)
+
+-- What is written into a table from a place on stands there.
+pub written-there : (l : List ℕ) (at : ℕ) (vs : List ℕ) → at + length vs ≤ length l → drop at (sets l at vs) ≡ vs ++ drop (at + length vs) l
+written-there l at vs h = ap (drop at) (sets-eq vs l at h) ∙ rw append-assoc (drop-at (take at l) _ at (length-take-le at l (omega arith)))
+
+-- The sorts of the nodes of its rules.
+abbrev pub columnSaid : Known → Items → List ℕ
+columnSaid k c = sortColumn (scopeOf (viewOf k c)) (formOf (viewOf k c) (sides (ruledBy c)))
+
+module _ {text words lexemes names raw places forms rules : List ℕ} {p : Progress} {g : Gathered} {h : Header} {i nowhere : ℕ}
+    (s : Unsorted text words lexemes names raw places forms rules p g h i nowhere) where
+  -- it is within its limits
+  pub limits : Small (s .given .of .here .command) (p .functions)
+  limits = small (s .given .of) (s .limited)
+
+  -- its non-terminals may be put into their rows
+  pub listing-here : Listing names places (h .listed)
+  unfolding sortsFrom
+  listing-here = record {
+    table = s .names-hold .table;
+    few = omega (arith, s .header .listed-are, limits .few-listed);
+    room = omega (arith, s .given .places-hold .long);
+    narrow = λ j low t e.
+        let pairs = inside 4 (s .given .of .here .command) in
+        let here : sortIn names (nonTerminalRow + j) ≡ t = cc in
+        let below : j < count pairs = omega (arith, s .header .listed-are) in
+        rw (← here, sort-in-row names nonTerminalRow (count pairs) j below, s .listed-sorts) (narrow-sort pairs j below (limits .narrow-listed));
+  }
+
+  -- its header stands there
+  abbrev pub header-at : HeaderAt lexemes i
+  header-at = header (synth-at (s .given .of))
+
+  -- there is room for the forms
+  pub forms-fit : 4 * p .forms + length (formsSaid (s .given .of .known) (s .given .of .here .command)) ≤ length (s .lentForms)
+  forms-fit =
+      let view = viewOf (s .given .of .known) (s .given .of .here .command) in
+      let F = sides (ruledBy (s .given .of .here .command)) in
+      let end = closes-within (s .given .of) in
+      omega (arith, length-forms (formOf view F), forms-size view F, s .rows-are, s .within, s .given .within, s .given .forms-room)
+
+  -- the table of forms is as long as it was
+  pub forms-long : length forms ≡ length (s .lentForms)
+  forms-long = ap length (s .forms-are) ∙ length-sets (s .lentForms) (4 * p .forms) (formsSaid (s .given .of .known) (s .given .of .here .command))
+
+  -- the forms start within it
+  pub forms-start : 4 * p .forms ≤ length forms
+  forms-start = omega (arith, forms-long, forms-fit)
+
+  -- and stand there
+  pub forms-there : drop (4 * p .forms) forms
+      ≡ formsSaid (s .given .of .known) (s .given .of .here .command)
+      ++ drop (4 * p .forms + length (formsSaid (s .given .of .known) (s .given .of .here .command))) (s .lentForms)
+  forms-there =
+      ap (drop (4 * p .forms)) (s .forms-are)
+      ∙ written-there (s .lentForms) (4 * p .forms) (formsSaid (s .given .of .known) (s .given .of .here .command)) forms-fit
+
+  -- up to its end
+  pub forms-part : take (length forms - 4 * p .forms) (drop (4 * p .forms) forms)
+      ≡ formsSaid (s .given .of .known) (s .given .of .here .command)
+      ++ drop (4 * p .forms + length (formsSaid (s .given .of .known) (s .given .of .here .command))) (s .lentForms)
+  forms-part = take-all (length forms - 4 * p .forms) (drop (4 * p .forms) forms) (omega (arith, length-drop (4 * p .forms) forms)) ∙ forms-there
+
+  -- the names of its rules are known
+  pub names-known : unknownIn nowhere (viewOf (s .given .of .known) (s .given .of .here .command)) (nodesOf (sides (ruledBy (s .given .of .here .command))))
+      ≡ nowhere
+  names-known =
+      let k = s .given .of .known in
+      let c = s .given .of .here .command in
+      let own = namesOf (argumentsOf c) ++ nameOf (item 1 c) ∷ scope k in
+      let nodes = nodesOf (sides (ruledBy c)) in
+      let parts = past-neither (headerNames nowhere (scope k) c) (grammarNames nowhere own (viewOf k c) c) (rw (name-is (s .given .of)) at (s .named)) in
+      let known = past-none (newPairs nowhere own (inside 4 c)) (grammarSorts Unknown nowhere c) (unknownIn nowhere (viewOf k c) nodes) (parts .1) .2 in
+      omega (arith, unknown-most nowhere (viewOf k c) nodes)
+
+  -- what its grammar lists may be tested
+  abbrev pub lists-here : Declared text words lexemes names i (h .listed)
+  lists-here = record {
+    close = s .given .of .here .close;
+    command = s .given .of .here .command;
+    more = s .given .of .here .more;
+    end = s .given .of .here .end;
+    stands = s .given .of .here .stands;
+    named = synth-named (s .given .of);
+    shaped = synth-shaped (s .given .of);
+    table = s .names-hold .table;
+    view = viewOf (s .given .of .known) (s .given .of .here .command);
+    names-are = rw (s .header .listed-are) (s .listed-are);
+    sorts-are = rw (s .header .listed-are) (s .listed-sorts);
+    few = omega (arith, s .header .listed-are, limits .few-listed);
+  }
+
+  module _ {placesBetween : List ℕ} (listed : Listed names places (h .listed) placesBetween) where
+    -- the non-terminals' sorts stand in their rows
+    pub nonTerminals-are : SortsAre placesBetween 40 (sortsOf (namedBy (inside 4 (s .given .of .here .command))))
+    nonTerminals-are = rw (s .header .listed-are, s .listed-sorts) at (listed .sorts-are)
+
+    -- the rows hold what its rules see
+    pub signed : Signed placesBetween (viewOf (s .given .of .known) (s .given .of .here .command))
+    unfolding RowsAre
+    signed =
+        let k = s .given .of .known in
+        let counted = s .given .of .counted in
+        let long = length-map (k .defined) (λ (d : Defined). d .definition .signature) in
+        record {
+          defined-are =
+              rows-before listed 0 (definedSignatures (k .defined)) (omega (arith, long, counted .defined-are, counted .few-defined))
+              (s .given .places-hold .defined-rows);
+          functions-are = tt;
+          nonTerminals-are = nonTerminals-are;
+          few-defined = omega (arith, counted .defined-are, counted .few-defined);
+          few-functions = omega arith;
+          few-nonTerminals = omega (arith, named-long (inside 4 (s .given .of .here .command)), limits .few-listed);
+        }
+
+    module _ {column : List ℕ} (blank : column ≡ noSorts) where
+      -- there is a row for each node
+      pub column-room : g .row ≤ length column
+      column-room = rw (blank, length-replicate) (omega (arith, s .within, closes-within (s .given .of), s .given .of .here .few))
+
+      -- the sorts of its rules may be looked for
+      abbrev pub sorting-here : Sorting lexemes raw (take (length forms - 4 * p .forms) (drop (4 * p .forms) forms)) placesBetween column i (g .row) nowhere
+      sorting-here = record {
+        command = synth-at (s .given .of);
+        sought = record {
+          source = sourceOf text words lexemes;
+          lawful = s .given .of .here .lawful;
+          F = sides (ruledBy (s .given .of .here .command));
+          rest = s .rest;
+          is-raw = s .raw-is;
+          counted = s .rows-are;
+          say = nodes-say (s .given .of);
+          rising = nodes-rise (s .given .of);
+          view = viewOf (s .given .of .known) (s .given .of .here .command);
+          known = names-known;
+          more = drop (4 * p .forms + length (formsSaid (s .given .of .known) (s .given .of .here .command))) (s .lentForms);
+          is-forms = forms-part;
+          signed = signed;
+          room = column-room;
+        };
+        is = refl;
+      }
+
+      module _ {columnAfter : List ℕ} {within : ℕ}
+          (tested : (q : Sorting lexemes raw (take (length forms - 4 * p .forms) (drop (4 * p .forms) forms)) placesBetween column i (g .row) nowhere)
+          → Sorted q columnAfter within) where
+        -- the least word at fault in a sort
+        pub sorting-place : {head : ℕ} → ((q : HeaderAt lexemes i) → head ≡ headerPlace Empty nowhere (q .here .operands))
+            → {r : ℕ} → r ≡ min head within → r ≡ sortingPlace nowhere (s .given .of .known) (s .given .of .here .command)
+        sorting-place by-head e = e ∙ ap₂ min (by-head header-at) (tested sorting-here .place-is) ∙ sym (sorting-is (s .given .of))
+
+        -- the sorts of its rules may be compared
+        abbrev pub rules-here : RulesSought raw rules placesBetween columnAfter (g .rule) (h .listed)
+        rules-here = record {
+          ruled = ruledBy (s .given .of .here .command);
+          single = rules-trees (s .given .of);
+          rest = s .rest;
+          is-raw = s .raw-is;
+          others = s .more;
+          is-rules = s .rules-are;
+          counted = s .counted;
+          view = viewOf (s .given .of .known) (s .given .of .here .command);
+          more = drop (length (columnSaid (s .given .of .known) (s .given .of .here .command))) column;
+          is-column = tested sorting-here .column-is;
+          sorts-are = nonTerminals-are;
+          listed-are = s .header .listed-are ∙ sym (named-long (inside 4 (s .given .of .here .command)));
+          few = omega (arith, s .header .listed-are, limits .few-listed);
+        }
+
+        -- the least word at fault in the grammar
+        pub grammar-place : {lists : ℕ} → ((q : Declared text words lexemes names i (h .listed)) → ListsTested q nowhere lists)
+            → {misfits : ℕ} → ((q : RulesSought raw rules placesBetween columnAfter (g .rule) (h .listed)) → RulesFound q nowhere misfits)
+            → {r : ℕ} → r ≡ min lists misfits → r ≡ grammarPlace nowhere (s .given .of .known) (s .given .of .here .command)
+        grammar-place by-lists by-rules e = e ∙ ap₂ min (by-lists lists-here) (by-rules rules-here) ∙ sym (grammar-is (s .given .of))

@@ -1,0 +1,146 @@
+-- The tests of a `synth-fun` in their order: what each asks of those before it, and the verdict on its limits and its names.
+use Prim.Native.Nat.{ℕ, _+_, _*_, _≤_, _<_, min}
+use native.Mathlib.Omega.{arith}
+use mathlib.Core.Path.{_≡_, refl, sym, ap, _∙_}
+use mathlib.Core.List.{List}
+use lib.ListN.{length, length-append, length-replicate}
+use lib.Seq.{length-sets}
+use Rattle.forest.specs.Forest.{Forest, nodesOf}
+use Rattle.forest.proofs.Rows.{length-rows}
+use Rattle.gathering.specs.Table.{rawRow, rawTable, uncounted, uncountedTable}
+use Rattle.gathering.specs.Terms.{Raw}
+use Rattle.sorts.specs.Steps.{HeaderAt, SynthFunAt}
+use Rattle.sorts.proofs.Commands.{header}
+use Rattle.heading.specs.Heads.{allowed, headerPast}
+use Rattle.grammars.specs.Steps.{GrammarAt, Limited}
+use Rattle.rules.specs.Rules.{sides}
+use Rattle.rules.specs.declared.Gathered.{Gathered}
+use Rattle.script.specs.Limits.{commandPast}
+use Rattle.script.specs.Script.{limitPlace}
+use Rattle.script.specs.Tables.{After}
+use Rattle.script.specs.declared.Progress.{Progress}
+use Rattle.script.proofs.Verdicts.{says-limit, says-name}
+use Rattle.synthesizing.specs.Steps.{Gathering, HeaderOf, NamesFound, Synthesized, Synthesizing, Unnamed, Unsorted, formsSaid, noRules, ruledBy}
+use Rattle.synthesizing.specs.declared.Header.{Header}
+use Rattle.synthesizing.proofs.Small.{closes-next, closes-within, limit-is, nodes-within, small, synth-at}
+use Rattle.synthesizing.proofs.Passing.{refused-so}
+
+-- The table of nodes is as long before they are counted.
+tables-long : (F : Forest Raw) → length (rawTable F) ≡ length (uncountedTable F)
+unfolding rawTable uncountedTable
+tables-long F = length-rows rawRow 4 (λ n. refl) (nodesOf F) ∙ sym (length-rows uncounted 4 (λ n. refl) (nodesOf F))
+
+module _ {text words lexemes names raw places forms : List ℕ} {p : Progress} {i nowhere : ℕ}
+    (d : Synthesizing text words lexemes names raw places forms p i nowhere) {rules : List ℕ} (blank : rules ≡ noRules) where
+  -- The rules of the command may be gathered.
+  abbrev pub grammar-at : GrammarAt lexemes raw rules i
+  grammar-at = record {
+    command = synth-at (d .of);
+    room = omega (arith, closes-next (d .of), closes-within (d .of), d .raw-room);
+    rules-room = rw (blank, length-replicate) (omega arith);
+  }
+
+  module _ {rawAfter rulesAfter : List ℕ} {g : Gathered} (gathered : (q : GrammarAt lexemes raw rules i) → Limited q nowhere rawAfter rulesAfter g)
+      {place : ℕ} (found : (q : HeaderAt lexemes i)
+      → place ≡ min (commandPast nowhere 8 (p .functions) i) (min (headerPast allowed nowhere (q .here .operands)) (g .place))) where
+    -- What the test of the limits finds.
+    limit-found : place ≡ limitPlace allowed nowhere (d .of .known) i (d .of .here .command)
+    limit-found = found (header (synth-at (d .of))) ∙ rw (d .of .counted .functions-are, gathered grammar-at .place-is) (sym (limit-is (d .of)))
+
+    -- Something is past a limit.
+    pub limit-refused : place < nowhere → Synthesized d names rawAfter places forms (record { number = 4; place = place; rows = 0 })
+    limit-refused past =
+        refused-so d (omega arith)
+        (says-limit allowed nowhere (d .of .known) i (d .of .here .command) (After (d .of)) _
+        (record { number-is = refl; place-is = limit-found; found = past })) (gathered grammar-at .raw-long) refl
+
+    -- Nothing is.
+    module _ (fine : nowhere ≤ place) where
+      pub limits-pass : nowhere ≤ limitPlace allowed nowhere (d .of .known) i (d .of .here .command)
+      limits-pass = rw limit-found at fine
+
+      pub rules-few : g .rule ≤ 128
+      rules-few = omega (arith, small (d .of) limits-pass .few-rules, gathered grammar-at .counted)
+
+      -- The names may be tested.
+      abbrev pub gathering-here : Gathering text words lexemes names rawAfter places forms rulesAfter p g i nowhere
+      gathering-here = record {
+        lent = raw;
+        given = d;
+        limited = limits-pass;
+        raw-long = gathered grammar-at .raw-long;
+        rest = gathered grammar-at .rest;
+        raw-is = gathered grammar-at .raw-is;
+        rows-are = gathered grammar-at .rows-are;
+        within = omega (arith, gathered grammar-at .rows-are, nodes-within (d .of));
+        more = gathered grammar-at .more;
+        rules-are = gathered grammar-at .rules-are rules-few;
+        counted = gathered grammar-at .counted;
+        few = rules-few;
+        rules-long = gathered grammar-at .rules-long ∙ rw (blank, length-replicate);
+      }
+
+module _ {text words lexemes names raw places forms rules : List ℕ} {p : Progress} {g : Gathered} {i nowhere : ℕ}
+    (s : Gathering text words lexemes names raw places forms rules p g i nowhere)
+    {h : Header} (by-header : (q : SynthFunAt lexemes i) → HeaderOf (q .here .operands) h) where
+  -- The names of the command may be put.
+  abbrev pub unnamed-here : Unnamed text words lexemes names raw forms p (h .arguments) (g .row) i nowhere
+  unnamed-here = record {
+    of = s .given .of;
+    names-hold = s .given .names-hold;
+    limited = s .limited;
+    arguments-are = by-header (synth-at (s .given .of)) .arguments-are;
+    rest = s .rest;
+    raw-is = s .raw-is;
+    rows-are = s .rows-are;
+    room = omega (arith, s .within, s .given .within, s .given .forms-room, closes-within (s .given .of));
+  }
+
+  module _ {namesAfter rawAfter formsAfter : List ℕ} {place : ℕ}
+      (found : (u : Unnamed text words lexemes names raw forms p (h .arguments) (g .row) i nowhere) → NamesFound u namesAfter rawAfter formsAfter place) where
+    -- The tables are as long as they were.
+    pub raw-kept : length rawAfter ≡ length (s .lent)
+    raw-kept =
+        let F = sides (ruledBy (s .given .of .here .command)) in
+        ap length (found unnamed-here .raw-is)
+        ∙ length-append (rawTable F) (s .rest)
+        ∙ ap (λ (n : ℕ). n + length (s .rest)) (tables-long F)
+        ∙ sym (length-append (uncountedTable F) (s .rest))
+        ∙ sym (ap length (s .raw-is))
+        ∙ s .raw-long
+
+    forms-kept : length formsAfter ≡ length forms
+    forms-kept = ap length (found unnamed-here .forms-are) ∙ length-sets forms (4 * p .forms) (formsSaid (s .given .of .known) (s .given .of .here .command))
+
+    -- A name is at fault.
+    pub names-refused : place < nowhere → Synthesized (s .given) namesAfter rawAfter places formsAfter (record { number = 7; place = place; rows = 0 })
+    names-refused fault =
+        refused-so (s .given) (omega arith)
+        (says-name allowed nowhere (s .given .of .known) i (s .given .of .here .command) (After (s .given .of)) _ (s .limited)
+        (record { number-is = refl; place-is = found unnamed-here .place-is; found = fault })) raw-kept forms-kept
+
+    -- None is, and the sorts may be tested.
+    abbrev pub unsorted-here : nowhere ≤ place → Unsorted text words lexemes namesAfter rawAfter places formsAfter rules p g h i nowhere
+    unsorted-here fine = record {
+      lentNames = names;
+      lentRaw = s .lent;
+      lentForms = forms;
+      given = s .given;
+      limited = s .limited;
+      named = rw (found unnamed-here .place-is) at fine;
+      raw-long = raw-kept;
+      header = by-header (synth-at (s .given .of));
+      names-hold = found unnamed-here .names-hold;
+      listed-are = found unnamed-here .listed-are;
+      listed-sorts = found unnamed-here .listed-sorts;
+      rest = s .rest;
+      raw-is = found unnamed-here .raw-is;
+      forms-are = found unnamed-here .forms-are;
+      rows-are = s .rows-are;
+      within = s .within;
+      more = s .more;
+      rules-are = s .rules-are;
+      counted = s .counted;
+      few = s .few;
+      rules-long = s .rules-long;
+    }

@@ -1,0 +1,7 @@
+pub mod Starts
+pub mod Numbers
+pub mod Wording
+pub mod Commands
+pub mod Answers
+pub mod Both
+pub mod Promised

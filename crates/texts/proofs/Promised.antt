@@ -1,0 +1,40 @@
+-- What is promised of a script that passes, from its bytes.
+use Prim.Native.Nat.{ℕ}
+use native.Mathlib.Omega.{arith}
+use mathlib.Core.List.{List, [], append-nil}
+use mathlib.Core.Path.{_≡_, refl, sym}
+use Rattle.words.specs.Reading.{readingOf}
+use Rattle.words.specs.Table.{wordTable}
+use Rattle.words.specs.Words.{wordsOf}
+use Rattle.readings.specs.Limits.{scriptLimits}
+use Rattle.readings.specs.declared.Reading.{Reading}
+use Rattle.readings.specs.declared.Reading.the-variants.{Whole, Refused}
+use Rattle.lexemes.specs.Standing.{itemsOf}
+use Rattle.lexemes.specs.Table.{lexemeTable}
+use Rattle.lexemes.proofs.Wholes.{text-stands}
+use Rattle.heading.specs.Heads.{allowed}
+use Rattle.script.specs.Script.{Known, Read, passed, readAll, refused, start}
+use Rattle.promises.specs.Sorted.{Sorted}
+use Rattle.promises.proofs.Sorted.{passed-sorted}
+use Rattle.texts.specs.Outcome.{ScriptOutcome, byCommands, byWords, said, scriptOutcome}
+
+-- A refusal says nothing.
+not-said : {A : Type 0} {number offset : ℕ} {k : Known} → ScriptOutcome.faulty number offset ≡ said k → A
+not-said e = let z : _≡_ {A = ℕ} 0 1 = cc in absurd (omega arith)
+
+-- What the commands say is what was read.
+by-commands : (text : List ℕ) (read : Read) {k : Known} → byCommands text read ≡ said k → read ≡ passed k
+by-commands text (refused number place) e = not-said e
+by-commands text (passed k) e = cc
+
+-- Every rule, body and constraint of a script that passes has its sort.
+pub script-sorted : (text : List ℕ) {k : Known} → scriptOutcome text ≡ said k → Sorted k
+unfolding scriptOutcome
+script-sorted text {k} e = go (readingOf scriptLimits text) refl e
+  where
+    go : (reading : Reading) → readingOf scriptLimits text ≡ reading → byWords text reading ≡ said k → Sorted k
+    go (Refused fault place n) whole h = not-said h
+    go (Whole n) whole h =
+        let stands = text-stands scriptLimits text n whole (wordTable (wordsOf text)) (lexemeTable text (wordsOf text)) [] []
+        (sym (append-nil (wordTable (wordsOf text)))) (sym (append-nil (lexemeTable text (wordsOf text)))) in
+        passed-sorted allowed n (itemsOf text) stands (by-commands text (readAll allowed n start (itemsOf text)) h)

@@ -1,0 +1,40 @@
+-- The offsets of a text's words.
+use Prim.Native.Nat.{ℕ, zero, suc, _≤_, _<_}
+use native.Mathlib.Omega.{arith}
+use mathlib.Core.Path.{_≡_, refl, sym, _∙_}
+use mathlib.Core.List.{List, [], _∷_}
+use lib.ListN.{drop, length}
+use Rattle.forest.proofs.Lists.{stands}
+use Rattle.words.specs.Table.{startAt}
+use Rattle.words.specs.Words.{Word, wordsOf}
+use Rattle.lexemes.specs.Standing.{WordsOf}
+use Rattle.lexemes.proofs.Said.{word-says}
+use Rattle.texts.specs.Outcome.{offsetOf, startOf}
+use Rattle.texts.specs.Steps.{Placed}
+
+-- the offset of a word that is there
+start-there : (past : ℕ) (ws : List Word) (i : ℕ) (w : Word) (later : List Word) → drop i ws ≡ w ∷ later → startOf past ws i ≡ w .start
+unfolding startOf
+start-there past [] zero w later e = let z : _≡_ {A = ℕ} 0 1 = cc in absurd (omega arith)
+start-there past [] (suc i) w later e = let z : _≡_ {A = ℕ} 0 1 = cc in absurd (omega arith)
+start-there past (v ∷ ws) zero w later e = let q : v ≡ w = cc in rw q
+start-there past (v ∷ ws) (suc i) w later e = start-there past ws i w later e
+
+-- and of one past the last
+start-past : (past : ℕ) (ws : List Word) (i : ℕ) → length ws ≤ i → startOf past ws i ≡ past
+unfolding startOf
+start-past past [] i h = refl
+start-past past (w ∷ ws) zero h = absurd (omega arith)
+start-past past (w ∷ ws) (suc i) h = start-past past ws i (omega arith)
+
+module _ {text words : List ℕ} {count : ℕ} (placed : Placed text words count) {i : ℕ} where
+  -- the word table has the offset of each word
+  pub offset-there : i < count → startAt words i ≡ offsetOf text i
+  offset-there h =
+      let st = stands (wordsOf text) i (omega (arith, placed .counted)) in
+      let given : WordsOf text words i = record { rest = placed .rest; is-words = placed .is-words; word = st .here; later = _; here = st .is } in
+      word-says given 1 (omega arith) ∙ sym (start-there (length text) (wordsOf text) i (st .here) _ (st .is))
+
+  -- past the last word the offset is the text's length
+  pub offset-past : count ≤ i → length text ≡ offsetOf text i
+  offset-past h = sym (start-past (length text) (wordsOf text) i (omega (arith, placed .counted)))

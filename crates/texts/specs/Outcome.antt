@@ -1,0 +1,82 @@
+-- What is read of a script and of a response, from their bytes: the words, then the commands, each refusal by its offset.
+use Prim.Native.Nat.{ℕ, zero, suc}
+use mathlib.Core.Bool.{cond, _||_}
+use mathlib.Core.List.{List, [], _∷_}
+use lib.Dec.{eqb, ltb}
+use lib.ListN.{length}
+use Rattle.words.specs.Reading.{readingOf}
+use Rattle.words.specs.Words.{Word, wordsOf}
+use Rattle.readings.specs.Answers.{faultNumber}
+use Rattle.readings.specs.Limits.{responseLimits, scriptLimits}
+use Rattle.readings.specs.declared.Reading.{Reading}
+use Rattle.readings.specs.declared.Reading.the-variants.{Whole, Refused}
+use Rattle.lexemes.specs.Standing.{itemsOf}
+use Rattle.heading.specs.Heads.{allowed}
+use Rattle.script.specs.Script.{Known, Read, passed, readAll, refused, start}
+use Rattle.response.specs.Response.{Answered, Body, answered, bodies, inScriptOrder, refused as declined}
+use Rattle.texts.specs.declared.Answer.{Answer}
+
+-- The offset of word n of the words; `past`, where there are not so many.
+unfoldable pub startOf : (past : ℕ) → List Word → (n : ℕ) → ℕ
+startOf past [] n = past
+startOf past (w ∷ ws) zero = w .start
+startOf past (w ∷ ws) (suc n) = startOf past ws n
+
+-- The offset of a word of a text: "text length if the text ends early".
+abbrev pub offsetOf : (text : List ℕ) → (n : ℕ) → ℕ
+offsetOf text n = startOf (length text) (wordsOf text) n
+
+-- A refusal by its number and its offset; or what the script says.
+pub data ScriptOutcome : Type 0 where
+  faulty : (number offset : ℕ) → ScriptOutcome
+  said : Known → ScriptOutcome
+
+-- What the commands give.
+abbrev pub byCommands : (text : List ℕ) → Read → ScriptOutcome
+byCommands text (refused number place) = faulty number (offsetOf text place)
+byCommands text (passed k) = said k
+
+-- What the words give, and then the commands.
+abbrev pub byWords : (text : List ℕ) → Reading → ScriptOutcome
+byWords text (Refused fault place n) = faulty (faultNumber fault) place
+byWords text (Whole n) = byCommands text (readAll allowed n start (itemsOf text))
+
+-- The script: its words, then its commands.
+unfoldable pub scriptOutcome : (text : List ℕ) → ScriptOutcome
+scriptOutcome text = byWords text (readingOf scriptLimits text)
+
+-- A refusal by its number and its offset; or the bodies.
+pub data ResponseOutcome : Type 0 where
+  faulty : (number offset : ℕ) → ResponseOutcome
+  given : List Body → ResponseOutcome
+
+-- What the commands of a response give; 10 and 11 have the place 0.
+abbrev pub byAnswers : (text : List ℕ) → Answered → ResponseOutcome
+byAnswers text (declined number place) = faulty number (cond (eqb number 10 || eqb number 11) 0 (offsetOf text place))
+byAnswers text (bodies bs) = given bs
+
+-- What the words of a response give, and then its commands.
+abbrev pub byResponse : Known → (text : List ℕ) → Reading → ResponseOutcome
+byResponse k text (Refused fault place n) = faulty (faultNumber fault) place
+byResponse k text (Whole n) = byAnswers text (answered allowed n (k .defined) (inScriptOrder (k .functions)) (itemsOf text))
+
+-- The response to a script that says this: its words "likewise", then its commands.
+unfoldable pub responseOutcome : Known → (text : List ℕ) → ResponseOutcome
+responseOutcome k text = byResponse k text (readingOf responseLimits text)
+
+-- The answer of a response.
+abbrev pub responseAnswer : ResponseOutcome → Answer
+responseAnswer (faulty number offset) = record { number = number; text = 1; place = offset }
+responseAnswer (given bs) = record { number = 0; text = 3; place = 0 }
+
+-- The answer of a script, and of the response where it passes.
+abbrev pub scriptAnswer : (response : List ℕ) → ScriptOutcome → Answer
+scriptAnswer response (faulty number offset) = record { number = number; text = 0; place = offset }
+scriptAnswer response (said k) = responseAnswer (responseOutcome k response)
+
+-- The answer of both texts: first 1 for a text that is too long, "script, response"; then the script, then the response. 0 says that both pass.
+unfoldable pub textsAnswer : (script response : List ℕ) → Answer
+textsAnswer script response =
+    cond (ltb (scriptLimits .bytes) (length script)) (record { number = 1; text = 0; place = length script })
+    (cond (ltb (responseLimits .bytes) (length response)) (record { number = 1; text = 1; place = length response })
+    (scriptAnswer response (scriptOutcome script)))

@@ -1,0 +1,83 @@
+-- What the reading of texts asks and gives.
+use Prim.Native.Nat.{ℕ, _+_, _*_, _≤_}
+use mathlib.Core.List.{List, _++_}
+use mathlib.Core.Path.{_≡_}
+use lib.ListN.{length}
+use Rattle.words.specs.Reading.{readingOf}
+use Rattle.words.specs.Table.{wordTable}
+use Rattle.words.specs.Words.{wordsOf}
+use Rattle.lexemes.specs.Table.{lexemeTable}
+use Rattle.readings.specs.Answers.{numberOf, passed}
+use Rattle.readings.specs.declared.Limits.{Limits}
+use Rattle.readings.specs.declared.Reading.{Reading}
+use Rattle.readings.specs.declared.Reading.the-variants.{Whole}
+use Rattle.naming.specs.Steps.{Names}
+use Rattle.script.specs.Script.{Known}
+use Rattle.script.specs.Tables.{TablesHold, placesLength}
+use Rattle.script.specs.declared.Progress.{Progress}
+use Rattle.script.specs.declared.Verdict.{Verdict}
+use Rattle.reader.specs.declared.Step.{Step}
+use Rattle.response.specs.Steps.{BodiesHeld}
+use Rattle.texts.specs.Outcome.{ResponseOutcome, ScriptOutcome, faulty, given, responseOutcome, said, scriptOutcome}
+
+-- A row for each word that the limits allow, and no more in the word table.
+pub record Room (limits : Limits) (words values lexemes : List ℕ) : Type 0 where
+  pub words-room : length words ≡ 5 * limits .words
+  pub values-room : limits .words ≤ length values
+  pub lexemes-room : 3 * limits .words ≤ length lexemes
+
+-- A text is read whole, and the tables begin with its words and lexemes.
+pub record Worded (limits : Limits) (text words lexemes : List ℕ) (n : ℕ) : Type 0 where
+  pub whole : readingOf limits text ≡ Whole n
+  pub few : n ≤ limits .words
+  pub rest : List ℕ
+  pub more : List ℕ
+  pub is-words : words ≡ wordTable (wordsOf text) ++ rest
+  pub is-lexemes : lexemes ≡ lexemeTable text (wordsOf text) ++ more
+
+-- What is found in the words of a text; where none is refused, the tables hold them.
+pub record Lexed (limits : Limits) (text words lexemes : List ℕ) (r : Reading) : Type 0 where
+  pub found : r ≡ readingOf limits text
+  pub worded : numberOf r ≡ 0 → Worded limits text words lexemes (passed r)
+
+-- The word table begins with the words of a text, which are so many.
+pub record Placed (text words : List ℕ) (count : ℕ) : Type 0 where
+  pub rest : List ℕ
+  pub is-words : words ≡ wordTable (wordsOf text) ++ rest
+  pub counted : count ≡ length (wordsOf text)
+
+-- Tables of the sizes that "4,096 words" of a script and "2,048" of a response ask for.
+pub record Lent (names raw places nodes forms : List ℕ) : Type 0 where
+  pub table : Names names
+  pub long : length places ≡ placesLength
+  pub raw-room : length raw ≡ 4 * 4096
+  pub nodes-room : length nodes ≡ 4 * 6144
+  pub forms-room : length forms ≡ 4 * 4096
+
+-- What was read of a script: a refusal with its number and offset; or what it says, which the tables hold, in no more rows than words.
+abbrev pub ScriptTold : ScriptOutcome → (names places nodes forms : List ℕ) → Step → Type 0
+ScriptTold (ScriptOutcome.faulty number offset) names places nodes forms s = (s .number ≡ number) × (s .place ≡ offset)
+ScriptTold (said k) names places nodes forms s = (s .number ≡ 0) × TablesHold names places nodes forms (s .progress) k × (s .progress .nodes ≤ 4096)
+
+-- The same, by the script's text.
+pub record ScriptRead (text names places nodes forms : List ℕ) (s : Step) : Type 0 where
+  pub told : ScriptTold (scriptOutcome text) names places nodes forms s
+
+-- The tables hold what a script says, and there is room for a response.
+pub record Ready (names raw places nodes : List ℕ) (p : Progress) : Type 0 where
+  pub known : Known
+  pub forms : List ℕ
+  pub tables : TablesHold names places nodes forms p known
+  pub few : p .nodes ≤ 4096
+  pub raw-room : length raw ≡ 4 * 4096
+  pub nodes-room : length nodes ≡ 4 * 6144
+
+-- What was read of a response: a refusal with its number and offset; or the bodies, which the tables hold.
+abbrev pub ResponseTold : ResponseOutcome → Known → (places nodes : List ℕ) → (rows : ℕ) → Verdict → Type 0
+ResponseTold (ResponseOutcome.faulty number offset) k places nodes rows v = (v .number ≡ number) × (v .place ≡ offset)
+ResponseTold (given bs) k places nodes rows v = (v .number ≡ 0) × BodiesHeld places nodes rows k bs
+
+-- The same, by the response's text.
+pub record ResponseRead {names raw places nodes : List ℕ} {p : Progress} (q : Ready names raw places nodes p) (text placesAfter nodesAfter : List ℕ)
+    (v : Verdict) : Type 0 where
+  pub told : ResponseTold (responseOutcome (q .known) text) (q .known) placesAfter nodesAfter (p .nodes + v .rows) v

@@ -1,0 +1,102 @@
+//! A response, from its bytes.
+use crate::lexed::offset_of;
+use crate::lexed::read_lexemes;
+use readings::answers::number_of;
+use readings::answers::passed_of;
+use readings::answers::place_of;
+use readings::response_limits;
+use response::answers::read_response;
+use script::Progress;
+use script::Verdict;
+ghost use mathlib.Core.Path.{_≡_};
+ghost use lib.ListN.{length};
+ghost use mathlib.Core.Bool.{_||_, cond};
+ghost use lib.Dec.{eqb};
+ghost use Rattle.texts.specs.Outcome.{offsetOf};
+ghost use Rattle.texts.specs.Steps.{Placed, Ready, ResponseRead};
+
+// The number of a response that is `fail`.
+const FAIL: usize = 10;
+
+// The number of a response that is `infeasible`.
+const INFEASIBLE: usize = 11;
+
+// Room for the rows of a response's words.
+fn word_rows() -> [u32; 10240]
+    ensures { λ r. ⌜ length r ≡ 10240 ⌝ }
+{
+    [0; 10240]
+}
+
+// Room for the values of a response's words.
+fn word_values() -> [u64; 2048]
+    ensures { λ r. ⌜ length r ≡ 2048 ⌝ }
+{
+    [0; 2048]
+}
+
+// Room for the lexemes of a response.
+fn lexeme_rows() -> [u64; 6144]
+    ensures { λ r. ⌜ length r ≡ 6144 ⌝ }
+{
+    [0; 6144]
+}
+
+// The offset of a refusal of a response, by its number and its word; 10 and 11 have the offset 0.
+fn refusal_offset(text: &[u8], words: &[u32], count: usize, number: usize, word: usize) -> usize
+    requires { ⌜ Placed (now text) (now words) count ⌝ }
+    ensures { λ r. ⌜ r ≡ cond (eqb number 10 || eqb number 11) 0 (offsetOf (now (text .entry)) word) ⌝ }
+{
+    if (number == FAIL) | (number == INFEASIBLE) {
+        return 0;
+    }
+    offset_of(text, words, count, word)
+}
+
+// Reads a response to a script whose tables are given: its bodies stand in the tables, or it is refused at an offset.
+pub fn read_response_text(
+    text: &[u8],
+    names: &[u8],
+    raw: &mut [u64],
+    places: &mut [u64],
+    nodes: &mut [u64],
+    progress: Progress,
+) -> Verdict
+    requires { ⌜ Ready (now names) (now raw) (now places) (now nodes) progress ⌝ }
+    ensures { λ r. ⌜ ((q : Ready (now (names .entry)) (now (raw .entry)) (now (places .entry)) (now (nodes .entry)) progress) → ResponseRead q (now (text .entry)) (now (places .exit)) (now (nodes .exit)) r) ⌝ }
+{
+    let mut words = word_rows();
+    let mut values = word_values();
+    let mut lexemes = lexeme_rows();
+    let reading = read_lexemes(
+        text,
+        response_limits(),
+        &mut words,
+        &mut values,
+        &mut lexemes,
+    );
+    if number_of(reading) != 0 {
+        return Verdict {
+            number: number_of(reading) as usize,
+            place: place_of(reading),
+            rows: 0,
+        };
+    }
+    let count = passed_of(reading);
+    let verdict = read_response(
+        text,
+        &words,
+        &lexemes[..3 * count],
+        names,
+        raw,
+        places,
+        nodes,
+        progress,
+        count,
+    );
+    Verdict {
+        number: verdict.number,
+        place: refusal_offset(text, &words, count, verdict.number, verdict.place),
+        rows: verdict.rows,
+    }
+}

@@ -1,0 +1,94 @@
+//! A script, from its bytes.
+use crate::lexed::offset_of;
+use crate::lexed::read_lexemes;
+use reader::Step;
+use reader::scripts::read_script;
+use readings::answers::number_of;
+use readings::answers::passed_of;
+use readings::answers::place_of;
+use readings::script_limits;
+use script::Progress;
+ghost use mathlib.Core.Path.{_≡_};
+ghost use lib.ListN.{length};
+ghost use Rattle.texts.specs.Steps.{Lent, ScriptRead};
+
+// Room for the rows of a script's words.
+fn word_rows() -> [u32; 20480]
+    ensures { λ r. ⌜ length r ≡ 20480 ⌝ }
+{
+    [0; 20480]
+}
+
+// Room for the values of a script's words.
+fn word_values() -> [u64; 4096]
+    ensures { λ r. ⌜ length r ≡ 4096 ⌝ }
+{
+    [0; 4096]
+}
+
+// Room for the lexemes of a script.
+fn lexeme_rows() -> [u64; 12288]
+    ensures { λ r. ⌜ length r ≡ 12288 ⌝ }
+{
+    [0; 12288]
+}
+
+// The refusal of a word of a script, by its number and its offset.
+fn refused_word(number: usize, place: usize) -> Step
+    ensures { λ r. ⌜ (r .number ≡ number) × (r .place ≡ place) ⌝ }
+{
+    let progress = Progress {
+        logic: false,
+        ended: false,
+        variables: 0,
+        defined: 0,
+        functions: 0,
+        constraints: 0,
+        nodes: 0,
+        forms: 0,
+    };
+    Step {
+        number,
+        place,
+        progress,
+    }
+}
+
+// Reads a script: the tables hold what it says, or it is refused at an offset.
+pub fn read_script_text(
+    text: &[u8],
+    names: &mut [u8],
+    raw: &mut [u64],
+    places: &mut [u64],
+    nodes: &mut [u64],
+    forms: &mut [u64],
+) -> Step
+    requires { ⌜ Lent (now names) (now raw) (now places) (now nodes) (now forms) ⌝ }
+    ensures { λ r. ⌜ ScriptRead (now (text .entry)) (now (names .exit)) (now (places .exit)) (now (nodes .exit)) (now (forms .exit)) r ⌝ }
+{
+    let mut words = word_rows();
+    let mut values = word_values();
+    let mut lexemes = lexeme_rows();
+    let reading = read_lexemes(text, script_limits(), &mut words, &mut values, &mut lexemes);
+    if number_of(reading) != 0 {
+        return refused_word(number_of(reading) as usize, place_of(reading));
+    }
+    let count = passed_of(reading);
+    let step = read_script(
+        text,
+        &words,
+        &lexemes[..3 * count],
+        names,
+        raw,
+        places,
+        &mut nodes[..16384],
+        forms,
+        count,
+    );
+    let progress = step.progress;
+    Step {
+        number: step.number,
+        place: offset_of(text, &words, count, step.place),
+        progress,
+    }
+}

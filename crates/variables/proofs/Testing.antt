@@ -1,0 +1,149 @@
+-- The tests of a `declare-var`, one after the other.
+use Prim.Native.Nat.{ℕ, _+_, _≤_, _<_, min}
+use native.Mathlib.Omega.{arith}
+use mathlib.Core.List.{List}
+use mathlib.Core.Path.{_≡_, refl, ap, ap₂, _∙_}
+use lib.Dec.{ltb}
+use borrow.Author.Tests.{le-ltb, lt-ltb, ltb-true}
+use Rattle.lexemes.specs.Lists.{inside, item}
+use Rattle.sorts.specs.Steps.{SortAt}
+use Rattle.sorts.specs.Written.{sortPlace}
+use Rattle.sorts.specs.declared.Fault.the-variants.{TooWide, Unknown, Empty}
+use Rattle.heading.specs.Heads.{allowed}
+use Rattle.naming.specs.Table.{argumentRow, namesFrom, variableRow}
+use Rattle.declaring.specs.Steps.{NameTested, NewName}
+use Rattle.declaring.proofs.Members.{same-name}
+use Rattle.script.specs.Limits.{commandPast}
+use Rattle.script.specs.Script.{grammarPlace, limitPlace, namePlace, sortingPlace}
+use Rattle.script.specs.Tables.{Tested}
+use Rattle.script.specs.declared.Progress.{Progress}
+use Rattle.script.specs.declared.Verdict.{Verdict}
+use Rattle.script.proofs.Names.{few-before, same-scope, scopeBefore}
+use Rattle.script.proofs.Places.{command-below, command-word, inside-below, item-below, no-fault, sort-narrow}
+use Rattle.script.proofs.Verdicts.{says-limit, says-name, says-passed, says-sorting}
+use Rattle.variables.specs.Steps.{Added, Adding, Declared, Declaring, LimitFound, NameFound}
+use Rattle.variables.proofs.Parts.{is-declaring, name-item, parts, sort-here, variable-here}
+use Rattle.variables.proofs.Putting.{names-declared, variable-put}
+
+module _ {lexemes : List ℕ} {i : ℕ} (variables at nowhere : ℕ) {wide : ℕ}
+    (known : (s : SortAt lexemes i) → wide ≡ sortPlace TooWide nowhere (s .here .label) (s .here .operands)) where
+  -- There are fewer variables than there may be.
+  pub limit-few : variables < 16 → {r : ℕ} → r ≡ min nowhere wide → (s : SortAt lexemes i) → LimitFound s variables at nowhere r
+  limit-few h e s = e ∙ rw (lt-ltb variables 16 h) (ap (min nowhere) (known s))
+
+  -- There are as many.
+  pub limit-many : 16 ≤ variables → {r : ℕ} → r ≡ min at wide → (s : SortAt lexemes i) → LimitFound s variables at nowhere r
+  limit-many h e s = e ∙ rw (le-ltb variables 16 h) (ap (min at) (known s))
+
+module _ {text words lexemes names : List ℕ} {p : Progress} {i nowhere : ℕ} where
+  -- Its name is a new one.
+  abbrev pub name-new : Declaring text words lexemes names p i nowhere → NewName text words lexemes names (scopeBefore p argumentRow) argumentRow 0 (i + 2)
+  name-new d =
+      let x = variable-here (d .of) in
+      record {
+        label = name-item x .label;
+        operands = name-item x .operands;
+        more = name-item x .more;
+        end = name-item x .end;
+        stands = name-item x .stands;
+        a-symbol = parts x .named;
+        table = d .names-hold .table;
+        few = few-before (d .of .counted) argumentRow (omega arith);
+        fits = omega arith;
+      }
+
+  -- The word of a name at fault.
+  pub name-found : {name : ℕ} → ((q : NewName text words lexemes names (scopeBefore p argumentRow) argumentRow 0 (i + 2)) → NameTested q nowhere name)
+      → {unknown : ℕ} → ((s : SortAt lexemes (i + 3)) → unknown ≡ sortPlace Unknown nowhere (s .here .label) (s .here .operands))
+      → {r : ℕ} → r ≡ min name unknown → (d : Declaring text words lexemes names p i nowhere) → NameFound d r
+  unfolding namesFrom
+  name-found tested known e d =
+      let same = same-scope (d .of .counted) argumentRow (d .names-hold) in
+      e
+      ∙ ap₂ min
+      (tested (name-new d) ∙ same-name nowhere _ _ same (item 1 (d .of .here .command)))
+      (known (sort-here (variable-here (d .of))))
+
+  -- Whatever the verdict is, but for one that passes, the table makes no difference.
+  refused : (d : Declaring text words lexemes names p i nowhere) {after : List ℕ} {v : Verdict} → Tested (d .of) v → (v .number ≡ 0 → ⊥) → Declared d after v
+  refused d tested faulty = record { verdict-is = tested; names-hold = λ e. absurd (faulty e) }
+
+  module _ {limit : ℕ} (limits : (s : SortAt lexemes (i + 3)) → LimitFound s (p .variables) i nowhere limit) where
+    -- The first place is that of the definition.
+    limit-is : (d : Declaring text words lexemes names p i nowhere) → limit ≡ limitPlace allowed nowhere (d .of .known) i (d .of .here .command)
+    unfolding limitPlace
+    limit-is d =
+        let c = d .of .here .command in
+        let wide = sortPlace TooWide nowhere (item 2 c) (inside 2 c) in
+        limits (sort-here (variable-here (d .of)))
+        ∙ ap (λ (n : ℕ). min (commandPast nowhere (allowed .variables) n i) wide) (d .of .counted .variables-are)
+        ∙ rw (is-declaring (d .of) .declares)
+
+    -- The command is past a limit.
+    pub past-limit : limit < nowhere → (d : Declaring text words lexemes names p i nowhere)
+        → Declared d names (record { number = 4; place = limit; rows = 0 })
+    past-limit h d = refused d (says-limit allowed nowhere _ i _ _ _ (record { number-is = refl; place-is = limit-is d; found = h })) (λ e. omega arith)
+
+    module _ (limited : nowhere ≤ limit) where
+      -- There is a row for the variable.
+      pub one-more : Declaring text words lexemes names p i nowhere → p .variables < 16
+      one-more d =
+          let first = command-word (d .of .here) in
+          ltb-true (p .variables) 16 (no-fault (ltb (p .variables) 16) first (omega (arith, limits (sort-here (variable-here (d .of))))))
+
+      -- The variable can be put into its row.
+      abbrev pub adding : Declaring text words lexemes names p i nowhere → Adding text words lexemes names (variableRow + p .variables) i
+      adding d =
+          let x = d .of .here in
+          let held = inside 2 (x .command) in
+          let width = item-below (omega (arith, command-word x)) 2 held (inside-below nowhere 2 (x .command) (command-below x)) in
+          record {
+            here = variable-here (d .of);
+            narrow =
+                sort-narrow nowhere (item 2 (x .command)) held (width .first) (omega (arith, limits (sort-here (variable-here (d .of)))));
+            short = x .lawful .short;
+            table = d .names-hold .table;
+            fits = omega (arith, one-more d);
+          }
+
+      module _ {name : ℕ} (names-tested : (q : Declaring text words lexemes names p i nowhere) → NameFound q name) where
+        -- The second place is that of the definition.
+        name-is : (d : Declaring text words lexemes names p i nowhere) → name ≡ namePlace nowhere (d .of .known) (d .of .here .command)
+        unfolding namePlace
+        name-is d = names-tested d ∙ rw (is-declaring (d .of) .declares)
+
+        -- A name is at fault.
+        pub name-faulty : name < nowhere → (d : Declaring text words lexemes names p i nowhere)
+            → Declared d names (record { number = 7; place = name; rows = 0 })
+        name-faulty h d =
+            refused d (says-name allowed nowhere _ i _ _ _ (omega (arith, limit-is d)) (record { number-is = refl; place-is = name-is d; found = h }))
+            (λ e. omega arith)
+
+        module _ (named : nowhere ≤ name) {sort : ℕ}
+            (sorts : (s : SortAt lexemes (i + 3)) → sort ≡ sortPlace Empty nowhere (s .here .label) (s .here .operands)) where
+          -- The third place is that of the definition.
+          sort-is : (d : Declaring text words lexemes names p i nowhere) → sort ≡ sortingPlace nowhere (d .of .known) (d .of .here .command)
+          unfolding sortingPlace
+          sort-is d = sorts (sort-here (variable-here (d .of))) ∙ rw (is-declaring (d .of) .declares)
+
+          -- The sort is at fault.
+          pub sort-faulty : sort < nowhere → (d : Declaring text words lexemes names p i nowhere)
+              → Declared d names (record { number = 8; place = sort; rows = 0 })
+          sort-faulty h d =
+              refused d (says-sorting allowed nowhere _ i _ _ _ (omega (arith, limit-is d)) (omega (arith, name-is d))
+              (record { number-is = refl; place-is = sort-is d; found = h })) (λ e. omega arith)
+
+          -- No rule is at fault, since there is none.
+          no-rules : (d : Declaring text words lexemes names p i nowhere) → nowhere ≤ grammarPlace nowhere (d .of .known) (d .of .here .command)
+          unfolding grammarPlace
+          no-rules d = rw (is-declaring (d .of) .declares) (omega arith)
+
+          -- The command passes, and its variable is known.
+          pub passes : nowhere ≤ sort
+              → {after : List ℕ} → ((a : Adding text words lexemes names (variableRow + p .variables) i) → Added a after)
+              → (d : Declaring text words lexemes names p i nowhere) → Declared d after (record { number = 0; place = 0; rows = 0 })
+          passes sorted added d = record {
+            verdict-is =
+                says-passed allowed nowhere _ i _ _ _ (omega (arith, limit-is d)) (omega (arith, name-is d)) (omega (arith, sort-is d)) (no-rules d) refl;
+            names-hold = λ e. names-declared d (one-more d) (variable-put (adding d) (added (adding d)));
+          }

@@ -1,0 +1,43 @@
+use native.Mathlib.Omega.{arith}
+use Rattle.variables.proofs.Parts.{sort-here, sort-room}
+use Rattle.variables.proofs.Putting.{bytes-fit, sort-small, variable-added}
+use borrow.Author.Needs.{needs}
+use Rattle.variables.proofs.command.add_variable.Statement.{statement}
+use Rattle.variables.proofs.command.add_variable.Tie as tie
+
+add-sort-of : tie.Need-add-sort-of
+add-sort-of c = omega (arith, sort-room (c .before .before .before .before .pre .here))
+
+sort-of-requires : tie.Need-sort-of-requires
+sort-of-requires c κs = search sort-here
+
+cast-sort : tie.Need-cast-sort
+cast-sort c = record { fits = omega (arith, sort-small (c .before .before .before .before .before .pre) (c .sort-of .ensures)) }
+
+add-bytes-at : tie.Need-add-bytes-at
+add-bytes-at c = omega (arith, sort-room (c .before .before .before .before .before .before .pre .here))
+
+bytes-at-requires : tie.Need-bytes-at-requires
+bytes-at-requires c κs = search needs
+
+put-name-requires : tie.Need-put-name-requires
+put-name-requires c κs = (search needs, (search needs, search bytes-fit))
+
+same-length : tie.Need-same-length
+same-length c = search needs
+
+returns : tie.Need-returns
+returns c = search variable-added
+
+pub add-variable-spec : {M : Type 1} → statement M
+add-variable-spec =
+    tie.close
+    (tie.spec
+    add-sort-of
+    sort-of-requires
+    cast-sort
+    add-bytes-at
+    bytes-at-requires
+    put-name-requires
+    same-length
+    returns)

@@ -1,0 +1,63 @@
+use native.Mathlib.Omega.{arith}
+use Rattle.variables.proofs.Parts.{sort-here, sort-room, variable-here}
+use Rattle.variables.proofs.Testing.{adding, name-faulty, passes, past-limit, sort-faulty}
+use borrow.Author.Needs.{needs}
+use Rattle.variables.proofs.command.declare_var.Statement.{statement}
+use Rattle.variables.proofs.command.declare_var.Tie as tie
+
+limit-place-requires : tie.Need-limit-place-requires
+limit-place-requires c κs = sort-here (variable-here (c .before .before .before .before .pre .of))
+
+returns : tie.Need-returns
+returns c = search past-limit
+
+name-place-requires : tie.Need-name-place-requires
+name-place-requires c κs = search needs
+
+same-length : tie.Need-same-length
+same-length c = search needs
+
+returns-2 : tie.Need-returns-2
+returns-2 c = search name-faulty
+
+add-sort-place : tie.Need-add-sort-place
+add-sort-place c = omega (arith, sort-room (variable-here (c .before .before .before .before .before .before .before .before .before .pre .of)))
+
+sort-place-requires : tie.Need-sort-place-requires
+sort-place-requires c κs = sort-here (variable-here (c .before .before .before .before .before .before .before .before .before .pre .of))
+
+same-length-2 : tie.Need-same-length-2
+same-length-2 c = search needs
+
+returns-3 : tie.Need-returns-3
+returns-3 c = search sort-faulty
+
+add-add-variable : tie.Need-add-add-variable
+add-add-variable c = search needs
+
+add-variable-requires : tie.Need-add-variable-requires
+add-variable-requires c κs = search adding
+
+same-length-3 : tie.Need-same-length-3
+same-length-3 c = search needs
+
+returns-4 : tie.Need-returns-4
+returns-4 c = search passes
+
+pub declare-var-spec : {M : Type 1} → statement M
+declare-var-spec =
+    tie.close
+    (tie.spec
+    limit-place-requires
+    returns
+    name-place-requires
+    same-length
+    returns-2
+    add-sort-place
+    sort-place-requires
+    same-length-2
+    returns-3
+    add-add-variable
+    add-variable-requires
+    same-length-3
+    returns-4)

@@ -1,0 +1,2 @@
+//! The command that declares a variable: `declare-var`.
+pub mod command;
