@@ -1,6 +1,11 @@
-/* Sverdhyll for C: the reader of words.
+/* Sverdhyll for C: the checker, and the reader of words.
 
-   Every function may be called with any bytes and any numbers. A text is a pointer and a length; where the length is 0 the pointer is not read. */
+   Every function may be called with any bytes and any numbers. A text or a list is a pointer and a length; where the length is 0 the pointer is not read.
+
+   Which static library has which function (`rt staticlib NAME` makes target/staticlib/libNAME.a; link one of them):
+
+     libchecker.a   sverdhyll_check, sverdhyll_word
+     libwords.a     sverdhyll_words, sverdhyll_word */
 #ifndef SVERDHYLL_H
 #define SVERDHYLL_H
 
@@ -11,10 +16,93 @@
 extern "C" {
 #endif
 
+/* The numbers of the answers. */
+enum {
+    SVERDHYLL_ACCEPTED = 0,
+    SVERDHYLL_TOO_LONG = 1,
+    SVERDHYLL_BAD_WORD = 2,
+    SVERDHYLL_BRACKET = 3,
+    SVERDHYLL_PAST_LIMIT = 4,
+    SVERDHYLL_UNKNOWN_SHAPE = 5,
+    SVERDHYLL_NOT_CARRIED = 6,
+    SVERDHYLL_NAME = 7,
+    SVERDHYLL_SORT = 8,
+    SVERDHYLL_GRAMMAR = 9,
+    SVERDHYLL_FAIL = 10,
+    SVERDHYLL_INFEASIBLE = 11,
+    SVERDHYLL_HEADER = 12,
+    SVERDHYLL_NO_DERIVATION = 13,
+    SVERDHYLL_FALSE = 14,
+    SVERDHYLL_BUDGET_ENDED = 15,
+    SVERDHYLL_BAD_POINTS = 16
+};
+
+/* Which text an answer speaks of. */
+enum {
+    SVERDHYLL_SCRIPT = 0,
+    SVERDHYLL_RESPONSE = 1,
+    SVERDHYLL_POINTS = 2,
+    SVERDHYLL_NONE = 3 /* no text, or the area */
+};
+
+/* Sizes that are not the caller's choice. */
+enum {
+    SVERDHYLL_AREA = 32768,         /* how many entries the area must have */
+    SVERDHYLL_LIST = 4096,          /* how many of them are for the list of one function */
+    SVERDHYLL_UNUSED = 65535,       /* an entry that no list uses */
+    SVERDHYLL_MOST_SCRIPT = 32768,  /* bytes */
+    SVERDHYLL_MOST_RESPONSE = 8192, /* bytes */
+    SVERDHYLL_MOST_POINTS = 1024    /* numbers */
+};
+
+/* Checks a response against a script at points within a budget. Returns the answer's number, and puts which text it speaks of, its place, its second number and
+   the units spent where `text`, `place`, `second` and `units` point (none of which may be NULL).
+
+   `points` has one number for each declared variable, point after point; a Bool is 0 or 1. With no variables it is empty, and one empty point is taken.
+
+   | No. | Meaning                              | Text    | Place                                             | Second       | Units |
+   |-----|--------------------------------------|---------|---------------------------------------------------|--------------|-------|
+   |   0 | accepted                             | 3       | 0                                                 | points done  | spent |
+   |   1 | script / response / points too long, | 0, 1, 2 | its length                                        | 0            | 0     |
+   |     | or the area not of its size          | 3       | its length                                        | 0            | 0     |
+   |   2 | bad word                             | 0, 1    | the word                                          | 0            | 0     |
+   |   3 | bracket closed too often             | 0, 1    | the bracket                                       | 0            | 0     |
+   |     | bracket never closed                 | 0, 1    | the text's length                                 | 0            | 0     |
+   |   4 | past a limit                         | 0, 1    | the word past it; of a command, rule, argument,   | 0            | 0     |
+   |     |                                      |         | non-terminal or node the first word               |              |       |
+   |   5 | shape unknown                        | 0, 1    | the command's bracket; where no command holds it, | 0            | 0     |
+   |     |                                      |         | the word; the text's length where it ends early   |              |       |
+   |   6 | not carried                          | 0, 1    | the same; for a word that is itself not carried,  | 0            | 0     |
+   |     |                                      |         | that word                                         |              |       |
+   |   7 | name unknown, taken or reserved      | 0, 1    | the name                                          | 0            | 0     |
+   |   8 | sort fault                           | 0, 1    | first word of the faulty sort, or of the faulty   | 0            | 0     |
+   |     |                                      |         | term whose operands have no fault                 |              |       |
+   |   9 | grammar fault                        | 0       | first word of the rule, the listed name (the      | 0            | 0     |
+   |     |                                      |         | predeclared one for the start's sort), or the     |              |       |
+   |     |                                      |         | bracket that closes a list too early              |              |       |
+   |  10 | the response is `fail`               | 1       | 0                                                 | 0            | 0     |
+   |  11 | the response is `infeasible`         | 1       | 0                                                 | 0            | 0     |
+   |  12 | response header differs              | 1       | its first word differing; a function missing: the | 0            | 0     |
+   |     |                                      |         | outer list's last bracket; one too many: its own  |              |       |
+   |  13 | no derivation                        | 1       | the body's first word                             | the function | 0     |
+   |  14 | constraint false                     | 2       | the point                                         | constraint   | spent |
+   |  15 | budget ended                         | 2       | the point                                         | constraint   | spent |
+   |  16 | points not whole                     | 2       | the list's length                                 | 0            | 0     |
+   |     | a number outside its sort            | 2       | its index in the list                             | 0            | 0     |
+
+   A word, a bracket and a length are offsets in bytes; functions, points and constraints are numbered from 0. "Spent" is the summed cost of the evaluations
+   done, that of a false constraint included.
+
+   `shown` is the area; `shown_len` must be 32,768. After 0, 14 and 15 it shows a derivation of every function's body: the numbers of the rules, leftmost first,
+   those of function k from entry 4,096 * k on; every entry that no list uses is 65,535. After any other answer every entry is 65,535. An area of another size
+   is unchanged, whatever the answer. */
+uint8_t sverdhyll_check(const uint8_t *script, size_t script_len, const uint8_t *response, size_t response_len, const uint64_t *points, size_t points_len,
+                        uint64_t budget, uint16_t *shown, size_t shown_len, uint8_t *text, uint64_t *place, uint64_t *second, uint64_t *units);
+
 /* The length of the word that starts at offset `at` of the text; 0 if no word starts there. */
 size_t sverdhyll_word(const uint8_t *text, size_t text_len, size_t at);
 
-/* Numbers of words in the table. */
+/* Numbers of words in the table of `sverdhyll_words`. */
 enum {
     SVERDHYLL_OPEN = 1,
     SVERDHYLL_CLOSE = 2,

@@ -1,8 +1,9 @@
 #!/usr/bin/env python3
-"""Whether every name that docs/STATEMENTS.md gives stands in crates/: tests/statements.py
+"""Whether every name that docs/STATEMENTS.md gives exists: tests/statements.py
 
 It takes each code span that names a definition or a theorem (`crate/specs/File: name, name`, `crate/proofs/File, File`), a function
-(`crate::module::function, function`) or a must-fail edit (`crate/label`), prints each name that is not found, and has the exit status 1 if any.
+(`crate::module::function, function`), a must-fail edit (`crate/label`), a file of the repository, or after "vector" a record of crates/vectors/stdin. It prints
+each name that is not found, and each decided reading that no row has; the exit status is 1 if there is any.
 """
 import os
 import re
@@ -12,6 +13,7 @@ HERE = os.path.dirname(os.path.abspath(__file__))
 ROOT = os.path.join(HERE, "..")
 CRATES = os.path.join(ROOT, "crates")
 PAPER = os.path.join(ROOT, "docs", "STATEMENTS.md")
+RECORDS = os.path.join(CRATES, "vectors", "stdin")
 
 SPAN = re.compile(r"`([^`]+)`")
 FILES = re.compile(r"(\w+)/(specs|proofs)/(\w+(?:, \w+)*)(?:: (.+))?")
@@ -19,6 +21,9 @@ FUNCTIONS = re.compile(r"(\w+)((?:::\w+)+)((?:, \w+)*)")
 EDIT = re.compile(r"(\w+)/(\w+)")
 FOLDERS = ("crates", "docs", "include", "rust", "tests", "tools")
 ANY_CRATE = re.compile(r"crate(/|::)")
+VECTORS = re.compile(r"\bvectors?,? ([^;|]*)")
+RECORD = re.compile(r"`([a-z0-9-]+)`")
+READING = re.compile(r"\bR([0-9]+)(?: to R([0-9]+))?")
 
 
 # What stands in crates/
@@ -96,17 +101,45 @@ def missing_of(span):
     return []
 
 
+# Records and readings
+
+def line_of(text, place):
+    """The number of the line at a place of a text."""
+    return text.count("\n", 0, place) + 1
+
+
+def missing_records(text, names):
+    """Each record that the text names after "vector" and that is not there, with its line."""
+    for part in VECTORS.finditer(text):
+        for found in RECORD.finditer(part.group(1)):
+            if found.group(1) not in names:
+                yield line_of(text, part.start()), "vector " + found.group(1)
+
+
+def missing_readings(text, names):
+    """Each reading that the text names and that is not there, with its line, and each that it does not name."""
+    stored, named = {int(name[8:]) for name in names if name.startswith("reading-")}, set()
+    for found in READING.finditer(text):
+        first, last = int(found.group(1)), int(found.group(2) or found.group(1))
+        named |= set(range(first, last + 1))
+        yield from ((line_of(text, found.start()), "R%d" % n) for n in range(first, last + 1) if n not in stored)
+    yield from ((line_of(text, len(text)), "no row has R%d" % n) for n in sorted(stored - named))
+
+
 def spans_of(text):
     """Each code span of a text with its line; a span may run on over a line's end."""
     for found in SPAN.finditer(text):
-        yield text.count("\n", 0, found.start()) + 1, " ".join(found.group(1).split())
+        yield line_of(text, found.start()), " ".join(found.group(1).split())
 
 
 def main():
     """Prints each name that is not found, with its line."""
     with open(PAPER, encoding="utf-8") as file:
         text = file.read()
+    with open(RECORDS, encoding="ascii") as lines:
+        names = {line.split()[0] for line in lines}
     lost = [(line, name) for line, span in spans_of(text) for name in missing_of(span)]
+    lost += [*missing_records(text, names), *missing_readings(text, names)]
     for line, name in lost:
         print("docs/STATEMENTS.md:%d: %s" % (line, name))
     return 1 if lost else 0

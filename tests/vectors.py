@@ -1,22 +1,33 @@
 #!/usr/bin/env python3
 """The records of the program `vectors` and what it must write of them: tests/vectors.py [--check]
 
-It takes the texts of readings.jsonl and texts of its own, reads each by words.py, and writes crates/vectors/stdin and crates/vectors/stdout;
-with --check it only says whether these two files are what it would write. On the way it holds words.py to each reading whose answer
-arises from words. The answer that the words and commands of both texts give is that of the reading, or is known from how a text is made.
+It takes the readings of readings.jsonl, texts of its own whose words decide, and the cases of cases.py and limits.py, and writes crates/vectors/stdin and
+crates/vectors/stdout; with --check it only says whether these two files are what it would write, and replays every list of rules in them (derivations.py). What
+the words of a text are is said by words.py, which is held to each reading whose answer arises from words. The checker's answer is that of the reading, or is
+known from how a text is made; the list shown is the one derivation that there is.
 """
 import json
 import os
 import sys
 
 sys.dont_write_bytecode = True
+import derivations
 import words
+from cases import AREA, Case, all_cases
+from limits import all_limits
 from words import RESPONSE, SCRIPT
 
 HERE = os.path.dirname(os.path.abspath(__file__))
 CRATE = os.path.join(HERE, "..", "crates", "vectors")
 MOST_INPUT = 2000000
 READINGS_FROM_WORDS = 35
+
+# Answers to texts that both pass, and those of them that show derivations.
+JUDGED = (0, 13, 14, 15, 16)
+SHOWING = (0, 14, 15)
+
+# The list that is shown where there are several derivations, by record and function: of two equal rules the first.
+CHOSEN = {("reading-246", 0): [0]}
 
 
 # Readings
@@ -175,164 +186,46 @@ def texts_past_bytes(limits):
     yield "bytes-open", b"(" + b" " * (size - 1)
 
 
-# Limits of commands
-
-HERE_IT_IS = object()
-PASSES = (0, 3, 0)
-
-
-def command(pieces):
-    """A script around pieces: its logic, the pieces, and its end."""
-    return [b"(set-logic BV)"] + pieces + [b"(check-synth)"]
-
-
-def grammar(rules):
-    """A grammar of one non-terminal of sort Bool."""
-    return [b"((A Bool)) ((A Bool ("] + rules + [b"))))"]
-
-
-def function(name, arguments=()):
-    """A function of sort Bool whose grammar derives `true`."""
-    return [b"(synth-fun " + name + b" ("] + list(arguments) + [b") Bool "] + grammar([b"true"])
-
-
-def answers(*names):
-    """A response that gives `true` for each of the functions."""
-    return [b"("] + [b"(define-fun " + name + b" () Bool true)" for name in names] + [b")"]
-
-
-def numbered(count, make, last=None):
-    """Pieces for each number below the count, a mark before the last where one is to be past a limit."""
-    pieces = []
-    for i in range(count):
-        pieces += ([HERE_IT_IS] if i == last else []) + make(i)
-    return pieces
-
-
-def name_of(letter, i):
-    """A name of its own for each number."""
-    return letter + str(i).encode()
-
-
-def without_mark(pieces):
-    """The pieces but for the mark."""
-    return [piece for piece in pieces if piece is not HERE_IT_IS]
-
-
-def shallow(count):
-    """A term of as many nodes whose lists are not nested deeply: a row of pairs, the last node marked."""
-    def tree(n):
-        if n == 1:
-            return [b"true "]
-        if n == 2:
-            return [b"(not true)"]
-        left = (n - 1) // 2
-        return [b"(and "] + tree(left) + tree(n - 1 - left) + [b")"]
-    pieces = tree(count)
-    for i in range(len(pieces) - 1, -1, -1):
-        if pieces[i].startswith(b"(not"):
-            pieces[i:i + 1] = [b"(not ", HERE_IT_IS, b"true)"]
-            break
-        if pieces[i].startswith(b"true"):
-            pieces[i:i + 1] = [HERE_IT_IS, pieces[i]]
-            break
-    return pieces
-
-
-def limits_of_commands():
-    """Each limit on commands and what is in them, at it and one past it: a name, the pieces of both texts, and the number where the mark is at fault."""
-    f, none = function(b"f"), answers(b"f")
-    for count, number in ((8, 0), (9, 4)):
-        names = [name_of(b"f", i) for i in range(count)]
-        yield "functions-%d" % count, command(numbered(count, lambda i: function(names[i]), 8)), answers(*names), number
-        arguments = numbered(count, lambda i: [b"(" + name_of(b"a", i) + b" Bool)"], 8)
-        yield "arguments-%d" % count, command(function(b"f", arguments)), [b"((define-fun f ("] + without_mark(arguments) + [b") Bool true))"], number
-        yield "defined-arguments-%d" % count, command([b"(define-fun d ("] + arguments + [b") Bool true)"] + f), none, number
-    yield "response-arguments-9", command(f), [b"((define-fun f ("] + arguments + [b") Bool true))"], 4
-    for count, number in ((32, 0), (33, 4)):
-        defined = numbered(count, lambda i: [b"(define-fun " + name_of(b"d", i) + b" () Bool true)"], 32)
-        yield "defined-%d" % count, command(defined + f), none, number
-    for count, number in ((16, 0), (17, 4)):
-        yield "variables-%d" % count, command(numbered(count, lambda i: [b"(declare-var " + name_of(b"v", i) + b" Bool)"], 16) + f), none, number
-        declared = numbered(count, lambda i: [b"(" + name_of(b"A", i) + b" Bool)"], 16)
-        listed = [b"(" + name_of(b"A", i) + b" Bool (true))" for i in range(count)]
-        yield "non-terminals-%d" % count, command([b"(synth-fun f () Bool ("] + declared + [b") ("] + listed + [b"))"]), none, number
-    for count, number in ((64, 0), (65, 4)):
-        yield "constraints-%d" % count, command(f + numbered(count, lambda i: [b"(constraint true)"], 64)), none, number
-        width = [b"(_ BitVec "] + ([HERE_IT_IS] if number else []) + [str(count).encode() + b")"]
-        yield "width-%d" % count, command([b"(declare-var v "] + width + [b")"] + f), none, number
-    yield "width-0", command([b"(declare-var v ", HERE_IT_IS, b"(_ BitVec 0))"] + f), none, 8
-    for count, number in ((128, 0), (129, 4)):
-        rules = numbered(count, lambda i: [b"true "], 128)
-        yield "rules-%d" % count, command([b"(synth-fun f () Bool "] + grammar(rules)), none, number
-    for count, number in ((256, 0), (257, 4)):
-        term = shallow(count)
-        yield "nodes-body-%d" % count, command([b"(define-fun d () Bool "] + term + [b")"] + f), none, number
-        yield "nodes-constraint-%d" % count, command(f + [b"(constraint "] + term + [b")"]), none, number
-        yield "nodes-rule-%d" % count, command([b"(synth-fun f () Bool "] + grammar(term)), none, number
-        yield "nodes-response-%d" % count, command(f), [b"((define-fun f () Bool "] + term + [b"))"], number
-
-
-def joined(pieces):
-    """The bytes of pieces, and where the mark stands; None where there is none."""
-    text, mark = b"", None
-    for piece in pieces:
-        if piece is HERE_IT_IS:
-            mark = len(text)
-        else:
-            text += piece
-    return text, mark
-
-
-def texts_past_commands():
-    """The same as records with their answers; where a text passes, a mark in it says nothing."""
-    for name, script_pieces, response_pieces, number in limits_of_commands():
-        script, in_script = joined(script_pieces)
-        response, in_response = joined(response_pieces)
-        if number == 0:
-            answer = PASSES
-        elif in_response is not None and in_script is None:
-            answer = (number, 1, in_response)
-        else:
-            answer = (number, 0, in_script)
-        yield name, script, response, answer
-
-
 # Records
 
 def answer_of_words(script, response):
-    """The same for texts of which no list is a command: what the words give, else 5 at the first word or at the end."""
+    """The answer to texts of which no list is a command: what the words give, else 5 at the first word or at the end."""
     of_script, of_response = words.read(script, SCRIPT), words.read(response, RESPONSE)
     if of_script.number == 1:
-        return (1, 0, of_script.place)
+        return (1, 0, of_script.place, 0, 0)
     if of_response.number == 1:
-        return (1, 1, of_response.place)
+        return (1, 1, of_response.place, 0, 0)
     if of_script.number:
-        return (of_script.number, 0, of_script.place)
-    return (5, 0, of_script.rows[0][1] if of_script.rows else len(script))
+        return (of_script.number, 0, of_script.place, 0, 0)
+    return (5, 0, of_script.rows[0][1] if of_script.rows else len(script), 0, 0)
 
 
-def answer_of_texts(reading, script, response):
-    """The number, text and offset that both texts give to a reading: its own, or that both pass where it comes from what is given beside them."""
-    number, text, place = reading["answer"][:3]
-    if 1 <= number <= 12 and text < 2:
-        return (number, text, place)
-    return PASSES if script else answer_of_words(script, response)
-
-
-def records():
-    """Each record: its name, its script, its response, and the answer of both texts."""
+def records_of_readings():
+    """The readings, each with its answer."""
     for reading, script, response in readings():
-        yield "reading-%d" % reading["item"], script, response, answer_of_texts(reading, script, response)
+        yield Case("reading-%d" % reading["item"], script, response, tuple(reading["points"]), reading["budget"], reading["area_len"], tuple(reading["answer"]))
+
+
+def records_of_words():
+    """Texts whose words alone decide."""
     texts = [("empty-script", b"", b"a"), ("empty-response", b"a", b"")]
     for some in (texts_of_bytes(), texts_of_forms(), texts_of_comments(), texts_of_brackets(), made_up(400)):
         texts += [(name, text, text) for name, text in some]
     for some in (texts_past_words, texts_past_bytes):
         texts += [(name, script, response) for (name, script), (_, response) in zip(some(SCRIPT), some(RESPONSE))]
     for name, script, response in texts:
-        yield name, script, response, answer_of_words(script, response)
-    yield from texts_past_commands()
+        yield Case(name, script, response, (), 0, AREA, answer_of_words(script, response))
 
+
+def records():
+    """Each record as a case."""
+    yield from records_of_readings()
+    yield from records_of_words()
+    yield from all_cases()
+    yield from all_limits()
+
+
+# What is to be written of them
 
 def digest(reading):
     """FNV-1a of 64 bits, a step for each number of each row and its value."""
@@ -355,17 +248,70 @@ def report(text, limits):
     return "%s table %016x word %d" % (outcome, digest(reading), length)
 
 
+def shown_lists(record):
+    """The list shown of each function of a record: its one derivation, or the one that is chosen."""
+    lists = []
+    for k, (grammar, body) in enumerate(zip(derivations.grammars(record.script), derivations.bodies(record.response))):
+        found = derivations.derivations(grammar, body)
+        if len(found) > 1 and (record.name, k) not in CHOSEN:
+            sys.exit("%s: function %d has several derivations, and none is chosen" % (record.name, k))
+        lists.append(CHOSEN.get((record.name, k)) or (found[0] if found else None))
+    return lists
+
+
+def area_of(record):
+    """What stands in the area of a record afterwards; it stops where the answer does not agree with the derivations that there are."""
+    if record.area != AREA:
+        return "unchanged"
+    if record.answer[0] not in JUDGED:
+        return "blank"
+    lists = shown_lists(record)
+    without = [k for k, numbers in enumerate(lists) if numbers is None]
+    if without[:1] != ([record.answer[3]] if record.answer[0] == 13 else []):
+        sys.exit("%s: functions %s have no derivation, and the answer is %s" % (record.name, without, record.answer))
+    if record.answer[0] not in SHOWING:
+        return "blank"
+    return "/".join(",".join(map(str, numbers)) for numbers in lists)
+
+
+def given_line(record):
+    """The line of standard input for a record."""
+    points = ",".join("%x" % n for n in record.points)
+    texts = [text.hex() or "-" for text in (record.script, record.response)]
+    return "%s %s %s %s %x %x\n" % (record.name, texts[0], texts[1], points or "-", record.budget, record.area)
+
+
+def wanted_line(record):
+    """The line that is to be written of a record."""
+    texts = "script %s response %s" % (report(record.script, SCRIPT), report(record.response, RESPONSE))
+    return "%s %s answer %d %d %d %d %d area %s\n" % ((record.name, texts) + record.answer + (area_of(record),))
+
+
 def files():
     """What the two files have to hold."""
-    given, wanted = [], []
-    for name, script, response, answer in records():
-        given.append("%s %s %s\n" % (name, script.hex() or "-", response.hex() or "-"))
-        wanted.append("%s script %s response %s answer %d %d %d\n" % ((name, report(script, SCRIPT), report(response, RESPONSE)) + answer))
+    given = [given_line(record) for record in records()]
     if len({line.split()[0] for line in given}) != len(given):
         sys.exit("two records have one name")
     if sum(map(len, given)) > MOST_INPUT:
         sys.exit("the records have %d bytes, more than %d" % (sum(map(len, given)), MOST_INPUT))
-    return {"stdin": "".join(given), "stdout": "".join(wanted)}
+    return {"stdin": "".join(given), "stdout": "".join(map(wanted_line, records()))}
+
+
+# What is stored
+
+def check_lists():
+    """Stops unless every list that is stored is a derivation, by a replay of its own; answers how many were replayed."""
+    path, count = os.path.join(CRATE, "stdout"), 0
+    with open(path, encoding="ascii") as lines:
+        for record, line in zip(records(), lines):
+            area = line.split()[-1]
+            if record.answer[0] in SHOWING and record.area == AREA:
+                lists = [[int(n) for n in part.split(",")] for part in area.split("/")]
+                fault = derivations.fault_of_lists(record.script, record.response, lists)
+                if fault:
+                    sys.exit("%s: %s" % (record.name, fault))
+                count += len(lists)
+    return count
 
 
 def is_stored(name, text):
@@ -374,15 +320,22 @@ def is_stored(name, text):
     return os.path.exists(path) and open(path, encoding="ascii", newline="").read() == text
 
 
+def check():
+    """Says whether the two files are what would be written, and whether every list that they show is a derivation."""
+    other = [name for name, text in files().items() if not is_stored(name, text)]
+    for name in other:
+        print("crates/vectors/%s is not what tests/vectors.py writes" % name)
+    if not other:
+        print("%d lists of rules are derivations" % check_lists())
+    return 1 if other else 0
+
+
 def main():
+    """Writes the two files, or checks them."""
     check_readings()
-    made = files()
     if sys.argv[1:] == ["--check"]:
-        other = [name for name, text in made.items() if not is_stored(name, text)]
-        for name in other:
-            print("crates/vectors/%s is not what tests/vectors.py writes" % name)
-        sys.exit(1 if other else 0)
-    for name, text in made.items():
+        sys.exit(check())
+    for name, text in files().items():
         with open(os.path.join(CRATE, name), "w", encoding="ascii", newline="") as out:
             out.write(text)
 

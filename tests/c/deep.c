@@ -1,68 +1,147 @@
-/* How much stack the evaluator needs at document 01's limits: terms nested 63 deep (the command's bracket is the 64th) in 32 define-funs, each of which
-   applies the one before it at its deepest place, then in a function that applies the last of them, then in a constraint that applies the function.
-   Runs on a thread of 2 MiB and prints what it used. */
+/* How much stack a call of the checker needs at document 01's limits: calls on a thread of 2 MiB, each of which must give its answer. Prints for each how much
+   of the stack was touched. */
 #include <pthread.h>
-#include <stdint.h>
-#include <stdio.h>
-#include <stdlib.h>
-#include <string.h>
 
-/* The evaluator: the value of the term at node i; see crates/measured. */
-uint64_t sverdhyll_measured_eval(const uint64_t *nodes, size_t nodes_len, const uint64_t *bodies, size_t bodies_len, const uint64_t *env, size_t env_len, size_t i, uint64_t left);
+#include "calls.h"
 
-enum { DEPTH = 63, DEFINED = 32, STACK = 2 << 20, NAME = 1 + 16 * 8, BVNOT = 2 + 16 * 8, EQUAL = 2 + 16 * 5, APPLY_DEFINED = 3, APPLY_FUNCTION = 4 };
+enum { STACK = 2 << 20, PAINT = 0xa5, MOST_WORDS = 4096, DEEPEST = 63, FUNCTIONS = 8, NON_TERMINALS = 16, LEAVES = 61 };
 
-static uint64_t nodes[4 * 4096], bodies[40];
-static size_t count = 0;
-
-static void node(uint64_t code, uint64_t value, uint64_t operands, uint64_t size)
-{
-    const uint64_t row[4] = {code, value, operands, size};
-    memcpy(nodes + 4 * count++, row, sizeof row);
-}
-
-/* A term of `deep` applications of bvnot and at its deepest place `last` applied to the first name, or the name itself where there is none. */
-static size_t term(int deep, uint64_t last, uint64_t k)
-{
-    size_t first = count;
-    for (int level = 0; level < deep; level++) node(BVNOT, 0, 1, deep - level + (last ? 2 : 1));
-    if (last) node(last, k, 1, 2);
-    node(NAME, 0, 0, 1);
-    return first;
-}
-
-/* The paint that the evaluator has not touched, from the low end of the stack. */
+static struct text script, response;
+static struct answer given;
 static unsigned char *stack;
 
-static void *run(void *out)
+/* The call, on the thread. */
+static void *call(void *unused)
 {
-    const uint64_t env[1] = {0x5a};
-    *(uint64_t *)out = sverdhyll_measured_eval(nodes, 4 * count, bodies, 40, env, 1, *(size_t *)out, UINT64_MAX);
+    (void)unused;
+    given = check_all(script.bytes, script.size, response.bytes, response.size, NULL, 0, UINT64_MAX, area, SVERDHYLL_AREA);
     return NULL;
+}
+
+/* Makes the call on a painted stack, prints how much of it was touched, and says whether the answer is this number with so many units. */
+static int measure(const char *what, uint8_t number, uint64_t units)
+{
+    pthread_t thread;
+    pthread_attr_t attributes;
+    size_t untouched = 0;
+    memset(stack, PAINT, STACK);
+    pthread_attr_init(&attributes);
+    pthread_attr_setstack(&attributes, stack, STACK);
+    if (pthread_create(&thread, &attributes, call, NULL) || pthread_join(thread, NULL)) return 0;
+    while (untouched < STACK && stack[untouched] == PAINT) untouched++;
+    printf("%s (%zu and %zu words): answer %d, units %llu, stack used %zu KiB of %d KiB\n", what, script.words, response.words, given.number,
+           (unsigned long long)given.units, (STACK - untouched) / 1024, STACK / 1024);
+    return untouched > 0 && given.number == number && given.units == units;
+}
+
+/* Begins both texts. */
+static void begin(void)
+{
+    script.size = script.words = response.size = response.words = 0;
+    add(&script, "(set-logic BV)");
+    add(&response, "(");
+}
+
+/* Ends both texts. */
+static void end(void)
+{
+    add(&script, "(check-synth)");
+    add(&response, ")");
+}
+
+/* Adds a name under so many `not`s. */
+static void negated(struct text *text, size_t times, const char *name)
+{
+    repeat(text, "(not ", times);
+    add(text, "%s", name);
+    repeat(text, ")", times);
+}
+
+/* Adds a shallow term of so many leaves joined by `or`: 4 * leaves - 3 words and 2 * leaves - 1 nodes. */
+static void joined(struct text *text, size_t leaves, const char *leaf)
+{
+    if (leaves == 1) {
+        add(text, "%s", leaf);
+        return;
+    }
+    add(text, "(or ");
+    joined(text, leaves / 2, leaf);
+    add(text, " ");
+    joined(text, leaves - leaves / 2, leaf);
+    add(text, ")");
+}
+
+/* The deepest evaluation: `define-fun`s nested as deep as lists may be, each applying the one before it at its deepest place, as many as the words allow; a
+   function that applies the last of them, and a constraint that applies the function. All nodes are on one path. */
+static int deepest(void)
+{
+    const size_t beside = 8, after = 26 + 4 + 3 * DEEPEST + 3; /* words of a `define-fun` beside its `not`s; words of what follows the last */
+    size_t nots = 2 * DEEPEST - 1, count = 0;
+    char name[8] = "true";
+    begin();
+    while (script.words + beside + 3 + after <= MOST_WORDS) {
+        const size_t room = (MOST_WORDS - after - script.words - beside) / 3, depth = room < DEEPEST ? room : DEEPEST;
+        add(&script, "(define-fun d%zu () Bool ", count);
+        negated(&script, depth, name);
+        add(&script, ")");
+        sprintf(name, "d%zu", count++);
+        nots += depth;
+    }
+    add(&script, "(synth-fun f () Bool ((A Bool)) ((A Bool (%s (not A)))))(constraint ", name);
+    negated(&script, DEEPEST, "f");
+    add(&script, ")");
+    add(&response, "(define-fun f () Bool ");
+    negated(&response, DEEPEST - 1, name);
+    add(&response, ")");
+    end();
+    return measure("the deepest evaluation", nots % 2 == 0 ? SVERDHYLL_ACCEPTED : SVERDHYLL_FALSE, nots + count + 2);
+}
+
+/* As many words as both texts may have: eight functions, and constraints of 512 words and one of what is left. */
+static int most_words(void)
+{
+    uint64_t units = 0;
+    begin();
+    for (int k = 0; k < FUNCTIONS; k++) {
+        const size_t leaves = k < FUNCTIONS - 1 ? 62 : 68;
+        add(&script, "(synth-fun f%d () Bool ((A Bool)) ((A Bool (true (or A A) (not A)", k);
+        if (k == FUNCTIONS - 1) repeat(&script, " false", (MOST_WORDS - script.words - 7) % 4);
+        add(&script, "))))");
+        add(&response, k < FUNCTIONS - 1 ? "(define-fun f%d () Bool " : "(define-fun f%d () Bool (not (not ", k);
+        joined(&response, leaves, "true");
+        add(&response, k < FUNCTIONS - 1 ? ")" : ")))");
+    }
+    while (script.words + 3 < MOST_WORDS) {
+        const size_t room = (MOST_WORDS - 3 - script.words) / 4, leaves = room < 128 ? room : 128;
+        add(&script, "(constraint ");
+        joined(&script, leaves, "true");
+        add(&script, ")");
+        units += 2 * leaves - 1;
+    }
+    end();
+    return measure("the most words", SVERDHYLL_ACCEPTED, units) && script.words == MOST_WORDS && response.words == MOST_WORDS / 2;
+}
+
+/* As many functions, non-terminals and rules as there may be: every non-terminal is a chain rule of the one before it. */
+static int most_rules(void)
+{
+    begin();
+    for (int k = 0; k < FUNCTIONS; k++) {
+        add(&script, "(synth-fun f%d ((x Bool)) Bool (", k);
+        for (int i = 0; i < NON_TERMINALS; i++) add(&script, "(A%d Bool)", i);
+        add(&script, ") (");
+        for (int i = 0; i < NON_TERMINALS - 1; i++) add(&script, "(A%d Bool (false false false false false false false A%d))", i, i + 1);
+        add(&script, "(A15 Bool (false false false false false x (or A0 A0) (not A0)))))");
+        add(&response, "(define-fun f%d ((x Bool)) Bool ", k);
+        joined(&response, LEAVES, "x");
+        add(&response, ")");
+    }
+    end();
+    return measure("the most functions, non-terminals and rules", SVERDHYLL_ACCEPTED, 0) && list_size(FUNCTIONS - 1) == NON_TERMINALS * (2 * LEAVES - 1);
 }
 
 int main(void)
 {
-    pthread_t thread;
-    pthread_attr_t attributes;
-    uint64_t answer;
-    size_t untouched = 0, constraint;
-
-    for (int k = 0; k < DEFINED; k++) bodies[k] = term(DEPTH - (k > 0), k ? APPLY_DEFINED : 0, k ? k - 1 : 0);
-    bodies[32] = term(DEPTH - 1, APPLY_DEFINED, DEFINED - 1);
-    constraint = count;
-    node(EQUAL, 0, 2, 1 + (DEPTH - 2 + 2) + 1);
-    term(DEPTH - 2, APPLY_FUNCTION, 0);
-    node(NAME, 0, 0, 1);
-
     if (posix_memalign((void **)&stack, 4096, STACK)) return 1;
-    memset(stack, 0xa5, STACK);
-    pthread_attr_init(&attributes);
-    pthread_attr_setstack(&attributes, stack, STACK);
-    answer = constraint;
-    if (pthread_create(&thread, &attributes, run, &answer) || pthread_join(thread, NULL)) return 1;
-    while (untouched < STACK && stack[untouched] == 0xa5) untouched++;
-    /* 32 * 63 - 31 + 62 + 61 complements */
-    printf("value %llu, nodes %zu, stack used %zu KiB of %d KiB\n", (unsigned long long)answer, count, (STACK - untouched) / 1024, STACK / 1024);
-    return !(untouched > 0 && answer == ((DEFINED * DEPTH - (DEFINED - 1) + DEPTH - 1 + DEPTH - 2) % 2 == 0));
+    return !(deepest() & most_words() & most_rules());
 }

@@ -1,89 +1,77 @@
-/* How the time to search for a derivation grows, on the slowest grammar known: 16 non-terminals, each the last rule of the one before it, and only the last of them
-   derives a node by itself, so that each turn of the search at a node goes through all rules of the non-terminals that are not yet known. All other rules have seven
-   nodes and differ from the body in the last of them only. Every list shown has 16 entries a node, the most there are. Prints the time of eight functions and its
-   ratio to the time with half the nodes, and with half the rules. */
-#include <stdbool.h>
-#include <stdint.h>
-#include <stdio.h>
-#include <stdlib.h>
-#include <string.h>
+/* How the time to search for a derivation grows, on the slowest grammar known: 16 non-terminals, each the last rule of the one before it, and only the last of
+   them derives a node by itself, so that each turn of the search at a node goes through all rules of the non-terminals that are not yet known. All other rules
+   have seven nodes and differ from the body in the last of them only. Every list shown has 16 entries a node, the most there are. A call is measured with two
+   such functions; the time of the same call with bodies of one node is taken off, which leaves the search and the reading of the bodies. Prints that time, of
+   the shortest of 20 calls each, and its ratio to the time with half the nodes, and with half the rules. */
 #include <time.h>
 
-/* The search: whether the rules derive the body of function k; see crates/measured. */
-bool sverdhyll_measured_derive(const uint64_t *rules, size_t rules_len, const uint64_t *forms, size_t forms_len, const uint64_t *body, size_t body_len, size_t k,
-                               uint16_t *area, size_t area_len);
+#include "calls.h"
 
-enum { NON_TERMINALS = 16, FUNCTIONS = 8, LIST = 4096, UNUSED = 65535, LITERAL = 16 * 8, NAME = 1 + 16 * 8, BVNOT = 2 + 16 * 8, BVOR = 2 + 16 * 11, NON_TERMINAL = 5 };
+enum { NON_TERMINALS = 16, FUNCTIONS = 2 };
 
-struct table {
-    uint64_t rows[4 * 1024];
-    size_t count;
-};
+static const char *const HEAD = "((x (_ BitVec 8))) (_ BitVec 8)";
 
-static struct table forms, body;
-static uint64_t rules[2 * 128];
-static size_t rule_count;
-static uint16_t area[FUNCTIONS * LIST];
+static struct text script, response;
 
-static void node(struct table *table, uint64_t code, uint64_t value, uint64_t operands, uint64_t size)
+/* Adds the term (bvor x (bvor x .. last)) of so many nodes. */
+static void spine(struct text *text, size_t nodes, const char *last)
 {
-    const uint64_t row[4] = {code, value, operands, size};
-    memcpy(table->rows + 4 * table->count++, row, sizeof row);
+    repeat(text, "(bvor x ", nodes / 2);
+    add(text, "%s", last);
+    repeat(text, ")", nodes / 2);
 }
 
-/* The term (bvor x (bvor x .. last)) of `size` nodes. */
-static void spine(struct table *table, uint64_t size, uint64_t last)
+/* Adds a body of so many nodes: a complement of four spines; or the argument alone. */
+static void add_body(size_t nodes)
 {
-    for (; size > 1; size -= 2) {
-        node(table, BVOR, 0, 2, size);
-        node(table, NAME, 0, 0, 1);
+    if (nodes == 1) {
+        add(&response, "x");
+        return;
     }
-    node(table, last, 0, 0, 1);
-}
-
-/* A body of `nodes` nodes: a complement of four spines. */
-static void make_body(uint64_t nodes)
-{
-    const uint64_t part = (nodes - 4) / 4;
-    body.count = 0;
-    node(&body, BVNOT, 0, 1, nodes);
-    node(&body, BVOR, 0, 2, nodes - 1);
+    add(&response, "(bvnot (bvor ");
     for (int half = 0; half < 2; half++) {
-        node(&body, BVOR, 0, 2, 2 * part + 1);
-        spine(&body, part, NAME);
-        spine(&body, part, NAME);
+        add(&response, "(bvor ");
+        spine(&response, (nodes - 4) / 4, "x");
+        add(&response, " ");
+        spine(&response, (nodes - 4) / 4, "x");
+        add(&response, ")");
+    }
+    add(&response, "))");
+}
+
+/* Adds so many rules of seven nodes. */
+static void add_others(size_t count)
+{
+    for (size_t r = 0; r < count; r++) {
+        spine(&script, 7, "#x00");
+        add(&script, " ");
     }
 }
 
-static void begin_rule(uint64_t non_terminal)
+/* Makes both texts: functions of so many rules and bodies of so many nodes. */
+static void make(size_t nodes, size_t rules)
 {
-    rules[2 * rule_count] = forms.count;
-    rules[2 * rule_count++ + 1] = non_terminal;
-}
-
-/* A grammar of `count` rules. */
-static void make_grammar(size_t count)
-{
-    const size_t each = count / NON_TERMINALS;
-    rule_count = forms.count = 0;
-    for (uint64_t i = 0; i < NON_TERMINALS; i++) {
-        const bool last = i + 1 == NON_TERMINALS;
-        for (size_t r = last ? 3 : 1; r < each; r++) {
-            begin_rule(i);
-            spine(&forms, 7, LITERAL);
+    const size_t each = rules / NON_TERMINALS;
+    script.size = script.words = response.size = response.words = 0;
+    add(&script, "(set-logic BV)");
+    add(&response, "(");
+    for (int k = 0; k < FUNCTIONS; k++) {
+        add(&script, "(synth-fun f%d %s (", k, HEAD);
+        for (int i = 0; i < NON_TERMINALS; i++) add(&script, "(A%d (_ BitVec 8))", i);
+        add(&script, ") (");
+        for (int i = 0; i < NON_TERMINALS; i++) {
+            const int last = i == NON_TERMINALS - 1;
+            add(&script, "(A%d (_ BitVec 8) (", i);
+            add_others(each - (last ? 3 : 1));
+            add(&script, last ? "x (bvnot A0) (bvor A0 A0)))" : "A%d))", i + 1);
         }
-        begin_rule(i);
-        if (!last) {
-            node(&forms, NON_TERMINAL, i + 1, 0, 1);
-            continue;
-        }
-        node(&forms, NAME, 0, 0, 1);
-        for (uint64_t operands = 1; operands <= 2; operands++) {
-            begin_rule(i);
-            node(&forms, operands == 1 ? BVNOT : BVOR, 0, operands, operands + 1);
-            for (uint64_t o = 0; o < operands; o++) node(&forms, NON_TERMINAL, 0, 0, 1);
-        }
+        add(&script, "))");
+        add(&response, "(define-fun f%d %s ", k, HEAD);
+        add_body(nodes);
+        add(&response, ")");
     }
+    add(&script, "(check-synth)");
+    add(&response, ")");
 }
 
 static double now(void)
@@ -93,37 +81,37 @@ static double now(void)
     return t.tv_sec * 1e3 + t.tv_nsec / 1e6;
 }
 
-/* The shortest of 20 times, in milliseconds, to search for the derivations of eight functions; each list has 16 entries a node. */
-static double measure(size_t nodes, size_t count)
+/* The time of a call in milliseconds; each list has 16 entries a node. */
+static double time_of(size_t nodes, size_t rules)
 {
-    double best = 1e18;
-    make_body(nodes);
-    make_grammar(count);
-    for (int turn = 0; turn < 20; turn++) {
-        double start = now();
-        memset(area, 0xff, sizeof area);
-        for (size_t k = 0; k < FUNCTIONS; k++) {
-            const bool derived = sverdhyll_measured_derive(rules, 2 * rule_count, forms.rows, 4 * forms.count, body.rows, 4 * body.count, k, area, FUNCTIONS * LIST);
-            if (!derived || area[LIST * k + NON_TERMINALS * nodes - 1] == UNUSED) {
-                printf("no list of 16 entries a node\n");
-                exit(1);
-            }
-        }
-        if (now() - start < best) best = now() - start;
+    make(nodes, rules);
+    const double start = now();
+    const struct answer a = check_all(script.bytes, script.size, response.bytes, response.size, NULL, 0, 0, area, SVERDHYLL_AREA);
+    const double time = now() - start;
+    if (a.number != SVERDHYLL_ACCEPTED || list_size(FUNCTIONS - 1) != (int)(NON_TERMINALS * nodes)) {
+        printf("answer %d at %llu, a list of %d entries\n", a.number, (unsigned long long)a.place, list_size(FUNCTIONS - 1));
+        exit(1);
     }
-    return best;
+    return time;
 }
 
 int main(void)
 {
-    for (size_t nodes = 64; nodes <= 256; nodes *= 2) {
-        for (size_t count = 64; count <= 128; count *= 2) {
-            const double time = measure(nodes, count);
-            printf("8 functions of %3zu nodes and %3zu rules: %7.2f ms", nodes, count, time);
-            if (nodes > 64) printf(", %.2f times that of half the nodes", time / measure(nodes / 2, count));
-            if (count > 64) printf(", %.2f times that of half the rules", time / measure(nodes, count / 2));
+    const size_t nodes[] = {1, 64, 128, 256}, rules[] = {64, 128};
+    double best[4][2];
+    for (int turn = 0; turn < 20; turn++)
+        for (int n = 0; n < 4; n++)
+            for (int r = 0; r < 2; r++) {
+                const double time = time_of(nodes[n], rules[r]);
+                if (turn == 0 || time < best[n][r]) best[n][r] = time;
+            }
+    for (int n = 1; n < 4; n++)
+        for (int r = 0; r < 2; r++) {
+            const double time = best[n][r] - best[0][r];
+            printf("%d functions of %3zu nodes and %3zu rules: %7.2f ms", FUNCTIONS, nodes[n], rules[r], time);
+            if (n > 1) printf(", %.2f times that of half the nodes", time / (best[n - 1][r] - best[0][r]));
+            if (r > 0) printf(", %.2f times that of half the rules", time / (best[n][0] - best[0][0]));
             printf("\n");
         }
-    }
     return 0;
 }

@@ -1,61 +1,42 @@
-/* How the time to read a script and its response grows with the script's words: prints, for three kinds of script of 512 to 4,096 words, the time of each further
-   word, and its ratio to that of the first step. */
-#include <stdint.h>
-#include <stdio.h>
-#include <stdlib.h>
-#include <string.h>
+/* How the time to read a script grows with its words: prints, for three kinds of script of 512 to 4,096 words, the time of each further word of a call of the
+   checker, and its ratio to that of the first step. There is a variable and no point, so that nothing is evaluated. */
 #include <time.h>
 
-size_t sverdhyll_measured_texts(const uint8_t *script, size_t script_size, const uint8_t *response, size_t response_size, size_t *place);
+#include "calls.h"
 
 static const char *const RESPONSE = "((define-fun f ((a (_ BitVec 32))) (_ BitVec 32) a))";
 
-static char script[32768];
-static size_t size;
-static size_t words;
-
-/* Adds a piece to the script, of which so many words are told. */
-static void add(const char *piece, size_t count)
-{
-    size_t length = strlen(piece);
-    if (size + length > sizeof script) {
-        printf("the script is too long\n");
-        exit(1);
-    }
-    memcpy(script + size, piece, length);
-    size += length;
-    words += count;
-}
+static struct text script;
 
 /* A function with so many rules, some of them applications. */
 static void add_function(int rules)
 {
-    add("(synth-fun f ((a (_ BitVec 32))) (_ BitVec 32) ((S (_ BitVec 32))) ((S (_ BitVec 32) (a", 37);
-    for (int i = 0; i < rules; i++) add(" (bvadd S (bvnot a))", 8);
-    add("))))", 4);
+    add(&script, "(synth-fun f ((a (_ BitVec 32))) (_ BitVec 32) ((S (_ BitVec 32))) ((S (_ BitVec 32) (a");
+    for (int i = 0; i < rules; i++) add(&script, " (bvadd S (bvnot a))");
+    add(&script, "))))");
 }
 
 /* A constraint with so many sums. */
 static void add_constraint(int sums)
 {
-    add("(constraint (= x", 5);
-    for (int i = 0; i < sums; i++) add(" (bvadd x", 3);
-    add(" (f x)", 4);
-    for (int i = 0; i < sums; i++) add(")", 1);
-    add("))", 2);
+    add(&script, "(constraint (= x");
+    for (int i = 0; i < sums; i++) add(&script, " (bvadd x");
+    add(&script, " (f x)");
+    for (int i = 0; i < sums; i++) add(&script, ")");
+    add(&script, "))");
 }
 
 /* A script of about so many words: `kind` 0 has many constraints, 1 a grammar of many rules, 2 few deep constraints. */
 static void make(int kind, size_t most)
 {
-    size = words = 0;
-    add("(set-logic BV)", 4);
+    script.size = script.words = 0;
+    add(&script, "(set-logic BV)");
     add_function(kind == 1 ? (int)(most / 32) - 8 : 1);
-    add("(declare-var x (_ BitVec 32))", 9);
+    add(&script, "(declare-var x (_ BitVec 32))");
     int sums = kind == 0 ? 12 : 50;
     size_t each = 11 + 4 * (size_t)sums;
-    for (int i = 0; i < 64 && words + each + 3 <= most; i++) add_constraint(sums);
-    add("(check-synth)", 3);
+    for (int i = 0; i < 64 && script.words + each + 3 <= most; i++) add_constraint(sums);
+    add(&script, "(check-synth)");
 }
 
 static double now(void)
@@ -65,17 +46,16 @@ static double now(void)
     return t.tv_sec * 1e9 + t.tv_nsec;
 }
 
-/* The shortest of many times to read both texts once. */
+/* The shortest of many times of a call. */
 static double shortest(void)
 {
     double best = 1e18;
-    size_t place;
     for (int turn = 0; turn < 50; turn++) {
         double start = now();
-        size_t answer = sverdhyll_measured_texts((const uint8_t *)script, size, (const uint8_t *)RESPONSE, strlen(RESPONSE), &place);
+        const struct answer a = check_all(script.bytes, script.size, RESPONSE, strlen(RESPONSE), NULL, 0, 0, area, SVERDHYLL_AREA);
         double time = now() - start;
-        if (answer != 0) {
-            printf("refused: %zu at %zu\n", answer, place);
+        if (a.number != SVERDHYLL_ACCEPTED) {
+            printf("answer %d at %llu\n", a.number, (unsigned long long)a.place);
             exit(1);
         }
         if (time < best) best = time;
@@ -96,12 +76,12 @@ int main(void)
             make(kind, most);
             double time = shortest();
             if (words_before != 0) {
-                double each = (time - time_before) / (words - words_before);
+                double each = (time - time_before) / (script.words - words_before);
                 if (first == 0) first = each;
-                printf("  %4zu words  %7.1f ns a further word  ratio %.2f\n", words, each, each / first);
+                printf("  %4zu words  %7.1f ns a further word  ratio %.2f\n", script.words, each, each / first);
             }
             time_before = time;
-            words_before = words;
+            words_before = script.words;
         }
     }
     return 0;

@@ -1,64 +1,41 @@
-/* The swap case of document 01 ("Settled on the bench"), run on tables made by hand: each of the three constraints costs 8, so that a budget of 24 accepts, and one of
-   23 ends before the third, with 16 units spent. */
-#include <stdbool.h>
-#include <stdint.h>
-#include <stdio.h>
-#include <string.h>
+/* The swap case of document 01 ("Settled on the bench"): each of the three constraints costs 8, so that a budget of 24 accepts, and one of 23 ends before the
+   third, with 16 units spent; the body is derived by the rules 7, 15, 3 and 8. */
+#include "calls.h"
 
-bool sverdhyll_measured_run(const uint64_t *nodes, size_t nodes_len, const uint64_t *bodies, size_t bodies_len, const uint64_t *costs, size_t costs_len,
-                            const uint64_t *places, size_t places_len, const uint64_t *sorts, size_t sorts_len, const uint64_t *numbers, size_t numbers_len,
-                            uint64_t budget, uint64_t *left);
-uint64_t sverdhyll_measured_cost(const uint64_t *nodes, size_t nodes_len, const uint64_t *bodies, size_t bodies_len, size_t defined, size_t functions, size_t place);
+#define WORD "(_ BitVec 32)"
+#define HALF "(_ BitVec 16)"
 
-enum { NAME = 1 + 16 * 32, EQUAL = 2 + 16 * 5, CONCAT = 2 + 16 * 21, EXTRACT = 2 + 16 * 22, FUNCTION = 4, FUNCTION_PLACE = 32 };
+static const char SCRIPT[] = "(set-logic BV)"
+    "(synth-fun f ((x " WORD ")) " WORD " ((BV32 " WORD ") (BV16 " HALF "))"
+    " ((BV32 " WORD " (#x00000000 #x00000001 #xFFFFFFFF x (bvand BV32 BV32) (bvor BV32 BV32) (bvnot BV32) (concat BV16 BV16)))"
+    "  (BV16 " HALF " (#x0000 #x0001 #xFFFF (bvand BV16 BV16) (bvor BV16 BV16) (bvnot BV16) ((_ extract 31 16) BV32) ((_ extract 15 0) BV32)))))"
+    "(constraint (= (f #x0782ECAD) #xECAD0000))"
+    "(constraint (= (f #xFFFF008E) #x008E0000))"
+    "(constraint (= (f #x00000000) #x00000000))"
+    "(check-synth)";
+static const char RESPONSE[] = "((define-fun f ((x " WORD ")) " WORD " (concat ((_ extract 15 0) x) #x0000)))";
 
-static uint64_t nodes[4 * 32], bodies[40], costs[40];
-static size_t count = 0;
-
-static void node(uint64_t code, uint64_t value, uint64_t operands, uint64_t size)
+/* Whether the area shows the derivation, and nothing else. */
+static int is_shown(void)
 {
-    const uint64_t row[4] = {code, value, operands, size};
-    memcpy(nodes + 4 * count++, row, sizeof row);
+    const uint16_t rules[4] = {7, 15, 3, 8};
+    int others = 0;
+    for (size_t k = 1; k < 8; k++) others |= list_size(k) != 0;
+    return list_size(0) == 4 && memcmp(area, rules, sizeof rules) == 0 && !others;
 }
 
-/* A literal of a width; how it is written has no part in its value. */
-static void literal(uint64_t width, uint64_t value)
+/* Whether the answer to a budget is as given, and the derivation is shown. */
+static int with(uint64_t budget, uint8_t number, uint8_t text, uint64_t second, uint64_t units)
 {
-    node(16 * width, value, 0, 1);
-}
-
-/* (= (f x) y) */
-static uint64_t constraint(uint64_t x, uint64_t y)
-{
-    uint64_t first = count;
-    node(EQUAL, 0, 2, 4);
-    node(FUNCTION, 0, 1, 2);
-    literal(32, x);
-    literal(32, y);
-    return first;
-}
-
-/* Whether a run with the budget is accepted and spends so many units as it should. */
-static int as(const char *what, const uint64_t *places, uint64_t budget, bool accepted, uint64_t units)
-{
-    uint64_t left = 0;
-    bool passed = sverdhyll_measured_run(nodes, 4 * count, bodies, 40, costs, 40, places, 3, NULL, 0, NULL, 0, budget, &left);
-    printf("%s: budget %2llu %s, units %llu\n", what, (unsigned long long)budget, passed ? "accepted" : "not accepted", (unsigned long long)(budget - left));
-    return passed == accepted && budget - left == units;
+    const struct answer a = check_texts(SCRIPT, RESPONSE, budget);
+    const int right = is_answer(a, number, text, 0, second, units) && is_shown();
+    printf("budget %2llu: answer %d, units %llu%s\n", (unsigned long long)budget, a.number, (unsigned long long)a.units, right ? "" : ", which is wrong");
+    return right;
 }
 
 int main(void)
 {
-    uint64_t places[3];
-
-    /* (concat ((_ extract 15 0) x) #x0000) */
-    node(CONCAT, 0, 2, 4);
-    node(EXTRACT, 64 * 15 + 0, 1, 2);
-    node(NAME, 0, 0, 1);
-    literal(16, 0);
-    places[0] = constraint(0x0782ECAD, 0xECAD0000);
-    places[1] = constraint(0xFFFF008E, 0x008E0000);
-    places[2] = constraint(0x00000000, 0x00000000);
-    costs[FUNCTION_PLACE] = sverdhyll_measured_cost(nodes, 4 * count, bodies, 40, 0, 1, FUNCTION_PLACE);
-    return !(costs[FUNCTION_PLACE] + 1 == 4 && as("swap", places, 24, true, 24) && as("swap", places, 23, false, 16) && as("swap", places, 1000, true, 24));
+    const int accepted = with(24, 0, SVERDHYLL_NONE, 1, 24) & with(1000, 0, SVERDHYLL_NONE, 1, 24);
+    const int ended = with(23, 15, SVERDHYLL_POINTS, 2, 16) & with(16, 15, SVERDHYLL_POINTS, 2, 16) & with(0, 15, SVERDHYLL_POINTS, 0, 0);
+    return !(accepted && ended);
 }

@@ -48,7 +48,8 @@ module _ {A : Type 0} (row : A → List ℕ) (width : ℕ) (wide : (a : A) → l
   unfolding rows
   cut xs rest i a more e =
       let h = within xs i a more e in
-      let parts : rows row xs ≡ rows row (take i xs) ++ (row a ++ rows row more) = ap (rows row) (sym (take-append-drop i xs)) ∙ rw (e, rows-append (take i xs) (a ∷ more)) in
+      let parts : rows row xs ≡ rows row (take i xs) ++ (row a ++ rows row more) =
+      ap (rows row) (sym (take-append-drop i xs)) ∙ rw (e, rows-append (take i xs) (a ∷ more)) in
       record { long = rw (length-rows (take i xs), length-take-le i xs (omega arith)); is = rw (parts, append-assoc, append-assoc) }
 
   -- number `column` of the row of a, which stands at i
@@ -65,4 +66,13 @@ module _ {A : Type 0} (row : A → List ℕ) (width : ℕ) (wide : (a : A) → l
   unfolding rows
   row-set xs rest i column v a b more e h s =
       let c = cut xs rest i a more e in
-      rw (c .is, ← c .long, set-append-add, set-append-left (row a) (rows row more ++ rest) column v (rw wide h), ← s, rows-append (take i xs) (b ∷ more), append-assoc, append-assoc)
+      rw (
+        c .is,
+        ← c .long,
+        set-append-add,
+        set-append-left (row a) (rows row more ++ rest) column v (rw wide h),
+        ← s,
+        rows-append (take i xs) (b ∷ more),
+        append-assoc,
+        append-assoc,
+      )

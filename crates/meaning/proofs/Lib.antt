@@ -13,3 +13,6 @@ pub mod LabelValues
 pub mod Evaluating
 pub mod Runs
 pub mod PointRuns
+pub mod Left
+pub mod Calls
+pub mod GoodPoints

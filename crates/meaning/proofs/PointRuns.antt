@@ -17,7 +17,7 @@ use Rattle.meaning.specs.declared.Ran.{Ran}
 use Rattle.meaning.specs.declared.Ran.the-variants.{Passed}
 
 -- The values of variables have their sorts.
-sorts-by : (sorts numbers : List ℕ) → sortsIn (valuesBy sorts numbers) ≡ sorts
+pub sorts-by : (sorts numbers : List ℕ) → sortsIn (valuesBy sorts numbers) ≡ sorts
 unfolding valuesBy
 sorts-by [] numbers = refl
 sorts-by (s ∷ sorts) numbers = ap (λ (l : List ℕ). s ∷ l) (sorts-by sorts (drop 1 numbers))

@@ -21,7 +21,7 @@ pub fn left_of(ran: Ran) -> u64
 }
 
 // Whether all terms were true.
-pub fn all_passed(ran: Ran) -> bool
+pub(crate) fn all_passed(ran: Ran) -> bool
     ensures { λ r. ⌜ r ≡ allPassed ran ⌝ }
 {
     match ran {

@@ -5,7 +5,8 @@ use native.Mathlib.Omega.{arith}
 use mathlib.Core.Path.{_≡_, refl, sym, _∙_}
 use mathlib.Core.Bool.{Bool, true, false, cond}
 use mathlib.Core.List.{List, _++_}
-use lib.ListN.{drop, getD, length, replicate, set, drop-of-length-le, getD-replicate, length-append, length-drop, length-replicate, length-set, take-append-drop, List·getD-append}
+use lib.ListN.{drop, getD, length, replicate, set, drop-of-length-le, getD-replicate, length-append, length-drop, length-replicate, length-set}
+use lib.ListN.{take-append-drop, List·getD-append}
 use lib.Seq.{getD-append-add, length-take-le, sets}
 use Rattle.forest.proofs.Lists.{drop-next}
 use Rattle.forest.specs.Lists.{sameBytes}

@@ -13,6 +13,7 @@ use Rattle.forest.proofs.Bools.{and-left}
 use Rattle.forest.proofs.Options.{never, passed}
 use Rattle.terms.specs.Labels.{Label, Terms, defined, function, literal, name, operator}
 use Rattle.terms.specs.Sorts.{Scope, Signature, calledSort, labelSort, sortsOf}
+use Rattle.terms.proofs.Bodies.{called-within}
 use Rattle.terms.proofs.Sorted.{sorted, sorts-tree}
 use Rattle.promises.specs.Sorted.{AllBool}
 
@@ -26,21 +27,10 @@ pub record Wider (a b : Scope) : Type 0 where
   pub defined : Keeps (a .defined) (b .defined)
   pub functions : Keeps (a .functions) (b .functions)
 
--- A function that is called is one of those that are seen.
-called-below : (fs : List Signature) (k : ℕ) (ss : List ℕ) {s : ℕ} → calledSort fs k ss ≡ some s → k < length fs
-unfolding calledSort
-called-below [] k ss h = never h
-called-below (f ∷ earlier) k ss {s} h = go (eqb k (length earlier)) _ refl h (λ e. called-below earlier k ss e)
-  where
-    go : (b : Bool) (here : Option ℕ) → eqb k (length earlier) ≡ b → cond b here (calledSort earlier k ss) ≡ some s
-        → (calledSort earlier k ss ≡ some s → k < length earlier) → k < length (f ∷ earlier)
-    go true here e h later = omega (arith, eqb-true k (length earlier) e)
-    go false here e h later = omega (arith, later h)
-
 -- One more in front keeps the sorts of calls.
 pub keeps-more : (f : Signature) (fs : List Signature) → Keeps fs (f ∷ fs)
 unfolding calledSort
-keeps-more f fs k ss s h = let low = called-below fs k ss h in rw (ne-eqb k (length fs) (λ e. omega arith)) h
+keeps-more f fs k ss s h = let low = called-within fs k ss h in rw (ne-eqb k (length fs) (λ e. omega arith)) h
 
 -- A scope with one more name behind its names is wider.
 pub wider-names : (scope : Scope) (s : ℕ) → Wider scope (record { names = scope .names ++ s ∷ []; defined = scope .defined; functions = scope .functions })

@@ -42,7 +42,8 @@ pub record Commanded (text words lexemes names raw places nodes forms : List ℕ
 pub record CommandRead {text words lexemes names raw places nodes forms : List ℕ} {p : Progress} {i nowhere : ℕ}
     (c : Commanded text words lexemes names raw places nodes forms p i nowhere) (namesAfter rawAfter placesAfter nodesAfter formsAfter : List ℕ) (s : Step)
     : Type 0 where
-  pub reads : Reads (judged allowed nowhere (c .known) i (c .here .command) (knownAfter (c .known) (c .here .command))) namesAfter placesAfter nodesAfter formsAfter s
+  pub reads : Reads (judged allowed nowhere (c .known) i (c .here .command) (knownAfter (c .known) (c .here .command))) namesAfter placesAfter nodesAfter
+      formsAfter s
   pub roomy : Roomy rawAfter nodesAfter formsAfter nowhere
   pub nodes-within : s .number ≡ 0 → s .progress .nodes ≤ c .here .close
   pub forms-within : s .number ≡ 0 → s .progress .forms ≤ c .here .close

@@ -23,7 +23,8 @@ use Rattle.script.specs.Tables.{
   functionsPlace,
   rulesPlace,
 }
-use Rattle.script.proofs.Nodes.{Grown, bodies-wider, constraints-wider, nodes-grow, plain-join, rows-elsewhere, rows-grown}
+use Rattle.script.proofs.Nodes.{Grown, bodies-wider, constraints-wider, nodes-grow, rows-elsewhere, rows-grown}
+use Rattle.terms.proofs.Bodies.{plain-join}
 
 -- The numbers of two tables of places are the same, but for those of the bodies of functions.
 pub record SamePlaces (places placesAfter : List ℕ) : Type 0 where

@@ -13,6 +13,7 @@ use Rattle.forest.proofs.Nodes.{length-nodes, nodes-join}
 use Rattle.forest.proofs.Rows.{length-rows, rows-append}
 use Rattle.terms.specs.Labels.{Label, Terms}
 use Rattle.terms.specs.Nodes.{AllPlain, nodeRow, nodeTable}
+use Rattle.terms.proofs.Bodies.{plain-join}
 use Rattle.terms.specs.Sorts.{Definition, Signature}
 use Rattle.meaning.specs.Tables.{BodiesAt, Stands}
 use Rattle.sorting.specs.Tables.{RowsAre, allRows, functionRow}
@@ -45,12 +46,6 @@ length-table t = length-rows nodeRow 4 (λ n. refl) (nodesOf t) ∙ ap (λ (n : 
 table-join : (all t : Terms) → nodeTable (join all t) ≡ nodeTable all ++ nodeTable t
 unfolding nodeTable
 table-join all t = ap (rows nodeRow) (nodes-join all t) ∙ rows-append nodeRow 4 (λ n. refl) (nodesOf all) (nodesOf t)
-
--- Labels that are told by their numbers, of terms one behind the other.
-pub plain-join : (all t : Terms) → AllPlain all → AllPlain t → AllPlain (join all t)
-unfolding AllPlain join
-plain-join none t p q = q
-plain-join (tree l ops rest) t p q = (p .0, p .1, plain-join rest t (p .2) q)
 
 -- A table into which the nodes of a term are written behind those of others.
 pub table-grows : {nodes : List ℕ} (rest : List ℕ) {rows : ℕ} (all t : Terms) → nodes ≡ nodeTable all ++ rest → rows ≡ size all

@@ -107,8 +107,8 @@ pub record PlacesHold (places nodes : List ℕ) (rows : ℕ) (k : Known) : Type 
   pub bodies-at : BodiesAt all (drop bodiesPlace places) 0 (definitionsOf (k .defined))
   pub constraints-at : ConstraintsAt all places 0 (k .constraints)
 
--- The numbers of function j, in the part of the table of places that begins with those of functions, and its rules and forms, in the first `rows` rows: where its
--- forms begin, how many rows they take, how many rules there are, and how many `define-fun`s stand before it.
+-- The numbers of function j, in the part of the table of places that begins with those of functions, and its rules and forms, in the first `rows` rows: where
+-- its forms begin, how many rows they take, how many rules there are, and how many `define-fun`s stand before it.
 pub record GrammarHeld (numbers forms : List ℕ) (rows : ℕ) (j : ℕ) (f : Function) : Type 0 where
   pub rules-are : getD numbers (4 * j + 2) 0 ≡ length (f .grammar .rules)
   pub few-rules : length (f .grammar .rules) ≤ 128
@@ -159,5 +159,6 @@ abbrev pub After : {word : String} {text words lexemes : List ℕ} {p : Progress
 After c = knownAfter (c .known) (c .here .command)
 
 -- The verdict is that of the command's tests.
-abbrev pub Tested : {word : String} {text words lexemes : List ℕ} {p : Progress} {i nowhere : ℕ} → CommandOf word text words lexemes p i nowhere → Verdict → Type 0
+abbrev pub Tested : {word : String} {text words lexemes : List ℕ} {p : Progress} {i nowhere : ℕ} → CommandOf word text words lexemes p i nowhere → Verdict
+    → Type 0
 Tested {i = i} {nowhere = nowhere} c v = Says v (tested allowed nowhere (c .known) i (c .here .command) (After c))

@@ -12,7 +12,8 @@ use Rattle.lexemes.specs.Lists.{Items, inside, isAmong, isList, isSymbol, item}
 use Rattle.lexemes.specs.Table.{codeAt, nextAt, openCode}
 use Rattle.lexemes.specs.Standing.{Between, ItemAt, ListAt}
 use Rattle.lexemes.proofs.Listed.{as-list, between, is-list, list-from}
-use Rattle.shapes.specs.Shapes.{all, constraintShape, declareVarShape, defineFunShape, groupShape, headerShape, isPattern, listOf, pairShape, ruleShape, setLogicShape, sortShape, synthFunShape, termShape}
+use Rattle.shapes.specs.Shapes.{all, constraintShape, declareVarShape, defineFunShape, groupShape, headerShape, isPattern, listOf, pairShape, ruleShape}
+use Rattle.shapes.specs.Shapes.{setLogicShape, sortShape, synthFunShape, termShape}
 use Rattle.shapes.specs.Steps.{ItemOf}
 use Rattle.shapes.proofs.Parts.{not-so-many, part, so-many}
 

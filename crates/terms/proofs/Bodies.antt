@@ -38,12 +38,12 @@ says all rest i l ops more t e =
     column k h = row-at nodeRow rowWidth (λ n. refl) (nodesOf all) rest i k _ _ (node-at all i l ops more e) h
 
 -- Every label of plain terms is plain: of terms one after the other, of those left at a cursor, and of the node that stands there.
-plain-join : (a b : Terms) → AllPlain a → AllPlain b → AllPlain (join a b)
+pub plain-join : (a b : Terms) → AllPlain a → AllPlain b → AllPlain (join a b)
 unfolding AllPlain join
 plain-join none b p q = q
 plain-join (tree l ops rest) b p q = (p .0, p .1, plain-join rest b (p .2) q)
 
-plain-from : (all : Terms) (i : ℕ) → AllPlain all → AllPlain (from all i)
+pub plain-from : (all : Terms) (i : ℕ) → AllPlain all → AllPlain (from all i)
 unfolding AllPlain from
 plain-from all zero p = p
 plain-from none (suc i) p = p
@@ -88,7 +88,7 @@ pub label-same : (l m : Label) → Plain l → Plain m → codeOf l ≡ codeOf m
 label-same l m p q c v = sym (label-of l p) ∙ ap₂ labelOf c v ∙ label-of m q
 
 -- A function that has a sort is one of those known.
-called-within : (fs : List Signature) (k : ℕ) (ss : List ℕ) {s : ℕ} → calledSort fs k ss ≡ some s → k < length fs
+pub called-within : (fs : List Signature) (k : ℕ) (ss : List ℕ) {s : ℕ} → calledSort fs k ss ≡ some s → k < length fs
 unfolding calledSort
 called-within [] k ss h = never h
 called-within (f ∷ earlier) k ss {s} h = by-case (eqb k (length earlier)) refl h (λ g. called-within earlier k ss {s = s} g)

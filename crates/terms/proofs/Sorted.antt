@@ -9,7 +9,7 @@ use Rattle.terms.specs.Sorts.{Scope, labelSort, sortOver, sortsOf, withS
 use Rattle.terms.proofs.Parts.{Joining, Parts, parts}
 
 -- How sorts are joined.
-joining : Joining sortOver withSort
+pub joining : Joining sortOver withSort
 unfolding sortOver withSort
 joining =
     record { over-none = λ rule. refl; over-some = λ rule ss. refl; with-none = λ more. refl; with-no-more = λ s. refl; with-some = λ s ss. refl }

@@ -58,7 +58,7 @@ module _ {text words lexemes names raw places nodes : List ℕ} {p : Progress} {
       record { told = rw (w .whole) (go (answered allowed n (ready .known .defined) (inScriptOrder (ready .known .functions)) (itemsOf text)) (done .answers)) }
     where
       go : (r : Answered) → Answers r placesAfter nodesAfter (p .nodes) (ready .known) v
-          → ResponseTold (byAnswers text r) (ready .known) placesAfter nodesAfter (p .nodes + v .rows)
+          → ResponseTold (byAnswers text r) (ready .known) placesAfter nodesAfter (ready .forms) p
           (record { number = v .number; place = offset; rows = v .rows })
       go (refused number place) (e, f) = (e, at ∙ rw (e, f))
-      go (bodies bs) (e, held) = (e, held)
+      go (bodies bs) (e, held) = (e, held, done .grammars-hold)

@@ -3,5 +3,5 @@ pub mod Numbers
 pub mod Wording
 pub mod Commands
 pub mod Answers
-pub mod Both
 pub mod Promised
+pub mod Keeping

@@ -1,4 +1,4 @@
--- A refusal has a number.
+-- A refusal has a number of the table of answers.
 use Prim.Native.Nat.{ℕ, _+_, _≤_, min}
 use native.Mathlib.Omega.{arith}
 use mathlib.Core.Path.{_≡_, refl}
@@ -10,7 +10,8 @@ use lib.ListN.{length}
 use Rattle.forest.specs.Forest.{none, tree}
 use Rattle.words.specs.Reading.{depthAfter, ending as endingWords, faultAt, judged as judgedWords, readingOf}
 use Rattle.words.specs.Words.{Word, wordsOf}
-use Rattle.spelling.specs.declared.Fault.the-variants.{Bracket, TooLong}
+use Rattle.spelling.specs.declared.Fault.{Fault}
+use Rattle.spelling.specs.declared.Fault.the-variants.{BadWord, Bracket, NoFault, NotCarried, PastLimit, TooLong}
 use Rattle.readings.specs.Answers.{faultNumber, numberOf, passed as passedWords}
 use Rattle.readings.specs.Limits.{responseLimits, scriptLimits}
 use Rattle.readings.specs.declared.Limits.{Limits}
@@ -33,13 +34,14 @@ use Rattle.response.specs.Response.{refused as declined, responseView, withBody
 use Rattle.texts.specs.Outcome.{ResponseOutcome, ScriptOutcome, byAnswers, byCommands, byResponse, byWords, given, offsetOf, responseOutcome, said}
 use Rattle.texts.specs.Outcome.{scriptOutcome}
 
--- what was found has a number
+-- what was found has a number, one of those that texts give
 pub record Numbered {A : Type 0} (number : A → ℕ) (a : A) : Type 0 where
   pub some : 1 ≤ number a
+  pub few : number a ≤ 12
 
 -- what has this number
-numbered : {A : Type 0} (number : A → ℕ) (a : A) → 1 ≤ number a → Numbered number a
-numbered number a h = record { some = h }
+numbered : {A : Type 0} (number : A → ℕ) (a : A) → (1 ≤ number a) × (number a ≤ 12) → Numbered number a
+numbered number a h = record { some = h .0; few = h .1 }
 
 -- of two that have a number, the one that a test takes has one
 either : {A : Type 0} {number : A → ℕ} {a b : A} (t : Bool) → Numbered number a → Numbered number b → Numbered number (cond t a b)
@@ -53,11 +55,20 @@ abbrev inReading : Reading → ℕ
 inReading (Whole n) = 1
 inReading (Refused fault place n) = faultNumber fault
 
+-- the number of a fault
+fault-small : (fault : Fault) → faultNumber fault ≤ 6
+fault-small NoFault = omega arith
+fault-small TooLong = omega arith
+fault-small BadWord = omega arith
+fault-small Bracket = omega arith
+fault-small PastLimit = omega arith
+fault-small NotCarried = omega arith
+
 -- the words of a text
 judged-numbered : (limits : Limits) (size : ℕ) (ws : List Word) (n depth : ℕ) → Numbered inReading (judgedWords limits size ws n depth)
 unfolding judgedWords
 judged-numbered limits size [] n depth =
-    either (eqb depth 0) (numbered inReading (Whole n) (omega arith)) (numbered inReading (Refused Bracket size n) (omega arith))
+    either (eqb depth 0) (numbered inReading (Whole n) (omega arith, omega arith)) (numbered inReading (Refused Bracket size n) (omega arith, omega arith))
 judged-numbered limits size (w ∷ ws) n depth =
     go (faultNumber (faultAt limits (w .kind) n depth)) refl _ (judged-numbered limits size ws (n + 1) (depthAfter (w .kind) depth))
   where
@@ -67,14 +78,14 @@ judged-numbered limits size (w ∷ ws) n depth =
       where
         by : (t : Bool) → eqb number 0 ≡ t → Numbered inReading (cond t later (Refused (faultAt limits (w .kind) n depth) (w .start) n))
         by true q = p
-        by false q = let other = eqb-false number 0 q in record { some = omega (arith, e) }
+        by false q = let other = eqb-false number 0 q in record { some = omega (arith, e); few = omega (arith, fault-small (faultAt limits (w .kind) n depth)) }
 
 -- a text
 reading-numbered : (limits : Limits) (text : List ℕ) → Numbered inReading (readingOf limits text)
 unfolding readingOf
 reading-numbered limits text =
     either (leb (length text) (limits .bytes)) (judged-numbered limits (length text) (wordsOf text) 0 0)
-    (numbered inReading (Refused TooLong (length text) 0) (omega arith))
+    (numbered inReading (Refused TooLong (length text) 0) (omega arith, omega arith))
 
 -- a text without a number is read whole
 pub read-whole : (limits : Limits) (text : List ℕ) (r : Reading) → r ≡ readingOf limits text → numberOf r ≡ 0 → r ≡ Whole (passedWords r)
@@ -99,24 +110,25 @@ then-numbered (passed k) next p q = q k
 judged-command : (counts : Counts) (nowhere : ℕ) (k : Known) (at : ℕ) (c : Items) (after : Known) → Numbered inRead (judged counts nowhere k at c after)
 unfolding judged tested
 judged-command counts nowhere k at c after =
-    either (notCarried c) (fault 6 (omega arith))
-    (either (not (commandShape c) || outOfPlace k c) (fault 5 (omega arith))
-    (either (ltb (limitPlace counts nowhere k at c) nowhere) (fault 4 (omega arith))
-    (either (ltb (namePlace nowhere k c) nowhere) (fault 7 (omega arith))
-    (either (ltb (sortingPlace nowhere k c) nowhere) (fault 8 (omega arith))
-    (either (ltb (grammarPlace nowhere k c) nowhere) (fault 9 (omega arith)) (numbered inRead (passed after) (omega arith)))))))
+    either (notCarried c) (fault 6 (omega arith, omega arith))
+    (either (not (commandShape c) || outOfPlace k c) (fault 5 (omega arith, omega arith))
+    (either (ltb (limitPlace counts nowhere k at c) nowhere) (fault 4 (omega arith, omega arith))
+    (either (ltb (namePlace nowhere k c) nowhere) (fault 7 (omega arith, omega arith))
+    (either (ltb (sortingPlace nowhere k c) nowhere) (fault 8 (omega arith, omega arith))
+    (either (ltb (grammarPlace nowhere k c) nowhere) (fault 9 (omega arith, omega arith)) (numbered inRead (passed after) (omega arith, omega arith)))))))
   where
-    fault : (number : ℕ) → 1 ≤ number → {place : ℕ} → Numbered inRead (refused number place)
+    fault : (number : ℕ) → (1 ≤ number) × (number ≤ 12) → {place : ℕ} → Numbered inRead (refused number place)
     fault number h {place} = numbered inRead (refused number place) h
 
 -- all commands
 all-numbered : (counts : Counts) (nowhere : ℕ) (k : Known) (items : Items) → Numbered inRead (readAll counts nowhere k items)
 unfolding readAll
-all-numbered counts nowhere k none = either (k .ended) (numbered inRead (passed k) (omega arith)) (numbered inRead (refused 5 nowhere) (omega arith))
+all-numbered counts nowhere k none =
+    either (k .ended) (numbered inRead (passed k) (omega arith, omega arith)) (numbered inRead (refused 5 nowhere) (omega arith, omega arith))
 all-numbered counts nowhere k (tree l c more) =
     either (isList l)
     (then-numbered _ _ (judged-command counts nowhere k _ c _) (λ later. all-numbered counts nowhere later more))
-    (numbered inRead (refused 5 _) (omega arith))
+    (numbered inRead (refused 5 _) (omega arith, omega arith))
 
 -- the number of a script that is refused; 1 where it is not
 abbrev pub inScript : ScriptOutcome → ℕ
@@ -129,12 +141,12 @@ unfolding scriptOutcome
 script-numbered text = go (readingOf scriptLimits text) (reading-numbered scriptLimits text)
   where
     by : (r : Read) → Numbered inRead r → Numbered inScript (byCommands text r)
-    by (refused number place) p = numbered inScript (ScriptOutcome.faulty number (offsetOf text place)) (p .some)
-    by (passed k) p = numbered inScript (said k) (omega arith)
+    by (refused number place) p = numbered inScript (ScriptOutcome.faulty number (offsetOf text place)) (p .some, p .few)
+    by (passed k) p = numbered inScript (said k) (omega arith, omega arith)
 
     go : (r : Reading) → Numbered inReading r → Numbered inScript (byWords text r)
     go (Whole n) p = by _ (all-numbered allowed n start (itemsOf text))
-    go (Refused fault place n) p = numbered inScript (ScriptOutcome.faulty (faultNumber fault) place) (p .some)
+    go (Refused fault place n) p = numbered inScript (ScriptOutcome.faulty (faultNumber fault) place) (p .some, p .few)
 
 -- ---- commands of a response
 
@@ -146,16 +158,16 @@ inAnswered (bodies bs) = 1
 -- a body more
 with-numbered : (b : Body) (r : Answered) → Numbered inAnswered r → Numbered inAnswered (withBody b r)
 with-numbered b (declined number place) p = p
-with-numbered b (bodies bs) p = numbered inAnswered (bodies (b ∷ bs)) (omega arith)
+with-numbered b (bodies bs) p = numbered inAnswered (bodies (b ∷ bs)) (omega arith, omega arith)
 
 -- a refusal
-fault : (number : ℕ) → 1 ≤ number → {place : ℕ} → Numbered inAnswered (declined number place)
+fault : (number : ℕ) → (1 ≤ number) × (number ≤ 12) → {place : ℕ} → Numbered inAnswered (declined number place)
 fault number h {place} = numbered inAnswered (declined number place) h
 
 -- what stands behind the list
 ending-numbered : (items : Items) → Numbered inAnswered (ending items)
-ending-numbered none = record { some = omega arith }
-ending-numbered (tree l c more) = record { some = omega arith }
+ending-numbered none = record { some = omega arith; few = omega arith }
+ending-numbered (tree l c more) = record { some = omega arith; few = omega arith }
 
 module _ (counts : Counts) (nowhere : ℕ) (defs : List Defined) where
   -- one `define-fun`
@@ -163,43 +175,43 @@ module _ (counts : Counts) (nowhere : ℕ) (defs : List Defined) where
       → Numbered inAnswered (judgedBody counts nowhere defs f at c later)
   unfolding judgedBody
   body-numbered f at c later p =
-      either (not (is "define-fun" (item 0 c))) (fault 5 (omega arith))
-      (either (anyUncarried c) (fault 6 (omega arith))
-      (either (not (defineFunShape c)) (fault 5 (omega arith))
-      (either (ltb (min (headerPast counts nowhere c) (nodePast counts nowhere (item 4 c) (inside 4 c))) nowhere) (fault 4 (omega arith))
-      (either (ltb (differing nowhere (wordsIn (headerOf c)) (headerTokens f)) nowhere) (fault 12 (omega arith))
-      (either (ltb (termNames nowhere (responseView defs f) (item 4 c) (inside 4 c)) nowhere) (fault 7 (omega arith))
-      (either (ltb (bodyFault nowhere (responseView defs f) (f .result) (item 4 c) (inside 4 c)) nowhere) (fault 8 (omega arith))
+      either (not (is "define-fun" (item 0 c))) (fault 5 (omega arith, omega arith))
+      (either (anyUncarried c) (fault 6 (omega arith, omega arith))
+      (either (not (defineFunShape c)) (fault 5 (omega arith, omega arith))
+      (either (ltb (min (headerPast counts nowhere c) (nodePast counts nowhere (item 4 c) (inside 4 c))) nowhere) (fault 4 (omega arith, omega arith))
+      (either (ltb (differing nowhere (wordsIn (headerOf c)) (headerTokens f)) nowhere) (fault 12 (omega arith, omega arith))
+      (either (ltb (termNames nowhere (responseView defs f) (item 4 c) (inside 4 c)) nowhere) (fault 7 (omega arith, omega arith))
+      (either (ltb (bodyFault nowhere (responseView defs f) (f .result) (item 4 c) (inside 4 c)) nowhere) (fault 8 (omega arith, omega arith))
       (with-numbered _ later p)))))))
 
   -- one too many
   extra-numbered : (at : ℕ) (c : Items) → Numbered inAnswered (judgedExtra counts nowhere at c)
   unfolding judgedExtra
   extra-numbered at c =
-      either (not (is "define-fun" (item 0 c))) (fault 5 (omega arith))
-      (either (anyUncarried c) (fault 6 (omega arith))
-      (either (not (defineFunShape c)) (fault 5 (omega arith))
-      (either (ltb (min (headerPast counts nowhere c) (nodePast counts nowhere (item 4 c) (inside 4 c))) nowhere) (fault 4 (omega arith))
-      (fault 12 (omega arith)))))
+      either (not (is "define-fun" (item 0 c))) (fault 5 (omega arith, omega arith))
+      (either (anyUncarried c) (fault 6 (omega arith, omega arith))
+      (either (not (defineFunShape c)) (fault 5 (omega arith, omega arith))
+      (either (ltb (min (headerPast counts nowhere c) (nodePast counts nowhere (item 4 c) (inside 4 c))) nowhere) (fault 4 (omega arith, omega arith))
+      (fault 12 (omega arith, omega arith)))))
 
   -- all of them
   bodies-numbered : (close : ℕ) (fs : List Function) (items : Items) (after : Answered) → Numbered inAnswered after
       → Numbered inAnswered (judgedAll counts nowhere defs close fs items after)
   unfolding judgedAll
   bodies-numbered close [] none after p = p
-  bodies-numbered close (f ∷ fs) none after p = fault 12 (omega arith)
-  bodies-numbered close [] (tree l c more) after p = either (isList l) (extra-numbered _ c) (fault 5 (omega arith))
+  bodies-numbered close (f ∷ fs) none after p = fault 12 (omega arith, omega arith)
+  bodies-numbered close [] (tree l c more) after p = either (isList l) (extra-numbered _ c) (fault 5 (omega arith, omega arith))
   bodies-numbered close (f ∷ fs) (tree l c more) after p =
-      either (isList l) (body-numbered f _ c _ (bodies-numbered close fs more after p)) (fault 5 (omega arith))
+      either (isList l) (body-numbered f _ c _ (bodies-numbered close fs more after p)) (fault 5 (omega arith, omega arith))
 
   -- a response's commands
   answered-numbered : (fs : List Function) (items : Items) → Numbered inAnswered (answered counts nowhere defs fs items)
   unfolding answered
-  answered-numbered fs none = fault 5 (omega arith)
+  answered-numbered fs none = fault 5 (omega arith, omega arith)
   answered-numbered fs (tree l c more) =
-      either (is "fail" l && isAlone (tree l c more)) (fault 10 (omega arith))
-      (either (is "infeasible" l && isAlone (tree l c more)) (fault 11 (omega arith))
-      (either (isList l) (bodies-numbered _ fs c _ (ending-numbered more)) (fault 5 (omega arith))))
+      either (is "fail" l && isAlone (tree l c more)) (fault 10 (omega arith, omega arith))
+      (either (is "infeasible" l && isAlone (tree l c more)) (fault 11 (omega arith, omega arith))
+      (either (isList l) (bodies-numbered _ fs c _ (ending-numbered more)) (fault 5 (omega arith, omega arith))))
 
 -- the number of a response that is refused; 1 where it is not
 abbrev pub inResponse : ResponseOutcome → ℕ
@@ -212,9 +224,9 @@ unfolding responseOutcome
 response-numbered k text = go (readingOf responseLimits text) (reading-numbered responseLimits text)
   where
     by : (r : Answered) → Numbered inAnswered r → Numbered inResponse (byAnswers text r)
-    by (declined number place) p = numbered inResponse (ResponseOutcome.faulty number _) (p .some)
-    by (bodies bs) p = numbered inResponse (given bs) (omega arith)
+    by (declined number place) p = numbered inResponse (ResponseOutcome.faulty number _) (p .some, p .few)
+    by (bodies bs) p = numbered inResponse (given bs) (omega arith, omega arith)
 
     go : (r : Reading) → Numbered inReading r → Numbered inResponse (byResponse k text r)
     go (Whole n) p = by _ (answered-numbered allowed n (k .defined) (inScriptOrder (k .functions)) (itemsOf text))
-    go (Refused fault place n) p = numbered inResponse (ResponseOutcome.faulty (faultNumber fault) place) (p .some)
+    go (Refused fault place n) p = numbered inResponse (ResponseOutcome.faulty (faultNumber fault) place) (p .some, p .few)

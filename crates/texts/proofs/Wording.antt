@@ -13,13 +13,14 @@ use Rattle.words.specs.Table.{entries, row, wordTable, wordValues}
 use Rattle.words.specs.Words.{Word, wordsOf}
 use Rattle.words.proofs.Chains.{entries-long, wide}
 use Rattle.readings.specs.Answers.{numberOf, passed}
+use Rattle.readings.specs.Limits.{responseLimits}
 use Rattle.readings.specs.declared.Limits.{Limits}
 use Rattle.readings.specs.declared.Reading.{Reading}
 use Rattle.readings.specs.declared.Reading.the-variants.{Whole}
 use Rattle.lexemes.specs.Standing.{Numbering}
 use Rattle.lexemes.specs.Table.{lexemeRow, lexemeTable}
 use Rattle.lexemes.proofs.Wholes.{whole-count, whole-words}
-use Rattle.texts.specs.Steps.{Lexed, Placed, Room, Worded}
+use Rattle.texts.specs.Steps.{Lexed, Placed, ReadWhole, Room, Worded}
 use Rattle.texts.proofs.Numbers.{read-whole}
 
 -- tables of the sizes that the limits ask for
@@ -118,3 +119,10 @@ module _ {limits : Limits} {text words lexemes : List ℕ} {n : ℕ} (w : Worded
   only-lexemes =
       let long : length (lexemeTable text (wordsOf text)) ≡ 3 * n = omega (arith, lexemes-long text (wordsOf text), whole-count limits text n (w .whole)) in
       rw (w .is-lexemes) (take-at (lexemeTable text (wordsOf text)) (w .more) (3 * n) long)
+
+-- the words of a response that is read whole
+pub placed-whole : {limits : Limits} {text words lexemes : List ℕ} {r : Reading} {n : ℕ} → limits ≡ responseLimits → Lexed limits text words lexemes r
+    → ReadWhole text → n ≡ passed r → Placed text words n
+placed-whole {limits} {text} {words} {lexemes} {r} {n} e lexed whole f =
+    let none : numberOf r ≡ 0 = ap numberOf (found-in e lexed) ∙ whole .unrefused in
+    placed (worded-in e lexed refl none f)

@@ -2,7 +2,7 @@
 use Prim.Native.Nat.{ℕ, zero, suc}
 use mathlib.Core.Bool.{cond, _||_}
 use mathlib.Core.List.{List, [], _∷_}
-use lib.Dec.{eqb, ltb}
+use lib.Dec.{eqb}
 use lib.ListN.{length}
 use Rattle.words.specs.Reading.{readingOf}
 use Rattle.words.specs.Words.{Word, wordsOf}
@@ -14,7 +14,6 @@ use Rattle.lexemes.specs.Standing.{itemsOf}
 use Rattle.heading.specs.Heads.{allowed}
 use Rattle.script.specs.Script.{Known, Read, passed, readAll, refused, start}
 use Rattle.response.specs.Response.{Answered, Body, answered, bodies, inScriptOrder, refused as declined}
-use Rattle.texts.specs.declared.Answer.{Answer}
 
 -- The offset of word n of the words; `past`, where there are not so many.
 unfoldable pub startOf : (past : ℕ) → List Word → (n : ℕ) → ℕ
@@ -63,20 +62,3 @@ byResponse k text (Whole n) = byAnswers text (answered allowed n (k .defined) (i
 -- The response to a script that says this: its words "likewise", then its commands.
 unfoldable pub responseOutcome : Known → (text : List ℕ) → ResponseOutcome
 responseOutcome k text = byResponse k text (readingOf responseLimits text)
-
--- The answer of a response.
-abbrev pub responseAnswer : ResponseOutcome → Answer
-responseAnswer (faulty number offset) = record { number = number; text = 1; place = offset }
-responseAnswer (given bs) = record { number = 0; text = 3; place = 0 }
-
--- The answer of a script, and of the response where it passes.
-abbrev pub scriptAnswer : (response : List ℕ) → ScriptOutcome → Answer
-scriptAnswer response (faulty number offset) = record { number = number; text = 0; place = offset }
-scriptAnswer response (said k) = responseAnswer (responseOutcome k response)
-
--- The answer of both texts: first 1 for a text that is too long, "script, response"; then the script, then the response. 0 says that both pass.
-unfoldable pub textsAnswer : (script response : List ℕ) → Answer
-textsAnswer script response =
-    cond (ltb (scriptLimits .bytes) (length script)) (record { number = 1; text = 0; place = length script })
-    (cond (ltb (responseLimits .bytes) (length response)) (record { number = 1; text = 1; place = length response })
-    (scriptAnswer response (scriptOutcome script)))

@@ -2,18 +2,19 @@
 use Prim.Native.Nat.{ℕ, _+_, _*_, _≤_}
 use mathlib.Core.List.{List, _++_}
 use mathlib.Core.Path.{_≡_}
-use lib.ListN.{length}
+use lib.ListN.{drop, length}
 use Rattle.words.specs.Reading.{readingOf}
 use Rattle.words.specs.Table.{wordTable}
 use Rattle.words.specs.Words.{wordsOf}
 use Rattle.lexemes.specs.Table.{lexemeTable}
 use Rattle.readings.specs.Answers.{numberOf, passed}
+use Rattle.readings.specs.Limits.{responseLimits}
 use Rattle.readings.specs.declared.Limits.{Limits}
 use Rattle.readings.specs.declared.Reading.{Reading}
 use Rattle.readings.specs.declared.Reading.the-variants.{Whole}
 use Rattle.naming.specs.Steps.{Names}
 use Rattle.script.specs.Script.{Known}
-use Rattle.script.specs.Tables.{TablesHold, placesLength}
+use Rattle.script.specs.Tables.{GrammarsHold, TablesHold, functionsPlace, placesLength}
 use Rattle.script.specs.declared.Progress.{Progress}
 use Rattle.script.specs.declared.Verdict.{Verdict}
 use Rattle.reader.specs.declared.Step.{Step}
@@ -46,6 +47,10 @@ pub record Placed (text words : List ℕ) (count : ℕ) : Type 0 where
   pub is-words : words ≡ wordTable (wordsOf text) ++ rest
   pub counted : count ≡ length (wordsOf text)
 
+-- No word of a response is refused.
+pub record ReadWhole (text : List ℕ) : Type 0 where
+  pub unrefused : numberOf (readingOf responseLimits text) ≡ 0
+
 -- Tables of the sizes that "4,096 words" of a script and "2,048" of a response ask for.
 pub record Lent (names raw places nodes forms : List ℕ) : Type 0 where
   pub table : Names names
@@ -72,12 +77,13 @@ pub record Ready (names raw places nodes : List ℕ) (p : Progress) : Type 0 whe
   pub raw-room : length raw ≡ 4 * 4096
   pub nodes-room : length nodes ≡ 4 * 6144
 
--- What was read of a response: a refusal with its number and offset; or the bodies, which the tables hold.
-abbrev pub ResponseTold : ResponseOutcome → Known → (places nodes : List ℕ) → (rows : ℕ) → Verdict → Type 0
-ResponseTold (ResponseOutcome.faulty number offset) k places nodes rows v = (v .number ≡ number) × (v .place ≡ offset)
-ResponseTold (given bs) k places nodes rows v = (v .number ≡ 0) × BodiesHeld places nodes rows k bs
+-- What was read of a response: a refusal with its number and offset; or the bodies, which the tables hold with the grammars that they held before.
+abbrev pub ResponseTold : ResponseOutcome → Known → (places nodes forms : List ℕ) → Progress → Verdict → Type 0
+ResponseTold (ResponseOutcome.faulty number offset) k places nodes forms p v = (v .number ≡ number) × (v .place ≡ offset)
+ResponseTold (given bs) k places nodes forms p v =
+    (v .number ≡ 0) × BodiesHeld places nodes (p .nodes + v .rows) k bs × GrammarsHold (drop functionsPlace places) forms (p .forms) (k .functions)
 
 -- The same, by the response's text.
 pub record ResponseRead {names raw places nodes : List ℕ} {p : Progress} (q : Ready names raw places nodes p) (text placesAfter nodesAfter : List ℕ)
     (v : Verdict) : Type 0 where
-  pub told : ResponseTold (responseOutcome (q .known) text) (q .known) placesAfter nodesAfter (p .nodes + v .rows) v
+  pub told : ResponseTold (responseOutcome (q .known) text) (q .known) placesAfter nodesAfter (q .forms) p v

@@ -13,7 +13,7 @@ ghost use lib.ListN.{length};
 ghost use mathlib.Core.Bool.{_||_, cond};
 ghost use lib.Dec.{eqb};
 ghost use Rattle.texts.specs.Outcome.{offsetOf};
-ghost use Rattle.texts.specs.Steps.{Placed, Ready, ResponseRead};
+ghost use Rattle.texts.specs.Steps.{Placed, ReadWhole, Ready, ResponseRead};
 
 // The number of a response that is `fail`.
 const FAIL: usize = 10;
@@ -99,4 +99,22 @@ pub fn read_response_text(
         place: refusal_offset(text, &words, count, verdict.number, verdict.place),
         rows: verdict.rows,
     }
+}
+
+// The offset of a word of a response that is read whole; the response's length where it has not so many words.
+pub fn word_offset(text: &[u8], word: usize) -> usize
+    requires { ⌜ ReadWhole (now text) ⌝ }
+    ensures { λ r. ⌜ r ≡ offsetOf (now (text .entry)) word ⌝ }
+{
+    let mut words = word_rows();
+    let mut values = word_values();
+    let mut lexemes = lexeme_rows();
+    let reading = read_lexemes(
+        text,
+        response_limits(),
+        &mut words,
+        &mut values,
+        &mut lexemes,
+    );
+    offset_of(text, &words, passed_of(reading), word)
 }

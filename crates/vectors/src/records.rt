@@ -1,72 +1,69 @@
-//! Records and their fields.
-use crate::report::report_answer;
+//! Records, one a line.
+use crate::answers::report_answer;
+use crate::fields::field_end;
+use crate::fields::next_field;
 use crate::report::report_text;
 use libc::STDOUT_FILENO;
 use readings::response_limits;
 use readings::script_limits;
-ghost use mathlib.Core.Path.{_≡_};
-ghost use Prim.Native.Nat.{min, _≤_, _<_, _+_};
+ghost use Prim.Native.Nat.{_≤_};
 ghost use lib.ListN.{length};
 
-// The end of the field that begins at `start`: the next space or line end, or the end of the input.
-fn field_end(input: &[u8], start: usize) -> usize
-    requires { ⌜ start ≤ length (now input) ⌝ }
-    ensures { λ r. ⌜ (start ≤ r) × (r ≤ length (now (input .entry))) ⌝ }
-{
-    let mut i = start;
-    while i < input.len() {
-        if (input[i] == b' ') | (input[i] == b'\n') {
-            return i;
-        }
-        i += 1;
-    }
-    i
-}
-
-// The start of the field after one that ends at `end`.
-fn next_field(input: &[u8], end: usize) -> usize
-    requires { ⌜ end ≤ length (now input) ⌝ }
-    ensures { λ r. ⌜ r ≡ min (end + 1) (length (now (input .entry))) ⌝ }
-{
-    if end < input.len() {
-        return end + 1;
-    }
-    end
-}
-
-// Writes the line of one record.
-fn write_line(name: &[u8], script: &[u8], response: &[u8]) {
+// Writes what the reader of words finds in the two texts of a record.
+fn report_texts(name: &[u8], script: &[u8], response: &[u8]) {
     io::write_all(STDOUT_FILENO, name);
     io::write_all(STDOUT_FILENO, b" script");
     report_text(script, script_limits());
     io::write_all(STDOUT_FILENO, b" response");
     report_text(response, response_limits());
-    report_answer(script, response);
-    io::write_all(STDOUT_FILENO, b"\n");
 }
 
-// Reports the record that begins at `start`, and answers where the next begins.
-fn report_one(input: &[u8], start: usize) -> usize
-    requires { ⌜ start < length (now input) ⌝ }
-    ensures { λ r. ⌜ (start < r) × (r ≤ length (now (input .entry))) ⌝ }
+// Reports the answer to two texts with what is given beside them, from `start` on: the points, the budget and the size of the area.
+fn report_rest(line: &[u8], script: &[u8], response: &[u8], start: usize)
+    requires { ⌜ start ≤ length (now line) ⌝ }
 {
-    let name_end = field_end(input, start);
-    let script = next_field(input, name_end);
-    let script_end = field_end(input, script);
-    let response = next_field(input, script_end);
-    let response_end = field_end(input, response);
-    write_line(
-        &input[start..name_end],
-        &input[script..script_end],
-        &input[response..response_end],
+    let points_end = field_end(line, start, b' ');
+    let budget = next_field(line, points_end);
+    let budget_end = field_end(line, budget, b' ');
+    let area = next_field(line, budget_end);
+    report_answer(
+        script,
+        response,
+        &line[start..points_end],
+        &line[budget..budget_end],
+        &line[area..],
     );
-    next_field(input, response_end)
+}
+
+// Reports one record.
+fn report_one(line: &[u8]) {
+    let name = 0;
+    let name_end = field_end(line, name, b' ');
+    let script = next_field(line, name_end);
+    let script_end = field_end(line, script, b' ');
+    let response = next_field(line, script_end);
+    let response_end = field_end(line, response, b' ');
+    let points = next_field(line, response_end);
+    report_texts(
+        &line[name..name_end],
+        &line[script..script_end],
+        &line[response..response_end],
+    );
+    report_rest(
+        line,
+        &line[script..script_end],
+        &line[response..response_end],
+        points,
+    );
+    io::write_all(STDOUT_FILENO, b"\n");
 }
 
 // Reports each record of the input.
 pub fn report_all(input: &[u8]) {
     let mut at = 0;
     while at < input.len() {
-        at = report_one(input, at);
+        let end = field_end(input, at, b'\n');
+        report_one(&input[at..end]);
+        at = end + 1;
     }
 }

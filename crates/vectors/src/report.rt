@@ -7,14 +7,13 @@ use readings::Reading;
 use readings::answers::number_of;
 use readings::answers::passed_of;
 use readings::answers::place_of;
-use texts::read::read_texts;
 use words::read_words;
 use words::word_at;
 ghost use mathlib.Core.Path.{_≡_};
 ghost use lib.ListN.{length};
 
 // Room for a text that is too long by one byte, and for one byte more.
-fn text_room() -> [u8; 32770]
+pub(crate) fn text_room() -> [u8; 32770]
     ensures { λ r. ⌜ 32770 ≡ length r ⌝ }
 {
     [0; 32770]
@@ -35,7 +34,7 @@ fn values_room() -> [u64; 4100]
 }
 
 // Writes a number in decimal after its name.
-fn write_number(name: &[u8], n: u64) {
+pub(crate) fn write_number(name: &[u8], n: u64) {
     io::write_all(STDOUT_FILENO, name);
     io::print_decimal(STDOUT_FILENO, n);
 }
@@ -80,16 +79,4 @@ pub fn report_text(digits: &[u8], limits: Limits) {
     let mut text = text_room();
     let n = decode(digits, &mut text);
     report_words(&text[..n], limits);
-}
-
-// Writes the answer that a script and a response, given in hex, have.
-pub fn report_answer(script_digits: &[u8], response_digits: &[u8]) {
-    let mut script = text_room();
-    let mut response = text_room();
-    let n = decode(script_digits, &mut script);
-    let m = decode(response_digits, &mut response);
-    let answer = read_texts(&script[..n], &response[..m]);
-    write_number(b" answer ", answer.number as u64);
-    write_number(b" ", answer.text as u64);
-    write_number(b" ", answer.place as u64);
 }

@@ -1,0 +1,30 @@
+-- The bodies of a response that passes have their functions' sorts, where all `define-fun`s are seen.
+use mathlib.Core.List.{List, [], _∷_, map}
+use mathlib.Core.Path.{_≡_}
+use Rattle.terms.specs.Sorts.{FunctionsSorted, signatures}
+use Rattle.naming.specs.Scopes.{Defined, Function, signatureOf}
+use Rattle.script.specs.Script.{Known}
+use Rattle.script.specs.Tables.{definitionsOf}
+use Rattle.response.specs.Response.{Body, inScriptOrder}
+use Rattle.outcome.specs.Derived.{termsOf}
+use Rattle.outcome.specs.Evaluated.{functionsWith}
+use Rattle.outcome.proofs.Sorts.{TermsSorted, terms-functions-sorted, terms-signatures-same}
+use Rattle.outcome.proofs.Sorts.TermsSorted.{also-sorted, none-sorted}
+use Rattle.assured.specs.Assured.{BodiesFit}
+
+-- Bodies that fit are terms of their functions' sorts.
+pub bodies-sorted : (defs : List Defined) (fs : List Function) (bs : List Body) → BodiesFit defs fs bs → TermsSorted defs fs (termsOf bs)
+unfolding BodiesFit
+bodies-sorted defs [] [] fit = none-sorted
+bodies-sorted defs [] (b ∷ bs) fit = absurd fit
+bodies-sorted defs (f ∷ fs) [] fit = absurd fit
+bodies-sorted defs (f ∷ fs) (b ∷ bs) fit = also-sorted (fit .0) (bodies-sorted defs fs bs (fit .2))
+
+module _ (k : Known) (bs : List Body) (fit : BodiesFit (k .defined) (inScriptOrder (k .functions)) bs) where
+  -- The functions with bodies that fit are sorted.
+  pub functions-sorted : FunctionsSorted (definitionsOf (k .defined)) (functionsWith k (termsOf bs))
+  functions-sorted = terms-functions-sorted k (bodies-sorted (k .defined) (inScriptOrder (k .functions)) bs fit)
+
+  -- They have the signatures of the script's functions.
+  pub signatures-same : signatures (functionsWith k (termsOf bs)) ≡ map signatureOf (k .functions)
+  signatures-same = terms-signatures-same k (bodies-sorted (k .defined) (inScriptOrder (k .functions)) bs fit)

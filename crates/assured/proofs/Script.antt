@@ -1,0 +1,115 @@
+-- A script that passes: its sorts, its grammars and its variables.
+use Prim.Native.Nat.{ℕ, _≤_, _<_}
+use native.Mathlib.Omega.{arith}
+use mathlib.Core.Bool.{Bool, true, false}
+use mathlib.Core.List.{List, [], _∷_, _++_}
+use mathlib.Core.Path.{_≡_}
+use lib.ListN.{length, length-map}
+use Rattle.forest.specs.Forest.{count}
+use Rattle.bits.specs.Sorts.{maxWidth}
+use Rattle.grammar.specs.Derivation.{Admitted, formOf}
+use Rattle.lexemes.specs.Lists.{Items, inside, item}
+use Rattle.rules.specs.Rules.{itemPast, rulePast, rulesIn}
+use Rattle.sorts.specs.Written.{grammarSorts, groupPlace, leastIn, pairPlace, sortPlace}
+use Rattle.sorts.specs.declared.Fault.the-variants.{TooWide}
+use Rattle.naming.specs.Scopes.{Defined, Function, Named}
+use Rattle.heading.specs.Heads.{allowed, headerPast}
+use Rattle.grammars.specs.Grammars.{grammarPast}
+use Rattle.script.specs.Script.{Known, knownAfter, limitPlace, viewOf}
+use Rattle.script.proofs.Places.{Below, inside-below, item-below, sort-narrow}
+use Rattle.synthesizing.proofs.After.{named-long}
+use Rattle.synthesizing.proofs.Within.{items-few, past-neither, past-none}
+use Rattle.promises.specs.Sorted.{AllRulesSorted, RulesSorted, grammarScope}
+use Rattle.promises.proofs.Commands.{Command, Tests, another, command, constraining, declaring, defining, synthesizing}
+use Rattle.promises.proofs.Rules.{groups-placed}
+use Rattle.texts.specs.Outcome.{said, scriptOutcome}
+use Rattle.texts.proofs.Keeping.{script-keeps}
+use Rattle.texts.proofs.Promised.{script-sorted}
+use Rattle.outcome.proofs.Variables.{variables-small}
+use Rattle.assured.specs.Assured.{AllAdmitted, Assured}
+use Rattle.assured.proofs.Proper.{AllBounded, sorted-proper, sorts-counted}
+use Rattle.assured.proofs.Limited.{groups-bounded, rules-few, said-bounded}
+
+-- The grammar of a function is within its limits.
+record Limited (f : Function) : Type 0 where
+  rules : length (f .grammar .rules) ≤ 128
+  nonTerminals : length (f .nonTerminals) ≤ 16
+  sides : (r : ℕ) → r < length (f .grammar .rules) → AllBounded (formOf (f .grammar .rules) r)
+
+-- The same of every function.
+unfoldable AllLimited : List Function → Type 0
+AllLimited [] = Unit {0}
+AllLimited (f ∷ others) = Limited f × AllLimited others
+
+-- The grammars that are known are within the limits.
+record Within (k : Known) : Type 0 where
+  functions : AllLimited (k .functions)
+
+-- A grammar within its limits, whose rules have their sorts, is one that document 01 admits.
+limited-admitted : {defs : List Defined} {f : Function} → RulesSorted defs f → Limited f → Admitted (f .grammar)
+limited-admitted {defs} {f} s l =
+    let scope = grammarScope defs f in
+    let few : length (scope .nonTerminals) ≤ 16 = omega (arith, length-map (f .nonTerminals) (λ (n : Named). n .sort), l .nonTerminals) in
+    record {
+      few = l .rules;
+      low = λ r h. omega (arith, s .heads r h, l .nonTerminals);
+      proper = λ r h. sorted-proper scope 16 few (formOf (f .grammar .rules) r) (s .rules r h) (l .sides r h);
+      single = λ r h. sorts-counted scope (formOf (f .grammar .rules) r) (s .rules r h);
+    }
+
+-- The same of every function.
+all-admitted : (defs : List Defined) (fs : List Function) → AllRulesSorted defs fs → AllLimited fs → AllAdmitted fs
+unfolding AllAdmitted AllLimited AllRulesSorted
+all-admitted defs [] sorted limited = tt
+all-admitted defs (f ∷ others) sorted limited = (limited-admitted (sorted .0) (limited .0), all-admitted defs others (sorted .1) (limited .1))
+
+-- Every command within its limits keeps what is known within the limits.
+module _ {nowhere : ℕ} (k : Known) (at : ℕ) (c : Items) (some-word : 0 < nowhere) (below : Below nowhere c)
+    (limited : nowhere ≤ limitPlace allowed nowhere k at c) (within : Within k) where
+  -- After a `synth-fun`.
+  after-function : Tests c false false true false → Within (knownAfter k c)
+  unfolding AllLimited knownAfter limitPlace
+  after-function t =
+      let fits = rw (t .declares, t .defines, t .synthesizes) at limited in
+      let pairs = inside 4 c in
+      let groups = inside 5 c in
+      let in-groups = inside-below nowhere 5 c below in
+      let past = past-none _ (headerPast allowed nowhere c) (grammarPast allowed nowhere c) fits .2 in
+      let parts = past-none (itemPast nowhere 16 pairs) (grammarSorts TooWide nowhere c) _ past in
+      let sorts = past-neither (leastIn nowhere (pairPlace TooWide nowhere) pairs) (leastIn nowhere (groupPlace TooWide nowhere) groups) (parts .1) in
+      let listed = past-neither (rulePast nowhere 128 (rulesIn 0 groups)) _ (parts .2) in
+      let few = items-few nowhere 16 pairs some-word (inside-below nowhere 4 c below) (parts .0) in
+      let placed = groups-placed {most = count groups} 0 groups (omega arith) in-groups in
+      rw (t .declares, t .defines, t .synthesizes, t .constrains)
+      (record {
+        functions = (
+          record {
+            rules = rw length-map (rules-few 128 placed (listed .0));
+            nonTerminals = omega (arith, named-long pairs);
+            sides = said-bounded (viewOf k c) (groups-bounded (viewOf k c) some-word 0 groups in-groups (sorts .1));
+          },
+          within .functions,
+        );
+      })
+
+  -- After another command.
+  after-other : {declared defined constrained : Bool} → Tests c declared defined false constrained → Within (knownAfter k c)
+  unfolding knownAfter
+  after-other t = rw (t .synthesizes) (record { functions = within .functions })
+
+  -- After any command.
+  after-command : Command c → Within (knownAfter k c)
+  after-command (declaring t) = after-other t
+  after-command (synthesizing t) = after-function t
+  after-command (defining t) = after-other t
+  after-command (constraining t) = after-other t
+  after-command (another t) = after-other t
+
+-- A script that passes has its sorts, its grammars are those that document 01 admits, and its variables are at most 64 wide.
+pub script-assured : (text : List ℕ) {k : Known} → scriptOutcome text ≡ said k → Assured k
+unfolding AllLimited
+script-assured text {k} e =
+    let within = script-keeps Within (λ nowhere k at c some-word below limited h. after-command k at c some-word below limited h (command c)) text e
+    (record { functions = tt }) in
+    let sorted = script-sorted text e in
+    record { sorted = sorted; admitted = all-admitted (k .defined) (k .functions) (sorted .functions) (within .functions); small = variables-small text e }

@@ -1,0 +1,33 @@
+-- What a script and a response that pass keep to, besides the sorts of rules, bodies and constraints.
+use Prim.Native.Nat.{ℕ, _≤_}
+use mathlib.Core.List.{List, [], _∷_}
+use mathlib.Core.Option.{some}
+use mathlib.Core.Path.{_≡_}
+use Rattle.forest.specs.Forest.{size}
+use Rattle.terms.specs.Sorts.{sortsOf as termSorts}
+use Rattle.grammar.specs.Derivation.{Admitted}
+use Rattle.meaning.specs.Steps.{SortsSmall}
+use Rattle.naming.specs.Scopes.{Defined, Function, sortsOf}
+use Rattle.faults.specs.Faults.{scopeOf}
+use Rattle.script.specs.Script.{Known}
+use Rattle.promises.specs.Sorted.{Sorted}
+use Rattle.response.specs.Response.{Body, responseView}
+
+-- The grammar of each function is one that document 01 admits.
+unfoldable pub AllAdmitted : List Function → Type 0
+AllAdmitted [] = Unit {0}
+AllAdmitted (f ∷ others) = Admitted (f .grammar) × AllAdmitted others
+
+-- A script that passes.
+pub record Assured (k : Known) : Type 0 where
+  pub sorted : Sorted k
+  pub admitted : AllAdmitted (k .functions)
+  pub small : SortsSmall (sortsOf (k .variables))
+
+-- A body for each function, in script order, of the function's sort, with at most 256 nodes.
+unfoldable pub BodiesFit : (defs : List Defined) → List Function → List Body → Type 0
+BodiesFit defs [] [] = Unit {0}
+BodiesFit defs [] (b ∷ bs) = ⊥
+BodiesFit defs (f ∷ fs) [] = ⊥
+BodiesFit defs (f ∷ fs) (b ∷ bs) =
+    (termSorts (scopeOf (responseView defs f) .terms) (b .term) ≡ some (f .result ∷ [])) × (size (b .term) ≤ 256) × BodiesFit defs fs bs

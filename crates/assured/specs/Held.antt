@@ -1,0 +1,21 @@
+-- The tables of a script and a response that pass.
+use Prim.Native.Nat.{ℕ, _*_, _≤_}
+use mathlib.Core.List.{List}
+use lib.ListN.{drop, length}
+use Rattle.script.specs.Script.{Known}
+use Rattle.script.specs.Tables.{Counted, GrammarsHold, NamesHold, functionsPlace}
+use Rattle.script.specs.declared.Progress.{Progress}
+use Rattle.response.specs.Response.{Body, inScriptOrder}
+use Rattle.response.specs.Steps.{BodiesHeld}
+use Rattle.assured.specs.Assured.{Assured, BodiesFit}
+
+-- The tables hold what the script says and the bodies that the response gives.
+pub record Held (names places nodes forms : List ℕ) (p : Progress) (k : Known) (bs : List Body) : Type 0 where
+  pub counted : Counted p k
+  pub names-hold : NamesHold names k
+  pub rows : ℕ
+  pub bodies-held : BodiesHeld places nodes rows k bs
+  pub grammars-hold : GrammarsHold (drop functionsPlace places) forms (p .forms) (k .functions)
+  pub forms-room : 4 * p .forms ≤ length forms
+  pub script : Assured k
+  pub response : BodiesFit (k .defined) (inScriptOrder (k .functions)) bs

@@ -1,0 +1,5 @@
+pub mod Blanking
+pub mod Sizing
+pub mod Underived
+pub mod Judged
+pub mod Passing

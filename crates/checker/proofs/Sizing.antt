@@ -1,0 +1,92 @@
+-- The sizes of what is lent.
+use Prim.Native.Nat.{ℕ, _≤_, _<_}
+use native.Mathlib.Omega.{arith}
+use mathlib.Core.Bool.{cond}
+use mathlib.Core.Path.{_≡_, refl, sym, ap, _∙_, subst}
+use mathlib.Core.List.{List}
+use mathlib.Core.Option.{none as nothing, some}
+use borrow.Author.Tests.{eq-eqb, le-ltb, lt-ltb, ne-eqb}
+use lib.Dec.{eqb}
+use lib.ListN.{length, length-replicate}
+use Rattle.grammar.specs.Answer.{areaSize, unused}
+use Rattle.outcome.specs.Checked.{Checked, judged, missized, refusal, response-refused, script-refused, sizeAnswer, unshown}
+use Rattle.outcome.specs.Derived.{blankArea}
+use Rattle.outcome.specs.declared.Outcome.{Outcome}
+use Rattle.checker.specs.Steps.{Judging, SizesTold}
+use Rattle.checker.proofs.Blanking.{unshown-blank}
+
+-- where the script, the response and the points are short enough, the area's size is left to test
+area-left : (script response points area : List ℕ) → length script ≤ 32768 → length response ≤ 8192 → length points ≤ 1024
+    → sizeAnswer script response points area ≡ cond (eqb (length area) areaSize) nothing (some (refusal 1 3 (length area)))
+unfolding sizeAnswer
+area-left script response points area f g h = rw (le-ltb 32768 (length script) f, le-ltb 8192 (length response) g, le-ltb 1024 (length points) h)
+
+module _ {script response points : List ℕ} {size : ℕ} {r : Outcome} where
+  -- a size that is not right
+  told-refused : {text place : ℕ} → r ≡ refusal 1 text place
+      → ((area : List ℕ) → length area ≡ size → sizeAnswer script response points area ≡ some (refusal 1 text place)) → SizesTold script response points size r
+  told-refused e answers =
+      rw e (record { refused = λ other. answers; passes = λ zero. absurd (omega arith); sized = λ zero. absurd (omega arith) })
+
+  -- a script that is too long
+  pub script-long : r ≡ refusal 1 0 (length script) → 32768 < length script → SizesTold script response points size r
+  unfolding sizeAnswer
+  script-long e h = told-refused e (λ area l. rw (lt-ltb 32768 (length script) h))
+
+  module _ (script-fits : length script ≤ 32768) where
+    -- a response that is too long
+    pub response-long : r ≡ refusal 1 1 (length response) → 8192 < length response → SizesTold script response points size r
+    unfolding sizeAnswer
+    response-long e h = told-refused e (λ area l. rw (le-ltb 32768 (length script) script-fits, lt-ltb 8192 (length response) h))
+
+    module _ (response-fits : length response ≤ 8192) where
+      -- a list of points that is too long
+      pub points-long : r ≡ refusal 1 2 (length points) → 1024 < length points → SizesTold script response points size r
+      unfolding sizeAnswer
+      points-long e h =
+          told-refused e
+          (λ area l. rw (le-ltb 32768 (length script) script-fits, le-ltb 8192 (length response) response-fits, lt-ltb 1024 (length points) h))
+
+      module _ (points-fit : length points ≤ 1024) where
+        -- an area of wrong size
+        pub area-other : r ≡ refusal 1 3 size → (size ≡ areaSize → ⊥) → SizesTold script response points size r
+        area-other e h = told-refused e (λ area l. area-left script response points area script-fits response-fits points-fit ∙ rw (l, ne-eqb size areaSize h))
+
+        -- sizes that are right
+        pub all-sized : r ≡ refusal 0 3 0 → size ≡ areaSize → SizesTold script response points size r
+        all-sized e h =
+            rw e
+            (record {
+              refused = λ other. absurd (other refl);
+              passes = λ zero area l. area-left script response points area script-fits response-fits points-fit ∙ rw (l, eq-eqb size areaSize h);
+              sized = λ zero. h;
+            })
+
+-- of two areas of right size the answer is the same
+pub checked-same : {script response points area other after : List ℕ} {budget : ℕ} {r : Outcome} → sizeAnswer script response points area ≡ nothing
+    → sizeAnswer script response points other ≡ nothing → Checked script response points budget area r after
+    → Checked script response points budget other r after
+checked-same sized right (missized e) = let z : _≡_ {A = ℕ} 0 1 = cc in absurd (omega arith)
+checked-same sized right (script-refused z e) = script-refused right e
+checked-same sized right (response-refused z s e) = response-refused right s e
+checked-same sized right (judged p v) = judged (record { sized = right; says = p .says; gives = p .gives }) v
+
+module _ {script response points after : List ℕ} {r : Outcome} (area : List ℕ) (told : SizesTold script response points (length area) r)
+    (blanked : after ≡ unshown area) where
+  -- a size is not right
+  pub size-refused : {budget : ℕ} → (r .number ≡ 0 → ⊥) → Checked script response points budget area r after
+  size-refused {budget} refused =
+      subst (λ (shown : List ℕ). Checked script response points budget area r shown) (sym blanked) (missized (told .refused refused area refl))
+
+  module _ (zero : r .number ≡ 0) where
+    -- every size is right
+    pub sizes-right : Judging script response points after
+    sizes-right =
+        let blank : after ≡ blankArea = blanked ∙ unshown-blank area (told .sized zero) in
+        let long = ap length blank ∙ length-replicate {A = ℕ} areaSize unused in
+        record { sized = told .passes zero after (omega (arith, long, told .sized zero)); blank = blank }
+
+    -- and the texts are judged
+    pub texts-judged : {o : Outcome} {last : List ℕ} {budget : ℕ} → Checked script response points budget after o last
+        → Checked script response points budget area o last
+    texts-judged checked = checked-same (sizes-right .sized) (told .passes zero area refl) checked

@@ -1,0 +1,29 @@
+//! The checker: a script, a response, a list of points and a budget, and one answer.
+mod area;
+pub mod exports;
+mod judging;
+mod sizes;
+
+use crate::area::blank_area;
+use crate::judging::judge_texts;
+use crate::sizes::size_answer;
+use outcome::Outcome;
+ghost use Rattle.outcome.specs.Checked.{Checked};
+
+// The answer for any texts, points and budget; the area shows the derivations after 0, 14 and 15.
+pub fn check(
+    script: &[u8],
+    response: &[u8],
+    points: &[u64],
+    budget: u64,
+    shown: &mut [u16],
+) -> Outcome
+    ensures { λ r. ⌜ Checked (now (script .entry)) (now (response .entry)) (now (points .entry)) budget (now (shown .entry)) r (now (shown .exit)) ⌝ }
+{
+    let size = size_answer(script, response, points, shown.len());
+    blank_area(shown);
+    if size.number != 0 {
+        return size;
+    }
+    judge_texts(script, response, points, budget, shown)
+}

@@ -1,0 +1,52 @@
+//! The sizes of what is lent: answer 1.
+use outcome::Outcome;
+ghost use mathlib.Core.Path.{_≡_};
+ghost use Rattle.outcome.specs.Checked.{refusal};
+ghost use Rattle.checker.specs.Steps.{SizesTold};
+
+// The number of an answer for what is too long, or not of its size.
+const TOO_LONG: usize = 1;
+
+// How many bytes a script may have.
+const SCRIPT_BYTES: usize = 32768;
+
+// How many bytes a response may have.
+const RESPONSE_BYTES: usize = 8192;
+
+// How many numbers a list of points may have.
+const POINT_NUMBERS: usize = 1024;
+
+// How many entries the area has.
+pub(crate) const AREA: usize = 32768;
+
+// An answer that names a text and a place.
+pub(crate) fn refusal(number: usize, text: usize, place: usize) -> Outcome
+    ensures { λ r. ⌜ r ≡ refusal number text place ⌝ }
+{
+    Outcome {
+        number,
+        text,
+        place,
+        second: 0,
+        units: 0,
+    }
+}
+
+// Answer 1 for the first of the script, the response, the points and the area that is too long or not of its size; number 0 where there is none.
+pub(crate) fn size_answer(script: &[u8], response: &[u8], points: &[u64], area: usize) -> Outcome
+    ensures { λ r. ⌜ SizesTold (now (script .entry)) (now (response .entry)) (now (points .entry)) area r ⌝ }
+{
+    if script.len() > SCRIPT_BYTES {
+        return refusal(TOO_LONG, 0, script.len());
+    }
+    if response.len() > RESPONSE_BYTES {
+        return refusal(TOO_LONG, 1, response.len());
+    }
+    if points.len() > POINT_NUMBERS {
+        return refusal(TOO_LONG, 2, points.len());
+    }
+    if area != AREA {
+        return refusal(TOO_LONG, 3, area);
+    }
+    refusal(0, 3, 0)
+}

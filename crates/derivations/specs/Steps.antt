@@ -1,0 +1,70 @@
+-- What the search for derivations of all bodies asks and gives.
+use Prim.Native.Nat.{ℕ, _+_, _*_, _≤_, _<_}
+use mathlib.Core.Bool.{Bool, true, false}
+use mathlib.Core.List.{List, _++_}
+use mathlib.Core.Path.{_≡_}
+use lib.ListN.{drop, getD, length}
+use Rattle.forest.specs.Forest.{size}
+use Rattle.terms.specs.Labels.{Terms}
+use Rattle.terms.specs.Nodes.{AllPlain, nodeTable}
+use Rattle.meaning.specs.Tables.{Stands, mostDefined, mostFunctions}
+use Rattle.grammar.specs.Answer.{NotDerived, Shown as ShownIn, areaSize}
+use Rattle.grammar.specs.Derivation.{Admitted, LeavesFit}
+use Rattle.naming.specs.Scopes.{Function}
+use Rattle.script.specs.Script.{Known}
+use Rattle.script.specs.Tables.{GrammarHeld, bodiesPlace, firstsPlace, functionsPlace, placesLength}
+use Rattle.script.specs.declared.Progress.{Progress}
+use Rattle.response.specs.Response.{Body, inScriptOrder}
+use Rattle.assured.specs.Held.{Held}
+use Rattle.outcome.specs.Derived.{FirstUnderived, Shown, blankArea, shownArea, termsOf}
+
+-- The tables hold a script and a response that pass, and the area shows nothing.
+pub record Derivable (places nodes forms : List ℕ) (p : Progress) (area : List ℕ) : Type 0 where
+  pub names : List ℕ
+  pub known : Known
+  pub bodies : List Body
+  pub held : Held names places nodes forms p known bodies
+  pub blank : area ≡ blankArea
+
+-- Every body is derived, and the area shows how.
+pub record AllShown {places nodes forms area : List ℕ} {p : Progress} (q : Derivable places nodes forms p area) (areaAfter : List ℕ) : Type 0 where
+  pub lists : List (List ℕ)
+  pub shown : Shown (inScriptOrder (q .known .functions)) (termsOf (q .bodies)) lists
+  pub area-is : areaAfter ≡ shownArea lists
+
+-- Function j is the first without a derivation; its body's first word stands in the table.
+pub record OneUnderived {places nodes forms area : List ℕ} {p : Progress} (q : Derivable places nodes forms p area) (j : ℕ) : Type 0 where
+  pub body : Body
+  pub first : FirstUnderived (inScriptOrder (q .known .functions)) (q .bodies) j body
+  pub word : getD places (firstsPlace + j) 0 ≡ body .first
+
+-- The one or the other, by the number that is returned.
+pub record Judged {places nodes forms area : List ℕ} {p : Progress} (q : Derivable places nodes forms p area) (areaAfter : List ℕ) (r : ℕ) : Type 0 where
+  pub all! : r ≡ p .functions → AllShown q areaAfter
+  pub one! : (r ≡ p .functions → ⊥) → OneUnderived q r
+  pub long : length areaAfter ≡ length area
+
+-- The tables hold the grammar of function j, which is one that document 01 admits, and a body of at most 256 nodes whose literals are values of their sorts and
+-- whose names are the function's arguments; the area has its size.
+pub record OneDerivable (places nodes forms : List ℕ) (j : ℕ) (area : List ℕ) : Type 0 where
+  pub function : Function
+  pub body : Terms
+  pub long : length places ≡ placesLength
+  pub rows : ℕ
+  pub grammar-held : GrammarHeld (drop functionsPlace places) forms rows j function
+  pub forms-room : 4 * rows ≤ length forms
+  pub admitted : Admitted (function .grammar)
+  pub all : Terms
+  pub rest : List ℕ
+  pub nodes-are : nodes ≡ nodeTable all ++ rest
+  pub plain : AllPlain all
+  pub stands : Stands all (getD places (bodiesPlace + mostDefined + j) 0) body
+  pub few : size body ≤ 256
+  pub leaves : LeavesFit (function .grammar .arguments) body
+  pub sized : length area ≡ areaSize
+  pub low : j < mostFunctions
+
+-- The function's rules derive the body, and its list in the area shows how; or no list of rules does, and the area is as it was.
+pub record OneJudged {places nodes forms area : List ℕ} {j : ℕ} (q : OneDerivable places nodes forms j area) (areaAfter : List ℕ) (answer : Bool) : Type 0 where
+  pub yes! : answer ≡ true → ShownIn (q .function .grammar) (q .body) j area areaAfter
+  pub no! : answer ≡ false → NotDerived (q .function .grammar) (q .body) area areaAfter

@@ -1,0 +1,10 @@
+pub mod Stages
+pub mod Small
+pub mod Sorts
+pub mod Deriving
+pub mod Exact
+pub mod Unique
+pub mod Runs
+pub mod Units
+pub mod Variables
+pub mod Demands

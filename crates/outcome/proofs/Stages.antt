@@ -1,0 +1,149 @@
+-- Which answers each stage of the check gives.
+use Prim.Native.Nat.{ℕ, _≤_}
+use native.Mathlib.Omega.{arith}
+use mathlib.Core.Bool.{Bool, true, false, cond}
+use mathlib.Core.List.{List}
+use mathlib.Core.Option.{Option, none as nothing, some}
+use mathlib.Core.Path.{_≡_, refl, subst, subst₂, sym, _∙_}
+use lib.Dec.{eqb, ltb}
+use lib.ListN.{length}
+use Rattle.forest.proofs.Options.{never}
+use Rattle.readings.specs.Limits.{responseLimits, scriptLimits}
+use Rattle.grammar.specs.Answer.{areaSize}
+use Rattle.meaning.specs.declared.Ran.{Ran}
+use Rattle.meaning.specs.declared.Ran.the-variants.{Passed, False, Ended}
+use Rattle.script.specs.Script.{Known}
+use Rattle.response.specs.Response.{Body}
+use Rattle.texts.specs.Outcome.{ResponseOutcome, ScriptOutcome, given, responseOutcome, said, scriptOutcome}
+use Rattle.texts.proofs.Numbers.{Numbered, inResponse, inScript, response-numbered, script-numbered}
+use Rattle.outcome.specs.Checked.{Checked, Passing, Verdict, judged, missized, mostNumbers, refusal, response-refused, script-refused, sizeAnswer}
+use Rattle.outcome.specs.Checked.{unshown}
+use Rattle.outcome.specs.Demands.{Showing, accepted, budget-ended, constraint-false}
+use Rattle.outcome.specs.Derived.{blankArea}
+use Rattle.outcome.specs.Evaluated.{ranOutcome}
+use Rattle.outcome.specs.declared.Outcome.{Outcome}
+
+-- An answer 1: it names one of the four, and has no units.
+pub record TooLong (o : Outcome) : Type 0 where
+  pub number : o .number ≡ 1
+  pub text : o .text ≤ 3
+  pub units : o .units ≡ 0
+
+-- The same, where there is an answer.
+data Sized : Option Outcome → Type 0 where
+  right : Sized nothing
+  wrong : {o : Outcome} → TooLong o → Sized (some o)
+
+-- An answer of sizes is such.
+answered : {o : Outcome} → Sized (some o) → TooLong o
+answered (wrong h) = h
+
+-- A size that is not right is answer 1.
+pub missized-one : (script response points area : List ℕ) {o : Outcome} → sizeAnswer script response points area ≡ some o → TooLong o
+unfolding sizeAnswer
+missized-one script response points area e =
+    answered (subst Sized e
+    (either (ltb (scriptLimits .bytes) (length script)) (one 0 (length script) (omega arith))
+    (either (ltb (responseLimits .bytes) (length response)) (one 1 (length response) (omega arith))
+    (either (ltb mostNumbers (length points)) (one 2 (length points) (omega arith))
+    (either (eqb (length area) areaSize) right (one 3 (length area) (omega arith)))))))
+  where
+    one : (text place : ℕ) → text ≤ 3 → Sized (some (refusal 1 text place))
+    one text place h = wrong (record { number = refl; text = h; units = refl })
+
+    either : {a b : Option Outcome} (t : Bool) → Sized a → Sized b → Sized (cond t a b)
+    either true p q = p
+    either false p q = q
+
+-- A script that is refused has a number from 1 to 12.
+pub script-number : (script : List ℕ) {number offset : ℕ} → scriptOutcome script ≡ ScriptOutcome.faulty number offset → (1 ≤ number) × (number ≤ 12)
+script-number script e = let h = subst (Numbered inScript) e (script-numbered script) in (h .some, h .few)
+
+-- So has a response.
+pub response-number : (k : Known) (response : List ℕ) {number offset : ℕ} → responseOutcome k response ≡ ResponseOutcome.faulty number offset
+    → (1 ≤ number) × (number ≤ 12)
+response-number k response e = let h = subst (Numbered inResponse) e (response-numbered k response) in (h .some, h .few)
+
+-- A test that gives no answer has failed, and the next gives none.
+not-answered : (t : Bool) (o : Outcome) {later : Option Outcome} → cond t (some o) later ≡ nothing → later ≡ nothing
+not-answered true o e = never (sym e)
+not-answered false o e = e
+
+-- Where all sizes are right, an area that shows nothing is blank.
+pub sized-area : (script response points area : List ℕ) → sizeAnswer script response points area ≡ nothing → unshown area ≡ blankArea
+unfolding sizeAnswer
+sized-area script response points area e =
+    let script-fits = not-answered (ltb (scriptLimits .bytes) (length script)) (refusal 1 0 (length script)) e in
+    let response-fits = not-answered (ltb (responseLimits .bytes) (length response)) (refusal 1 1 (length response)) script-fits in
+    let points-fit = not-answered (ltb mostNumbers (length points)) (refusal 1 2 (length points)) response-fits in
+    go (eqb (length area) areaSize) (refusal 1 3 (length area)) points-fit
+  where
+    go : (t : Bool) (o : Outcome) → cond t nothing (some o) ≡ nothing → cond t blankArea area ≡ blankArea
+    go true o h = refl
+    go false o h = never (sym h)
+
+-- A script that is refused says nothing.
+not-said : {A : Type 0} {number offset : ℕ} {k : Known} → ScriptOutcome.faulty number offset ≡ said k → A
+not-said e = let z : _≡_ {A = ℕ} 0 1 = cc in absurd (omega arith)
+
+-- A response that is refused gives no bodies.
+not-given : {A : Type 0} {number offset : ℕ} {bs : List Body} → ResponseOutcome.faulty number offset ≡ given bs → A
+not-given e = let z : _≡_ {A = ℕ} 0 1 = cc in absurd (omega arith)
+
+-- A script says one thing.
+one-known : (script : List ℕ) {k other : Known} → scriptOutcome script ≡ said k → scriptOutcome script ≡ said other → k ≡ other
+one-known script e h = cc
+
+-- To what the script says a response is one thing.
+of-known : (script response : List ℕ) {k other : Known} {r : ResponseOutcome} → scriptOutcome script ≡ said k → scriptOutcome script ≡ said other
+    → responseOutcome k response ≡ r → responseOutcome other response ≡ r
+of-known script response {r = r} e h x = subst (λ (k : Known). responseOutcome k response ≡ r) (one-known script e h) x
+
+module _ {script response points : List ℕ} {budget : ℕ} {area : List ℕ} where
+  -- Where a size is not right, that is answered.
+  pub of-missized : {answer o : Outcome} {a : List ℕ} → sizeAnswer script response points area ≡ some answer
+      → Checked script response points budget area o a → o ≡ answer
+  of-missized e (missized h) = cc
+  of-missized e (script-refused z h) = never (sym z ∙ e)
+  of-missized e (response-refused z s h) = never (sym z ∙ e)
+  of-missized e (judged p v) = never (sym (p .sized) ∙ e)
+
+  -- Else, where the script is refused, that is answered.
+  pub of-script : {number offset : ℕ} {o : Outcome} {a : List ℕ} → sizeAnswer script response points area ≡ nothing
+      → scriptOutcome script ≡ ScriptOutcome.faulty number offset → Checked script response points budget area o a → o ≡ refusal number 0 offset
+  of-script n e (missized h) = never (sym n ∙ h)
+  of-script n e (script-refused z h) = cc
+  of-script n e (response-refused z s h) = not-said (sym e ∙ s)
+  of-script n e (judged p v) = not-said (sym e ∙ p .says)
+
+  -- Else, where the response is refused, that is answered.
+  pub of-response : {k : Known} {number offset : ℕ} {o : Outcome} {a : List ℕ} → sizeAnswer script response points area ≡ nothing
+      → scriptOutcome script ≡ said k → responseOutcome k response ≡ ResponseOutcome.faulty number offset
+      → Checked script response points budget area o a → o ≡ refusal number 1 offset
+  of-response n e r (missized h) = never (sym n ∙ h)
+  of-response n e r (script-refused z h) = not-said (sym h ∙ e)
+  of-response n e r (response-refused z s h) = let x = of-known script response e s r in cc
+  of-response n e r (judged p v) = not-given (sym (of-known script response e (p .says) r) ∙ p .gives)
+
+  -- Where both pass, the verdict on them is.
+  pub of-passing : {k : Known} {bs : List Body} {o : Outcome} {a : List ℕ} → Passing script response points area k bs
+      → Checked script response points budget area o a → Verdict response k bs points budget o a
+  of-passing p (missized h) = never (sym (p .sized) ∙ h)
+  of-passing p (script-refused z h) = not-said (sym h ∙ p .says)
+  of-passing p (response-refused z s h) = not-given (sym (of-known script response s (p .says) h) ∙ p .gives)
+  of-passing {bs = bs} {o} {a} p (judged {bs = cs} q v) =
+      let x = of-known script response (q .says) (p .says) (q .gives) in
+      let same : cs ≡ bs = cc (p .gives) in
+      subst₂ (λ (k : Known) (bs : List Body). Verdict response k bs points budget o a) (one-known script (q .says) (p .says)) same v
+
+-- A number that is none of the three shows nothing.
+pub not-showing : {n : ℕ} → (n ≡ 0 → ⊥) × (n ≡ 14 → ⊥) × (n ≡ 15 → ⊥) → Showing n → ⊥
+not-showing h accepted = h .0 refl
+not-showing h constraint-false = h .1 refl
+not-showing h budget-ended = h .2 refl
+
+-- What a run finds is one of the three.
+pub ran-showing : (n budget : ℕ) (ran : Ran) → Showing (ranOutcome n budget ran .number)
+ran-showing n budget (Passed left) = accepted
+ran-showing n budget (False point constraint left) = constraint-false
+ran-showing n budget (Ended point constraint left) = budget-ended

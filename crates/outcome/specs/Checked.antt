@@ -1,0 +1,67 @@
+-- The checker: which answer, and what stands in the lent area afterwards.
+use Prim.Native.Nat.{ℕ}
+use mathlib.Core.Bool.{cond}
+use mathlib.Core.List.{List}
+use mathlib.Core.Option.{Option, none as nothing, some}
+use mathlib.Core.Path.{_≡_}
+use lib.Dec.{eqb, ltb}
+use lib.ListN.{length}
+use Rattle.readings.specs.Limits.{responseLimits, scriptLimits}
+use Rattle.grammar.specs.Answer.{areaSize}
+use Rattle.meaning.specs.Points.{pointsOf}
+use Rattle.meaning.specs.declared.PointList.the-variants.{Good, Bad}
+use Rattle.naming.specs.Scopes.{sortsOf}
+use Rattle.script.specs.Script.{Known}
+use Rattle.response.specs.Response.{Body, inScriptOrder}
+use Rattle.texts.specs.Outcome.{ResponseOutcome, ScriptOutcome, given, offsetOf, responseOutcome, said, scriptOutcome}
+use Rattle.outcome.specs.Derived.{FirstUnderived, Shown, blankArea, shownArea, termsOf}
+use Rattle.outcome.specs.Evaluated.{ranOutcome, ranWith}
+use Rattle.outcome.specs.declared.Outcome.{Outcome}
+
+-- "1,024 point numbers"
+abbrev pub mostNumbers : ℕ
+mostNumbers = 1024
+
+-- An answer that names a text and a place: its second number is 0, and it has no units.
+abbrev pub refusal : (number text place : ℕ) → Outcome
+refusal number text place = record { number = number; text = text; place = place; second = 0; units = 0 }
+
+-- "1 (script, response, points, area)": "script, response or point list too long, or a lent area not of its size", at "its length".
+unfoldable pub sizeAnswer : (script response points area : List ℕ) → Option Outcome
+sizeAnswer script response points area =
+    cond (ltb (scriptLimits .bytes) (length script)) (some (refusal 1 0 (length script)))
+    (cond (ltb (responseLimits .bytes) (length response)) (some (refusal 1 1 (length response)))
+    (cond (ltb mostNumbers (length points)) (some (refusal 1 2 (length points)))
+    (cond (eqb (length area) areaSize) nothing (some (refusal 1 3 (length area))))))
+
+-- "after any other answer each entry is 65,535, except that an area of wrong size is unchanged".
+abbrev pub unshown : (area : List ℕ) → List ℕ
+unshown area = cond (eqb (length area) areaSize) blankArea area
+
+-- The sizes are right, and both texts pass: what the script says, and the bodies that the response gives.
+pub record Passing (script response points area : List ℕ) (k : Known) (bs : List Body) : Type 0 where
+  pub sized : sizeAnswer script response points area ≡ nothing
+  pub says : scriptOutcome script ≡ said k
+  pub gives : responseOutcome k response ≡ given bs
+
+-- Of texts that pass: "then 13 (first such function), 16 (length first), and evaluation", and the area afterwards.
+pub data Verdict (response : List ℕ) (k : Known) (bs : List Body) (points : List ℕ) (budget : ℕ) : Outcome → (areaAfter : List ℕ) → Type 0 where
+  underived : {j : ℕ} {b : Body} → FirstUnderived (inScriptOrder (k .functions)) bs j b
+      → Verdict response k bs points budget (record { number = 13; text = 1; place = offsetOf response (b .first); second = j; units = 0 }) blankArea
+  points-refused : {lists : List (List ℕ)} {place : ℕ} → Shown (inScriptOrder (k .functions)) (termsOf bs) lists
+      → pointsOf (sortsOf (k .variables)) points ≡ Bad place → Verdict response k bs points budget (refusal 16 2 place) blankArea
+  evaluated : {lists : List (List ℕ)} {n : ℕ} → Shown (inScriptOrder (k .functions)) (termsOf bs) lists
+      → pointsOf (sortsOf (k .variables)) points ≡ Good n
+      → Verdict response k bs points budget (ranOutcome n budget (ranWith k (termsOf bs) points n budget)) (shownArea lists)
+
+-- The answer and the area afterwards. "Order: 1 ..; script words ..; commands ..; response words likewise; 10 and 11 ..; the response's commands likewise ..;
+-- then 13 .."
+pub data Checked (script response points : List ℕ) (budget : ℕ) (area : List ℕ) : Outcome → (areaAfter : List ℕ) → Type 0 where
+  missized : {answer : Outcome} → sizeAnswer script response points area ≡ some answer → Checked script response points budget area answer (unshown area)
+  script-refused : {number offset : ℕ} → sizeAnswer script response points area ≡ nothing → scriptOutcome script ≡ ScriptOutcome.faulty number offset
+      → Checked script response points budget area (refusal number 0 offset) blankArea
+  response-refused : {k : Known} {number offset : ℕ} → sizeAnswer script response points area ≡ nothing → scriptOutcome script ≡ said k
+      → responseOutcome k response ≡ ResponseOutcome.faulty number offset
+      → Checked script response points budget area (refusal number 1 offset) blankArea
+  judged : {k : Known} {bs : List Body} {answer : Outcome} {areaAfter : List ℕ} → Passing script response points area k bs
+      → Verdict response k bs points budget answer areaAfter → Checked script response points budget area answer areaAfter

@@ -1,0 +1,129 @@
+-- What follows from the checker's contract, `Checked`: the words in which proofs/ states it (Unique, Exact, Units, Demands).
+use Prim.Native.Nat.{ℕ, _+_, _*_, _≤_, _<_}
+use mathlib.Core.Bool.{true, false}
+use mathlib.Core.List.{List, [], _∷_}
+use mathlib.Core.Option.{Option, some}
+use mathlib.Core.Path.{_≡_}
+use lib.ListN.{getD, length}
+use Rattle.forest.specs.Forest.{none}
+use Rattle.bits.specs.Sorts.{AllFit, bool}
+use Rattle.terms.specs.Labels.{Terms}
+use Rattle.terms.specs.Values.{numbersIn, sortsIn, value, valuesAt}
+use Rattle.terms.specs.declared.Value.{Value}
+use Rattle.meaning.specs.Points.{pointAt, pointsOf}
+use Rattle.meaning.specs.Running.{isTrue}
+use Rattle.meaning.specs.declared.PointList.the-variants.{Good}
+use Rattle.naming.specs.Scopes.{sortsOf}
+use Rattle.script.specs.Script.{Known}
+use Rattle.script.specs.Tables.{definitionsOf}
+use Rattle.response.specs.Response.{Body, inScriptOrder}
+use Rattle.texts.specs.Outcome.{offsetOf}
+use Rattle.outcome.specs.Checked.{Passing, unshown}
+use Rattle.outcome.specs.Derived.{Derived, FirstUnderived, Shown, shownArea, termsOf}
+use Rattle.outcome.specs.Evaluated.{functionsWith}
+use Rattle.outcome.specs.Units.{spentBy, summed}
+use Rattle.outcome.specs.declared.Outcome.{Outcome}
+
+-- The answers 0, 14 and 15: "These three show the derivations".
+pub data Showing : (number : ℕ) → Type 0 where
+  accepted : Showing 0
+  constraint-false : Showing 14
+  budget-ended : Showing 15
+
+-- Texts that pass, and an area that shows a derivation of each body from its function's grammar.
+pub record DerivationsShown (script response points area areaAfter : List ℕ) : Type 0 where
+  pub k : Known
+  pub bs : List Body
+  pub lists : List (List ℕ)
+  pub passing : Passing script response points area k bs
+  pub shown : Shown (inScriptOrder (k .functions)) (termsOf bs) lists
+  pub is : areaAfter ≡ shownArea lists
+
+-- "These three show the derivations; after any other answer each entry is 65,535, except that an area of wrong size is unchanged."
+pub data AreaStated (script response points area : List ℕ) (o : Outcome) (areaAfter : List ℕ) : Type 0 where
+  shows : Showing (o .number) → DerivationsShown script response points area areaAfter → AreaStated script response points area o areaAfter
+  shows-none : (Showing (o .number) → ⊥) → areaAfter ≡ unshown area → AreaStated script response points area o areaAfter
+
+-- Two areas after one answer, which differ at most in "which derivation is shown where several exist".
+pub data Alike (script response points area : List ℕ) (o : Outcome) (one other : List ℕ) : Type 0 where
+  both-show : Showing (o .number) → DerivationsShown script response points area one → DerivationsShown script response points area other
+      → Alike script response points area o one other
+  the-same : (Showing (o .number) → ⊥) → one ≡ other → Alike script response points area o one other
+
+-- Texts that pass, of which the answer names the first function whose grammar derives its body by no list of rules, of any length, and the body's first word.
+pub record NoDerivation (script response points area : List ℕ) (o : Outcome) : Type 0 where
+  pub k : Known
+  pub bs : List Body
+  pub b : Body
+  pub passing : Passing script response points area k bs
+  pub first : FirstUnderived (inScriptOrder (k .functions)) bs (o .second) b
+  pub place : o .place ≡ offsetOf response (b .first)
+  pub none-derived : Derived (inScriptOrder (k .functions)) (termsOf bs) → ⊥
+
+-- "a well-sorted response passes the grammar check exactly when each body has a derivation from its function's grammar": 13 is answered exactly when, all else
+-- passed, that is not so; and it names the first body that has none.
+pub record Exact (script response points area : List ℕ) (o : Outcome) : Type 0 where
+  pub derived-passes : {k : Known} {bs : List Body} → Passing script response points area k bs → Derived (inScriptOrder (k .functions)) (termsOf bs)
+      → o .number ≡ 13 → ⊥
+  pub passed-derived : {k : Known} {bs : List Body} → Passing script response points area k bs → (o .number ≡ 13 → ⊥)
+      → Derived (inScriptOrder (k .functions)) (termsOf bs)
+  pub underived-refused : {k : Known} {bs : List Body} → Passing script response points area k bs
+      → (Derived (inScriptOrder (k .functions)) (termsOf bs) → ⊥) → o .number ≡ 13
+  pub refused-underived : o .number ≡ 13 → NoDerivation script response points area o
+
+-- The cost of p whole points and of the first c constraints at the point after them, where the functions of the script have these terms for bodies.
+abbrev pub spentOn : Known → List Terms → (p c : ℕ) → ℕ
+spentOn k ts p c = spentBy (definitionsOf (k .defined)) (functionsWith k ts) (k .constraints) p c
+
+-- The values of constraint c at point p, where the functions of the script have these terms for bodies.
+abbrev pub valuesOn : Known → List Terms → (points : List ℕ) → (p c : ℕ) → Option (List Value)
+valuesOn k ts points p c =
+    valuesAt (definitionsOf (k .defined)) (functionsWith k ts) (pointAt (sortsOf (k .variables)) points p) (getD (k .constraints) c none)
+
+-- "the units spent: the summed cost of evaluations done, a false one included"; "One whose cost exceeds what the budget has left isn't begun."
+pub record UnitsStated (k : Known) (ts : List Terms) (budget : ℕ) (o : Outcome) : Type 0 where
+  pub accepted : o .number ≡ 0 → o .units ≡ spentOn k ts (o .second) 0
+  pub constraint-false : o .number ≡ 14 → o .units ≡ spentOn k ts (o .place) (o .second + 1)
+  pub budget-ended : o .number ≡ 15 → o .units ≡ spentOn k ts (o .place) (o .second)
+  pub exceeds : o .number ≡ 15 → budget < spentOn k ts (o .place) (o .second + 1)
+  pub within : o .units ≤ budget
+
+-- A point of the list and a constraint, by their numbers.
+pub record Named (k : Known) (points : List ℕ) (p c : ℕ) : Type 0 where
+  pub n : ℕ
+  pub whole : pointsOf (sortsOf (k .variables)) points ≡ Good n
+  pub point : p < n
+  pub constraint : c < length (k .constraints)
+
+-- Every constraint is true at each of the points before p, and so are those before c at p.
+pub record TrueBefore (k : Known) (ts : List Terms) (points : List ℕ) (p c : ℕ) : Type 0 where
+  pub points-before : (q d : ℕ) → q < p → d < length (k .constraints) → isTrue (valuesOn k ts points q d) ≡ true
+  pub constraints-before : (d : ℕ) → d < c → isTrue (valuesOn k ts points p d) ≡ true
+
+-- "for each point, each constraint in script order; the first false one ends the work with answer 14".
+pub record InOrder (k : Known) (ts : List Terms) (points : List ℕ) (o : Outcome) : Type 0 where
+  pub accepted : o .number ≡ 0 → (pointsOf (sortsOf (k .variables)) points ≡ Good (o .second)) × TrueBefore k ts points (o .second) 0
+  pub constraint-false : o .number ≡ 14 → Named k points (o .place) (o .second) × TrueBefore k ts points (o .place) (o .second)
+      × (isTrue (valuesOn k ts points (o .place) (o .second)) ≡ false)
+  pub budget-ended : o .number ≡ 15 → Named k points (o .place) (o .second) × TrueBefore k ts points (o .place) (o .second)
+
+-- A "point of the right sorts": a value for each variable, of the variable's sort.
+pub record RightSorts (k : Known) (point : List Value) : Type 0 where
+  pub sorts : sortsIn point ≡ sortsOf (k .variables)
+  pub values : AllFit (sortsIn point) (numbersIn point)
+
+-- "one truth value": one value, and it is false or true.
+pub data OneTruth : Option (List Value) → Type 0 where
+  is-false : OneTruth (some (value bool 0 ∷ []))
+  is-true : OneTruth (some (value bool 1 ∷ []))
+
+-- "the budget is at least the summed cost of all the evaluations", n points' of all constraints.
+abbrev pub Affords : Known → List Terms → (n budget : ℕ) → Type 0
+Affords k ts n budget = n * summed (definitionsOf (k .defined)) (functionsWith k ts) (k .constraints) ≤ budget
+
+-- "the answer can only be accepted or a named false constraint": every constraint is true at every point; or the constraint named is false at the point named.
+pub data Decided (k : Known) (ts : List Terms) (points : List ℕ) (o : Outcome) : Type 0 where
+  all-true : o .number ≡ 0 → pointsOf (sortsOf (k .variables)) points ≡ Good (o .second)
+      → ((p c : ℕ) → p < o .second → c < length (k .constraints) → valuesOn k ts points p c ≡ some (value bool 1 ∷ [])) → Decided k ts points o
+  named-false : o .number ≡ 14 → Named k points (o .place) (o .second)
+      → valuesOn k ts points (o .place) (o .second) ≡ some (value bool 0 ∷ []) → Decided k ts points o

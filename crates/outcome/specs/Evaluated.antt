@@ -1,0 +1,35 @@
+-- Evaluation of a script with terms for its functions, and its answers.
+use Prim.Native.Nat.{ℕ, _-_}
+use mathlib.Core.List.{List, [], _∷_}
+use Rattle.terms.specs.Labels.{Terms}
+use Rattle.terms.specs.Sorts.{Definition}
+use Rattle.meaning.specs.Running.{runPoints}
+use Rattle.meaning.specs.declared.Ran.{Ran}
+use Rattle.meaning.specs.declared.Ran.the-variants.{Passed, False, Ended}
+use Rattle.naming.specs.Scopes.{Function, signatureOf, sortsOf}
+use Rattle.script.specs.Script.{Known}
+use Rattle.script.specs.Tables.{definitionsOf}
+use Rattle.response.specs.Response.{inScriptOrder}
+use Rattle.outcome.specs.declared.Outcome.{Outcome}
+
+-- Functions in script order with terms for their bodies, as definitions, the last first; those of `earlier` come before them in the script.
+unfoldable pub completed : List Function → List Terms → (earlier : List Definition) → List Definition
+completed [] ts earlier = earlier
+completed (f ∷ fs) [] earlier = earlier
+completed (f ∷ fs) (t ∷ ts) earlier = completed fs ts (record { signature = signatureOf f; body = t } ∷ earlier)
+
+-- The synthesized functions of a script with terms for their bodies, the last first.
+abbrev pub functionsWith : Known → List Terms → List Definition
+functionsWith k ts = completed (inScriptOrder (k .functions)) ts []
+
+-- What the run over n points finds, where the functions have these terms for bodies.
+abbrev pub ranWith : Known → List Terms → (points : List ℕ) → (n budget : ℕ) → Ran
+ranWith k ts points n budget =
+    runPoints (definitionsOf (k .defined)) (functionsWith k ts) (sortsOf (k .variables)) points (k .constraints) n 0 budget
+
+-- 0: "accepted", with "points done"; 14: "constraint false" and 15: "budget ended", each with its "point; constraint". "the units spent: the summed cost of
+-- evaluations done, a false one included".
+abbrev pub ranOutcome : (n budget : ℕ) → Ran → Outcome
+ranOutcome n budget (Passed left) = record { number = 0; text = 3; place = 0; second = n; units = budget - left }
+ranOutcome n budget (False point constraint left) = record { number = 14; text = 2; place = point; second = constraint; units = budget - left }
+ranOutcome n budget (Ended point constraint left) = record { number = 15; text = 2; place = point; second = constraint; units = budget - left }

@@ -1,0 +1,5 @@
+pub mod Derived
+pub mod Evaluated
+pub mod Checked
+pub mod Units
+pub mod Demands

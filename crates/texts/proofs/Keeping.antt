@@ -1,0 +1,98 @@
+-- What every command within its limits keeps to, a script that passes keeps to.
+use Prim.Native.Nat.{ℕ, _≤_, _<_}
+use native.Mathlib.Omega.{arith}
+use mathlib.Core.Bool.{Bool, true, false, cond, not, _||_}
+use mathlib.Core.List.{List, [], append-nil}
+use mathlib.Core.Path.{_≡_, refl, sym, subst}
+use lib.Dec.{ltb}
+use borrow.Author.Tests.{ltb-false}
+use Rattle.forest.specs.Forest.{none, tree}
+use Rattle.words.specs.Reading.{readingOf}
+use Rattle.words.specs.Table.{wordTable}
+use Rattle.words.specs.Trees.{wordOf}
+use Rattle.words.specs.Words.{wordsOf}
+use Rattle.readings.specs.Limits.{scriptLimits}
+use Rattle.readings.specs.declared.Reading.{Reading}
+use Rattle.readings.specs.declared.Reading.the-variants.{Whole, Refused}
+use Rattle.lexemes.specs.Lists.{Items, isList}
+use Rattle.lexemes.specs.Standing.{itemsOf}
+use Rattle.lexemes.specs.Table.{lexemeTable}
+use Rattle.lexemes.proofs.Wholes.{text-stands}
+use Rattle.shapes.specs.Carried.{notCarried}
+use Rattle.shapes.specs.Shapes.{commandShape}
+use Rattle.heading.specs.Heads.{allowed}
+use Rattle.script.specs.Script.{Known, Read, andThen, grammarPlace, judged, knownAfter, limitPlace, namePlace, outOfPlace, passed, readAll, refused}
+use Rattle.script.specs.Script.{sortingPlace, start, tested}
+use Rattle.script.proofs.Places.{Below, stands-below}
+use Rattle.texts.specs.Outcome.{ScriptOutcome, byCommands, byWords, said, scriptOutcome}
+
+-- Every command within its limits keeps to P.
+module _ (P : Known → Type 0)
+    (kept : (nowhere : ℕ) (k : Known) (at : ℕ) (c : Items) → 0 < nowhere → Below nowhere c → nowhere ≤ limitPlace allowed nowhere k at c
+    → P k → P (knownAfter k c)) where
+  -- What is known keeps to P, where the reading passes.
+  data Keeps : Read → Type 0 where
+    ends : {number place : ℕ} → Keeps (refused number place)
+    goes-on : {k : Known} → P k → Keeps (passed k)
+
+  -- One of two readings, by a test.
+  either-keeps : (test : Bool) {x y : Read} → (test ≡ true → Keeps x) → (test ≡ false → Keeps y) → Keeps (cond test x y)
+  either-keeps true f g = f refl
+  either-keeps false f g = g refl
+
+  -- A command and what follows it.
+  then-keeps : {read : Read} (next : Known → Read) → Keeps read → ((k : Known) → P k → Keeps (next k)) → Keeps (andThen read next)
+  then-keeps next ends later = ends
+  then-keeps next (goes-on {k = k} p) later = later k p
+
+  -- A command that passes is within its limits.
+  judged-keeps : (nowhere : ℕ) (k : Known) (at : ℕ) (c : Items) (after : Known) → (nowhere ≤ limitPlace allowed nowhere k at c → P after)
+      → Keeps (judged allowed nowhere k at c after)
+  unfolding judged tested
+  judged-keeps nowhere k at c after p =
+      either-keeps (notCarried c) (λ e. ends)
+      (λ e. either-keeps (not (commandShape c) || outOfPlace k c) (λ e. ends)
+      (λ e. either-keeps (ltb (limitPlace allowed nowhere k at c) nowhere) (λ e. ends)
+      (λ limited. either-keeps (ltb (namePlace nowhere k c) nowhere) (λ e. ends)
+      (λ e. either-keeps (ltb (sortingPlace nowhere k c) nowhere) (λ e. ends)
+      (λ e. either-keeps (ltb (grammarPlace nowhere k c) nowhere) (λ e. ends)
+      (λ e. goes-on (p (ltb-false _ _ limited))))))))
+
+  -- All commands.
+  all-keep : (nowhere : ℕ) (items : Items) {k : Known} → Below nowhere items → P k → Keeps (readAll allowed nowhere k items)
+  unfolding Below readAll
+  all-keep nowhere none {k} below p = either-keeps (k .ended) (λ e. goes-on p) (λ e. ends)
+  all-keep nowhere (tree l c more) {k} below p =
+      let some-word : 0 < nowhere = omega (arith, below .0 .first) in
+      let command = judged-keeps nowhere k (wordOf l) c (knownAfter k c) (λ limited. kept nowhere k (wordOf l) c some-word (below .1) limited p) in
+      either-keeps (isList l) (λ e. then-keeps _ command (λ later q. all-keep nowhere more (below .2) q)) (λ e. ends)
+
+  -- What the script says keeps to P.
+  data SaidKeeps : ScriptOutcome → Type 0 where
+    nothing-said : {number offset : ℕ} → SaidKeeps (ScriptOutcome.faulty number offset)
+    said-keeps : {k : Known} → P k → SaidKeeps (said k)
+
+  -- What the commands say.
+  commands-keep : (text : List ℕ) {read : Read} → Keeps read → SaidKeeps (byCommands text read)
+  commands-keep text ends = nothing-said
+  commands-keep text (goes-on p) = said-keeps p
+
+  -- What a text says.
+  text-keeps : (text : List ℕ) → P start → SaidKeeps (scriptOutcome text)
+  unfolding scriptOutcome
+  text-keeps text p = go (readingOf scriptLimits text) refl
+    where
+      go : (reading : Reading) → readingOf scriptLimits text ≡ reading → SaidKeeps (byWords text reading)
+      go (Refused fault place n) whole = nothing-said
+      go (Whole n) whole =
+          let stands = text-stands scriptLimits text n whole (wordTable (wordsOf text)) (lexemeTable text (wordsOf text)) [] []
+          (sym (append-nil (wordTable (wordsOf text)))) (sym (append-nil (lexemeTable text (wordsOf text)))) in
+          commands-keep text (all-keep n (itemsOf text) (stands-below n stands (omega arith)) p)
+
+  -- What is said keeps to P.
+  kept-said : {k : Known} → SaidKeeps (said k) → P k
+  kept-said (said-keeps p) = p
+
+  -- A script that passes keeps to P.
+  pub script-keeps : (text : List ℕ) {k : Known} → scriptOutcome text ≡ said k → P start → P k
+  script-keeps text e p = kept-said (subst SaidKeeps e (text-keeps text p))

@@ -1,0 +1,72 @@
+//! What is written of the checker's answer.
+use crate::area::area_room;
+use crate::area::report_area;
+use crate::hex::decode;
+use crate::hex::decode_numbers;
+use crate::hex::number_of;
+use crate::report::text_room;
+use crate::report::write_number;
+use checker::check;
+use outcome::Outcome;
+ghost use mathlib.Core.Path.{_≡_};
+ghost use Prim.Native.Nat.{_≤_};
+ghost use lib.ListN.{length, take};
+
+// Room for a list of points that is too long by one number.
+fn points_room() -> [u64; 1025]
+    ensures { λ r. ⌜ 1025 ≡ length r ⌝ }
+{
+    [0; 1025]
+}
+
+// The size of the area to be lent, given in hex: a part of the room there is.
+fn area_size(digits: &[u8], room: &[u16]) -> usize
+    ensures { λ r. ⌜ (r ≤ length (now (room .entry))) × (r ≡ length (take r (now (room .entry)))) ⌝ }
+{
+    let size = number_of(digits) as usize;
+    if size > room.len() {
+        return room.len();
+    }
+    size
+}
+
+// Writes an answer: its number, its text, its place, its second number and its units.
+fn write_answer(answer: Outcome) {
+    write_number(b" answer ", answer.number as u64);
+    write_number(b" ", answer.text as u64);
+    write_number(b" ", answer.place as u64);
+    write_number(b" ", answer.second as u64);
+    write_number(b" ", answer.units);
+}
+
+// Writes the answer, and what stands in the area afterwards.
+fn report_check(script: &[u8], response: &[u8], points: &[u64], budget: u64, area: &mut [u16]) {
+    let answer = check(script, response, points, budget, area);
+    write_answer(answer);
+    report_area(area);
+}
+
+// Does so for texts, points, a budget and the size of an area that are given in hex.
+pub fn report_answer(
+    script_digits: &[u8],
+    response_digits: &[u8],
+    points_digits: &[u8],
+    budget_digits: &[u8],
+    area_digits: &[u8],
+) {
+    let mut script = text_room();
+    let mut response = text_room();
+    let mut points = points_room();
+    let mut area = area_room();
+    let script_size = decode(script_digits, &mut script);
+    let response_size = decode(response_digits, &mut response);
+    let count = decode_numbers(points_digits, &mut points);
+    let size = area_size(area_digits, &area);
+    report_check(
+        &script[..script_size],
+        &response[..response_size],
+        &points[..count],
+        number_of(budget_digits),
+        &mut area[..size],
+    );
+}

@@ -1,0 +1,232 @@
+//! Answers in words.
+
+use crate::facts::Facts;
+use crate::points::MOST_NUMBERS;
+use crate::script::{Sort, Sorted};
+
+/// "Script 32,768 bytes".
+pub const MOST_SCRIPT_BYTES: usize = 32_768;
+/// "response 8,192".
+pub const MOST_RESPONSE_BYTES: usize = 8_192;
+
+/// The meaning of each number, by document 01's table.
+const MEANINGS: [&str; 17] = [
+    "accepted",
+    "too long",
+    "bad word",
+    "bracket closed too often or never closed",
+    "past a limit",
+    "shape unknown",
+    "not carried",
+    "name unknown, taken or reserved",
+    "sort fault",
+    "grammar fault",
+    "response is fail",
+    "response is infeasible",
+    "response header differs",
+    "no derivation",
+    "constraint false",
+    "budget ended",
+    "point list not whole points, or value outside its sort",
+];
+
+/// What an answer comes to.
+#[derive(Clone, Copy, Debug, PartialEq, Eq)]
+pub enum Verdict {
+    Accepted,
+    /// The response is found wanting.
+    Rejected,
+    /// The input is not one that can be judged.
+    Refused,
+}
+
+/// What the answer of a number comes to.
+pub fn verdict(number: u8) -> Verdict {
+    match number {
+        0 => Verdict::Accepted,
+        10..=15 => Verdict::Rejected,
+        _ => Verdict::Refused,
+    }
+}
+
+impl Verdict {
+    /// The exit status of the command.
+    pub fn status(self) -> u8 {
+        match self {
+            Verdict::Accepted => 0,
+            Verdict::Rejected => 1,
+            Verdict::Refused => 2,
+        }
+    }
+
+    /// The verdict as a word.
+    pub fn word(self) -> &'static str {
+        match self {
+            Verdict::Accepted => "accepted",
+            Verdict::Rejected => "rejected",
+            Verdict::Refused => "refused",
+        }
+    }
+}
+
+/// The meaning of a number.
+pub fn meaning(number: u8) -> &'static str {
+    MEANINGS
+        .get(usize::from(number))
+        .copied()
+        .unwrap_or("unknown answer")
+}
+
+/// The name of a text.
+pub fn text_name(text: u8) -> &'static str {
+    match text {
+        0 => "script",
+        1 => "response",
+        2 => "points",
+        _ => "none",
+    }
+}
+
+/// A number of things, the word in its form for one or for many.
+pub fn counted(count: u64, thing: &str) -> String {
+    match count {
+        1 => format!("1 {thing}"),
+        _ => format!("{count} {thing}s"),
+    }
+}
+
+/// The answer in a sentence, without the place.
+pub fn sentence(facts: &Facts) -> String {
+    let answer = facts.answer;
+    let (place, second) = (answer.place, answer.second);
+    let located = facts.located.as_ref();
+    let word = located.map_or("", |one| one.place.word.as_str());
+    match answer.number {
+        0 => accepted(facts),
+        1 => too_long(facts),
+        2..=9 => refusal(answer.number, text_name(answer.text), word),
+        10 | 11 => format!("the {}: the solver gave no body", meaning(answer.number)),
+        12 => "this differs from the functions that the script declares".to_string(),
+        13 => {
+            let function = facts.function.as_deref().unwrap_or_default();
+            format!("the grammar of {function} does not derive this body")
+        }
+        14 => format!("constraint {second} is false at point {place}"),
+        15 => {
+            let budget = counted(facts.given.budget, "unit");
+            format!("the budget of {budget} ends before constraint {second} at point {place}")
+        }
+        16 => bad_points(facts),
+        number => format!("unknown answer {number}"),
+    }
+}
+
+/// Answers 2 to 9 of a text in words; the word is empty at the text's end.
+fn refusal(number: u8, text: &str, word: &str) -> String {
+    let quoted = match word.len() {
+        0..=40 => format!("`{word}`"),
+        _ => format!("`{}...`", &word[..40]),
+    };
+    match (number, word) {
+        (2, _) => format!("{quoted} is no numeral, no literal and no symbol"),
+        (3, "") => format!("the {text} ends, and a bracket is not closed"),
+        (3, _) => "this bracket closes none that is open".to_string(),
+        (4, _) => format!("{quoted} is past a limit: {}", limit(word)),
+        (5, "") => format!("the {text} ends early"),
+        (5, "(") => "what begins here has no shape that is known".to_string(),
+        (5, _) => format!("{quoted} stands where a list is needed"),
+        (6, "(") => "this command, or a part of it, is not carried".to_string(),
+        (6, _) => format!("{quoted} is not carried"),
+        (7, _) => format!("the name {quoted} is unknown here, or taken, or reserved"),
+        (8, _) => "this sort is faulty, or this term is not of the sort that is needed".to_string(),
+        _ => "the grammar is not listed as declared, or this rule is of another sort".to_string(),
+    }
+}
+
+/// The limit that a word is past, where the word itself says which one it is.
+fn limit(word: &str) -> &'static str {
+    let numeral = word.bytes().all(|digit| digit.is_ascii_digit());
+    match Sort::of_literal(word) {
+        Some(Sort::BitVec(65..)) => "a literal has at most 64 bits",
+        _ if numeral && word.len() > 9 => "a numeral has at most 9 digits",
+        _ if numeral => "a width is at most 64",
+        _ if word.len() > 64 => "a symbol has at most 64 bytes",
+        _ => "docs/COMMAND.md lists the limits",
+    }
+}
+
+/// Answer 0 in words.
+fn accepted(facts: &Facts) -> String {
+    let script = &facts.given.read;
+    let derived = match script.functions.len() {
+        1 => "the body is derived".to_string(),
+        count => format!("all {count} bodies are derived"),
+    };
+    let points = facts.answer.second;
+    let at = match script.variables.len() {
+        0 => String::new(),
+        _ => format!(" at {}", counted(points, "point")),
+    };
+    match (script.constraints.len(), points) {
+        (0, _) => format!("{derived}; there is no constraint"),
+        (_, 0) => format!("{derived}; no constraint was evaluated, for there is no point"),
+        (1, _) => format!("{derived}; the constraint holds{at}"),
+        (count, _) => format!("{derived}; all {count} constraints hold{at}"),
+    }
+}
+
+/// Answer 1 in words.
+fn too_long(facts: &Facts) -> String {
+    let length = facts.answer.place;
+    match facts.answer.text {
+        0 => format!("the script is too long: {length} bytes, at most {MOST_SCRIPT_BYTES}"),
+        1 => format!("the response is too long: {length} bytes, at most {MOST_RESPONSE_BYTES}"),
+        _ => format!("the point list is too long: {length} numbers, at most {MOST_NUMBERS}"),
+    }
+}
+
+/// Answer 16 in words.
+fn bad_points(facts: &Facts) -> String {
+    let numbers = &facts.given.points.numbers;
+    let variables = &facts.given.read.variables;
+    let index = facts.answer.place as usize;
+    let length = counted(index as u64, "number");
+    let count = variables.len();
+    match (numbers.get(index), variables.get(index % count.max(1))) {
+        (Some(number), Some(Sorted { name, sort })) => {
+            let point = index / count;
+            format!("{number} (number {index}, of point {point}) is no value of {name}, whose sort is {sort}")
+        }
+        _ if count == 0 => format!("the point list has {length}, but the script has no variables"),
+        _ => format!("the point list has {length}, which do not make whole points of {count}"),
+    }
+}
+
+#[cfg(test)]
+mod tests {
+    use super::*;
+
+    #[test]
+    fn verdicts() {
+        let accepted = (0..=16).filter(|&number| verdict(number) == Verdict::Accepted);
+        assert_eq!(accepted.collect::<Vec<u8>>(), [0]);
+        let rejected = (0..=16).filter(|&number| verdict(number).status() == 1);
+        assert_eq!(rejected.collect::<Vec<u8>>(), [10, 11, 12, 13, 14, 15]);
+        assert_eq!((verdict(1).word(), verdict(16).status()), ("refused", 2));
+    }
+
+    #[test]
+    fn limits_that_a_word_shows() {
+        let symbol = "s".repeat(65);
+        for (word, limit) in [
+            ("1234567890", "a numeral has at most 9 digits"),
+            ("65", "a width is at most 64"),
+            ("#x00000000000000000", "a literal has at most 64 bits"),
+            (symbol.as_str(), "a symbol has at most 64 bytes"),
+            ("(", "docs/COMMAND.md lists the limits"),
+        ] {
+            assert!(refusal(4, "script", word).ends_with(limit), "{word}");
+        }
+        assert!(refusal(2, "script", &symbol).starts_with("`ssss"));
+    }
+}

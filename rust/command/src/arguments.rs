@@ -1,0 +1,271 @@
+//! What the command is asked, by its arguments.
+
+use crate::failure::Failure;
+use crate::points::{number, Wanted, SEED};
+use crate::source::Source;
+use std::ffi::{OsStr, OsString};
+
+/// The budget where none is given: enough for any script whose functions do not call one another many times over, and spent in a short time.
+pub const BUDGET: u64 = 1_000_000_000;
+/// At most so many points are made at random.
+const MOST_RANDOM: u64 = 1_024;
+
+/// What the command is to do.
+#[derive(Clone, Debug, PartialEq, Eq)]
+pub enum Asked {
+    Help,
+    Version,
+    /// To check the shipped example.
+    Example,
+    Check(Request),
+}
+
+/// How the outcome is said.
+#[derive(Clone, Copy, Debug, Default, PartialEq, Eq)]
+pub enum Form {
+    #[default]
+    Full,
+    Quiet,
+    Json,
+}
+
+/// What is to be checked, and how the outcome is said.
+#[derive(Clone, Debug, PartialEq, Eq)]
+pub struct Request {
+    pub script: Source,
+    pub response: Source,
+    pub points: Wanted,
+    pub budget: u64,
+    pub form: Form,
+}
+
+/// What the arguments have given so far.
+#[derive(Default)]
+struct Given {
+    files: Vec<Source>,
+    points: Option<Wanted>,
+    budget: Option<u64>,
+    json: bool,
+    quiet: bool,
+}
+
+/// What the arguments ask for.
+pub fn parse(arguments: Vec<OsString>) -> Result<Asked, Failure> {
+    if arguments.is_empty() {
+        return Ok(Asked::Example);
+    }
+    let mut given = Given::default();
+    let mut arguments = arguments.into_iter();
+    let mut options = true;
+    while let Some(argument) = arguments.next() {
+        let text = argument.to_string_lossy();
+        match text.as_ref() {
+            "--help" | "-h" if options => return Ok(Asked::Help),
+            "--version" if options => return Ok(Asked::Version),
+            "--" if options => options = false,
+            option if options && option.len() > 1 && option.starts_with('-') => {
+                given.option(&argument, &mut arguments)?
+            }
+            _ => given.files.push(Source::named(&argument)),
+        }
+    }
+    given.request().map(Asked::Check)
+}
+
+impl Given {
+    /// Takes in an option, with its value where it has one: `--name value` or `--name=value`.
+    fn option(
+        &mut self,
+        option: &OsStr,
+        rest: &mut impl Iterator<Item = OsString>,
+    ) -> Result<(), Failure> {
+        let text = option.to_string_lossy();
+        let (name, joined) = match text.split_once('=') {
+            Some((name, value)) => (name, Some(OsString::from(value))),
+            None => (text.as_ref(), None),
+        };
+        let mut value = || {
+            let value = joined.clone().or_else(|| rest.next());
+            value.ok_or_else(|| usage(format!("{name} needs a value")))
+        };
+        match name {
+            "--points" => once(&mut self.points, name, points(&value()?)?),
+            "--budget" => once(&mut self.budget, name, budget(&value()?)?),
+            "--json" if joined.is_none() => {
+                self.json = true;
+                Ok(())
+            }
+            "--quiet" if joined.is_none() => {
+                self.quiet = true;
+                Ok(())
+            }
+            _ => Err(usage(format!("unknown option {text}"))),
+        }
+    }
+
+    /// The request that the arguments make.
+    fn request(self) -> Result<Request, Failure> {
+        let points = self.points.unwrap_or(Wanted::Fitting);
+        let inputs = self
+            .files
+            .iter()
+            .filter(|one| **one == Source::StandardInput);
+        if inputs.count() + usize::from(points == Wanted::Read(Source::StandardInput)) > 1 {
+            return Err(usage("standard input can be read only once".to_string()));
+        }
+        let [script, response] =
+            <[Source; 2]>::try_from(self.files).map_err(|files| match files.len() {
+                0 => usage("SCRIPT and RESPONSE are missing".to_string()),
+                1 => usage("RESPONSE is missing".to_string()),
+                _ => usage(format!(
+                    "there is one argument too many: {}",
+                    files[2].name()
+                )),
+            })?;
+        Ok(Request {
+            script,
+            response,
+            points,
+            budget: self.budget.unwrap_or(BUDGET),
+            form: match (self.json, self.quiet) {
+                (true, _) => Form::Json,
+                (false, true) => Form::Quiet,
+                (false, false) => Form::Full,
+            },
+        })
+    }
+}
+
+/// A failure by wrong use.
+fn usage(why: String) -> Failure {
+    Failure(format!("{why}\nusage: ./sverdhyll SCRIPT RESPONSE [--points FILE] [--budget N] [--json] [--quiet], or --help"))
+}
+
+/// Sets what may be given once.
+fn once<T>(held: &mut Option<T>, name: &str, value: T) -> Result<(), Failure> {
+    match held.replace(value) {
+        None => Ok(()),
+        Some(_) => Err(usage(format!("{name} is given twice"))),
+    }
+}
+
+/// The points that a value asks for.
+fn points(value: &OsStr) -> Result<Wanted, Failure> {
+    let text = value.to_string_lossy();
+    let Some(asked) = text.strip_prefix("random:") else {
+        return Ok(Wanted::Read(Source::named(value)));
+    };
+    let (count, seed) = match asked.split_once(':') {
+        Some((count, seed)) => (number(count.as_bytes()), number(seed.as_bytes())),
+        None => (number(asked.as_bytes()), Some(SEED)),
+    };
+    match (count.filter(|count| *count <= MOST_RANDOM), seed) {
+        (Some(count), Some(seed)) => Ok(Wanted::Random {
+            count: count as usize,
+            seed,
+        }),
+        _ => Err(usage(format!(
+            "{text} is not random:N or random:N:SEED with N at most {MOST_RANDOM}"
+        ))),
+    }
+}
+
+/// The budget that a value says.
+fn budget(value: &OsStr) -> Result<u64, Failure> {
+    let text = value.to_string_lossy();
+    number(text.as_bytes()).ok_or_else(|| usage(format!("{text} is no budget from 0 to 2^64 - 1")))
+}
+
+#[cfg(test)]
+mod tests {
+    use super::*;
+
+    /// What words ask for.
+    fn asked(words: &str) -> Result<Asked, Failure> {
+        parse(words.split(' ').map(OsString::from).collect())
+    }
+
+    /// The request of words that ask for a check.
+    fn request(words: &str) -> Request {
+        match asked(words) {
+            Ok(Asked::Check(request)) => request,
+            other => panic!("{words}: {other:?}"),
+        }
+    }
+
+    #[test]
+    fn requests() {
+        let plain = request("a b");
+        assert_eq!(plain.script, Source::named(OsStr::new("a")));
+        assert_eq!(
+            (plain.points, plain.budget, plain.form),
+            (Wanted::Fitting, BUDGET, Form::Full)
+        );
+        let full = request("--json a --points=p b --budget 0x10");
+        let points = Wanted::Read(Source::named(OsStr::new("p")));
+        assert_eq!(
+            (full.points, full.budget, full.form),
+            (points, 16, Form::Json)
+        );
+        let random = |count, seed| Wanted::Random { count, seed };
+        assert_eq!(request("a b --points random:5").points, random(5, SEED));
+        assert_eq!(
+            request("a b --quiet --points random:1024:9").points,
+            random(1024, 9)
+        );
+        assert_eq!(
+            request("a b --budget 18446744073709551615").budget,
+            u64::MAX
+        );
+        assert_eq!(
+            request("-- --json b").script,
+            Source::named(OsStr::new("--json"))
+        );
+        assert_eq!(request("a - --json --quiet").form, Form::Json);
+        assert_eq!(request("a -").response, Source::StandardInput);
+    }
+
+    #[test]
+    fn other_uses() {
+        assert_eq!(parse(Vec::new()), Ok(Asked::Example));
+        assert_eq!(asked("a --help"), Ok(Asked::Help));
+        assert_eq!(asked("--version"), Ok(Asked::Version));
+    }
+
+    #[test]
+    fn wrong_uses() {
+        for (words, message) in [
+            ("a", "RESPONSE is missing"),
+            ("--json", "SCRIPT and RESPONSE are missing"),
+            ("a b c", "there is one argument too many: c"),
+            ("a b --points", "--points needs a value"),
+            ("a b --budget", "--budget needs a value"),
+            (
+                "a b --budget 18446744073709551616",
+                "18446744073709551616 is no budget from 0 to 2^64 - 1",
+            ),
+            ("a b --budget -1", "-1 is no budget from 0 to 2^64 - 1"),
+            ("a b --budget=", " is no budget from 0 to 2^64 - 1"),
+            ("a b --verbose", "unknown option --verbose"),
+            ("a b -q", "unknown option -q"),
+            ("a b --json=1", "unknown option --json=1"),
+            ("a b --points p --points q", "--points is given twice"),
+            (
+                "a b --points random:",
+                "random: is not random:N or random:N:SEED with N at most 1024",
+            ),
+            (
+                "a b --points random:1025",
+                "random:1025 is not random:N or random:N:SEED with N at most 1024",
+            ),
+            (
+                "a b --points random:1:x",
+                "random:1:x is not random:N or random:N:SEED with N at most 1024",
+            ),
+            ("- b --points -", "standard input can be read only once"),
+        ] {
+            let failure = asked(words).expect_err(words);
+            assert_eq!(failure.0.lines().next(), Some(message), "{words}");
+        }
+    }
+}

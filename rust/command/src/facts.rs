@@ -1,0 +1,227 @@
+//! What is known of a check once the checker has answered: the same facts for people and for programs.
+
+use crate::derivation::{steps, stranger, Step};
+use crate::evaluation::{point, value, Value};
+use crate::failure::Failure;
+use crate::place::{place, Place};
+use crate::points::Points;
+use crate::script::{bodies, Definition, Script};
+use crate::source::Text;
+use crate::tree::unclosed;
+use library::{Answer, Library, AREA_LENGTH, LIST_LENGTH, UNUSED};
+
+/// What the checker is given.
+pub struct Given {
+    pub script: Text,
+    pub response: Text,
+    pub points: Points,
+    pub budget: u64,
+    /// What the script says, as far as it could be read.
+    pub read: Script,
+}
+
+/// A place with the name of its text.
+pub struct Located {
+    pub file: String,
+    pub place: Place,
+}
+
+/// A function with its body and its derivation.
+pub struct Derived {
+    pub name: String,
+    pub start: String,
+    pub body: String,
+    pub steps: Vec<Step>,
+}
+
+/// A constraint that is false or was not begun, and the point.
+pub struct Judged {
+    /// The constraint's command in the script.
+    pub located: Located,
+    pub text: String,
+    /// The variables with their values.
+    pub point: Vec<(String, Value)>,
+    /// The texts and values of the two sides, where the constraint is a false equation.
+    pub sides: Option<[(String, Value); 2]>,
+}
+
+/// All facts of one check.
+pub struct Facts {
+    pub given: Given,
+    pub answer: Answer,
+    /// The place that the answer names, where it is one in a text.
+    pub located: Option<Located>,
+    /// A second place that helps to find the fault, and what it is.
+    pub note: Option<(String, Located)>,
+    /// The function without derivation.
+    pub function: Option<String>,
+    /// After 0, 14 and 15.
+    pub derived: Vec<Derived>,
+    /// After 14 and 15.
+    pub judged: Option<Judged>,
+}
+
+/// Asks the checker, and gathers what there is to say.
+pub fn gather(library: &mut Library, given: Given) -> Result<Facts, Failure> {
+    let mut area = vec![0; AREA_LENGTH];
+    let (script, response) = (&given.script.bytes, &given.response.bytes);
+    let mut answer = library.check(
+        script,
+        response,
+        &given.points.numbers,
+        given.budget,
+        &mut area,
+    )?;
+    if answer.number == 1 {
+        answer.place = whole_length(&given, answer);
+    }
+    let bodies = match answer.number {
+        0 | 13..=15 => bodies(response),
+        _ => Vec::new(),
+    };
+    Ok(Facts {
+        located: located(library, &given, answer)?,
+        note: note(&given, answer, &bodies),
+        function: function_of(&given, answer),
+        derived: derived(&given, answer, &bodies, &area)?,
+        judged: judged(&given, answer, &bodies),
+        answer,
+        given,
+    })
+}
+
+/// The length of the text that is too long, of which the checker was lent a part that is too long as well.
+fn whole_length(given: &Given, answer: Answer) -> u64 {
+    match answer.text {
+        0 => given.script.length,
+        1 => given.response.length,
+        _ => answer.place,
+    }
+}
+
+/// The place of a word in a text.
+fn located_word(text: &Text, at: usize, length: usize) -> Located {
+    Located {
+        file: text.name.clone(),
+        place: place(&text.bytes, at, length),
+    }
+}
+
+/// The place that answers 2 to 9, 12, 13 and 16 name, with its word by the checker's own enquiry.
+fn located(
+    library: &mut Library,
+    given: &Given,
+    answer: Answer,
+) -> Result<Option<Located>, Failure> {
+    let at = answer.place as usize;
+    let text = match (answer.number, answer.text) {
+        (2..=9 | 12 | 13, 0) => &given.script,
+        (2..=9 | 12 | 13, 1) => &given.response,
+        (16, _) => return Ok(located_number(&given.points, at)),
+        _ => return Ok(None),
+    };
+    let length = library.word(&text.bytes, at)?;
+    Ok(Some(located_word(text, at, length)))
+}
+
+/// The place of a point number, where the points were read from a text.
+fn located_number(points: &Points, index: usize) -> Option<Located> {
+    let (text, spans) = points.text.as_ref()?;
+    let (at, length) = *spans.get(index)?;
+    Some(located_word(text, at, length))
+}
+
+/// The name of the function that answer 13 names.
+fn function_of(given: &Given, answer: Answer) -> Option<String> {
+    let function = given.read.functions.get(answer.second as usize);
+    function
+        .filter(|_| answer.number == 13)
+        .map(|one| one.name.clone())
+}
+
+/// A second place: the first bracket that stays open (3), or the first word of a body that no rule gives (13).
+fn note(given: &Given, answer: Answer, bodies: &[Definition]) -> Option<(String, Located)> {
+    let text = match answer.text {
+        0 => &given.script,
+        _ => &given.response,
+    };
+    match answer.number {
+        3 if answer.place == text.length => {
+            let at = unclosed(&text.bytes)?;
+            Some((
+                "this bracket is never closed".to_string(),
+                located_word(text, at, 1),
+            ))
+        }
+        13 => {
+            let index = answer.second as usize;
+            let function = given.read.functions.get(index)?;
+            let (at, word) = stranger(function, &bodies.get(index)?.body)?;
+            let what = format!("no rule of the grammar of {} gives `{word}`", function.name);
+            Some((what, located_word(text, at, word.len())))
+        }
+        _ => None,
+    }
+}
+
+/// The derivation of each function, as the area shows it.
+fn derived(
+    given: &Given,
+    answer: Answer,
+    bodies: &[Definition],
+    area: &[u16],
+) -> Result<Vec<Derived>, Failure> {
+    if !matches!(answer.number, 0 | 14 | 15) {
+        return Ok(Vec::new());
+    }
+    let lists = area.chunks(LIST_LENGTH);
+    let functions = given.read.functions.iter().zip(bodies).zip(lists);
+    let derived = functions.map(|((function, body), list)| {
+        let shown = list
+            .split(|&entry| entry == UNUSED)
+            .next()
+            .unwrap_or_default();
+        let steps = steps(function, &body.body, shown);
+        let failed = |why| {
+            Failure(format!(
+                "the derivation of {} cannot be followed: {why}",
+                function.name
+            ))
+        };
+        Ok(Derived {
+            name: function.name.clone(),
+            start: function.nonterminals.first().cloned().unwrap_or_default(),
+            body: body.body.to_string(),
+            steps: steps.map_err(failed)?,
+        })
+    });
+    derived.collect()
+}
+
+/// The constraint and the point that answers 14 and 15 name.
+fn judged(given: &Given, answer: Answer, bodies: &[Definition]) -> Option<Judged> {
+    let named = matches!(answer.number, 14 | 15);
+    let index = named.then_some(answer.second as usize)?;
+    let constraint = given.read.constraints.get(index)?;
+    let count = given.read.variables.len();
+    let mut points = given.points.numbers.chunks(count.max(1));
+    let numbers = points.nth(answer.place as usize).unwrap_or_default();
+    let names = point(&given.read.variables, numbers);
+    let side = |term| Some((format!("{term}"), value(&given.read, bodies, term, &names)?));
+    let sides = match constraint.term.items() {
+        Some([head, left, right]) if answer.number == 14 && head.word() == Some("=") => {
+            let sides = side(left).zip(side(right));
+            sides.map(|(left, right)| [left, right])
+        }
+        _ => None,
+    };
+    Some(Judged {
+        located: located_word(&given.script, constraint.start, 1),
+        text: constraint.term.to_string(),
+        point: names
+            .iter()
+            .map(|(name, value)| (name.to_string(), *value))
+            .collect(),
+        sides: sides.filter(|[left, right]| left.1 != right.1),
+    })
+}

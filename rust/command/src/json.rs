@@ -1,0 +1,224 @@
+//! The outcome for programs: one JSON object on one line, whose keys are always the same.
+
+use crate::answers::{meaning, sentence, text_name, verdict};
+use crate::derivation::Step;
+use crate::evaluation::Value;
+use crate::facts::{Derived, Facts, Judged, Located};
+use crate::script::Sorted;
+use crate::source::Text;
+use std::fmt;
+
+/// A JSON value.
+#[derive(Clone, Debug)]
+enum Json {
+    Null,
+    Number(u64),
+    Text(String),
+    List(Vec<Json>),
+    Object(Vec<(&'static str, Json)>),
+}
+
+use Json::{List, Null, Number, Object};
+
+/// A text value.
+fn text(text: impl Into<String>) -> Json {
+    Json::Text(text.into())
+}
+
+/// The value of what is there, else null.
+fn or_null<T>(value: Option<&T>, json: impl Fn(&T) -> Json) -> Json {
+    value.map_or(Null, json)
+}
+
+/// The object of all facts.
+pub fn object(facts: &Facts) -> String {
+    let answer = facts.answer;
+    let verdict = verdict(answer.number);
+    let object = Object(vec![
+        ("answer", Number(answer.number.into())),
+        ("meaning", text(meaning(answer.number))),
+        ("verdict", text(verdict.word())),
+        ("status", Number(verdict.status().into())),
+        ("message", text(sentence(facts))),
+        ("text", text(text_name(answer.text))),
+        ("place", Number(answer.place)),
+        ("second", Number(answer.second)),
+        ("units", Number(answer.units)),
+        ("budget", Number(facts.given.budget)),
+        ("script", file(&facts.given.script)),
+        ("response", file(&facts.given.response)),
+        ("points", points(facts)),
+        ("location", or_null(facts.located.as_ref(), location)),
+        ("note", or_null(facts.note.as_ref(), note)),
+        ("constraint", or_null(facts.judged.as_ref(), constraint)),
+        (
+            "functions",
+            List(facts.derived.iter().map(function).collect()),
+        ),
+    ]);
+    object.to_string()
+}
+
+/// A text's name and length.
+fn file(file: &Text) -> Json {
+    Object(vec![
+        ("file", text(&file.name)),
+        ("bytes", Number(file.length)),
+    ])
+}
+
+/// The points and the variables that they are for.
+fn points(facts: &Facts) -> Json {
+    let points = &facts.given.points;
+    let variable = |one: &Sorted| {
+        Object(vec![
+            ("name", text(&one.name)),
+            ("sort", text(one.sort.to_string())),
+        ])
+    };
+    Object(vec![
+        ("origin", text(points.origin.kind())),
+        (
+            "name",
+            or_null(points.origin.name().as_ref(), |name| text(name)),
+        ),
+        ("numbers", Number(points.numbers.len() as u64)),
+        (
+            "variables",
+            List(facts.given.read.variables.iter().map(variable).collect()),
+        ),
+    ])
+}
+
+/// A place in a text.
+fn location(located: &Located) -> Json {
+    let place = &located.place;
+    Object(vec![
+        ("file", text(&located.file)),
+        ("line", Number(place.line as u64)),
+        ("column", Number(place.column as u64)),
+        ("word", text(&place.word)),
+        ("source", text(&place.source)),
+    ])
+}
+
+/// A second place that helps to find the fault.
+fn note((what, located): &(String, Located)) -> Json {
+    Object(vec![
+        ("message", text(what)),
+        ("location", location(located)),
+    ])
+}
+
+/// The constraint and the point of answer 14 or 15.
+fn constraint(judged: &Judged) -> Json {
+    let side = |index: usize| {
+        let side = judged.sides.as_ref().map(|sides| &sides[index]);
+        or_null(side, |(term, value)| {
+            Object(vec![
+                ("term", text(term)),
+                ("value", text(value.to_string())),
+            ])
+        })
+    };
+    let value = |(name, value): &(String, Value)| {
+        Object(vec![
+            ("name", text(name)),
+            ("value", text(value.to_string())),
+        ])
+    };
+    Object(vec![
+        ("line", Number(judged.located.place.line as u64)),
+        ("column", Number(judged.located.place.column as u64)),
+        ("term", text(&judged.text)),
+        ("point", List(judged.point.iter().map(value).collect())),
+        ("left", side(0)),
+        ("right", side(1)),
+    ])
+}
+
+/// A function and its derivation.
+fn function(derived: &Derived) -> Json {
+    Object(vec![
+        ("name", text(&derived.name)),
+        ("start", text(&derived.start)),
+        ("body", text(&derived.body)),
+        ("derivation", List(derived.steps.iter().map(step).collect())),
+    ])
+}
+
+/// A step of a derivation.
+fn step(step: &Step) -> Json {
+    Object(vec![
+        ("rule", Number(step.number.into())),
+        ("nonterminal", text(&step.nonterminal)),
+        ("text", text(&step.rule)),
+        ("given", or_null(step.given.as_ref(), |word| text(word))),
+        ("term", text(&step.term)),
+    ])
+}
+
+impl fmt::Display for Json {
+    /// The value on one line.
+    fn fmt(&self, to: &mut fmt::Formatter) -> fmt::Result {
+        match self {
+            Null => to.write_str("null"),
+            Number(number) => write!(to, "{number}"),
+            Json::Text(text) => write_text(text, to),
+            List(items) => {
+                to.write_str("[")?;
+                for (index, item) in items.iter().enumerate() {
+                    write!(to, "{}{item}", comma(index))?;
+                }
+                to.write_str("]")
+            }
+            Object(pairs) => {
+                to.write_str("{")?;
+                for (index, (key, value)) in pairs.iter().enumerate() {
+                    write!(to, "{}\"{key}\":{value}", comma(index))?;
+                }
+                to.write_str("}")
+            }
+        }
+    }
+}
+
+/// What stands before an item.
+fn comma(index: usize) -> &'static str {
+    match index {
+        0 => "",
+        _ => ",",
+    }
+}
+
+/// Writes a text in quotes, with escapes where JSON needs them.
+fn write_text(text: &str, to: &mut fmt::Formatter) -> fmt::Result {
+    to.write_str("\"")?;
+    for character in text.chars() {
+        match character {
+            '"' | '\\' => write!(to, "\\{character}")?,
+            '\0'..='\x1f' | '\x7f' => write!(to, "\\u{:04x}", u32::from(character))?,
+            _ => write!(to, "{character}")?,
+        }
+    }
+    to.write_str("\"")
+}
+
+#[cfg(test)]
+mod tests {
+    use super::*;
+
+    #[test]
+    fn values_are_written() {
+        let object = Object(vec![
+            ("none", Null),
+            ("most", Number(u64::MAX)),
+            (
+                "list",
+                List(vec![text("a\"b\\c\n\u{e9}"), List(Vec::new())]),
+            ),
+        ]);
+        let expected = "{\"none\":null,\"most\":18446744073709551615,\"list\":[\"a\\\"b\\\\c\\u000a\u{e9}\",[]]}";
+        assert_eq!(object.to_string(), expected);
+    }
+}

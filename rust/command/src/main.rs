@@ -1,0 +1,118 @@
+//! The command `sverdhyll`: a thin front end over the proved checker. docs/COMMAND.md says what it does.
+
+#![forbid(unsafe_code)]
+
+mod answers;
+mod arguments;
+mod derivation;
+mod evaluation;
+mod facts;
+mod failure;
+mod json;
+mod place;
+mod points;
+mod script;
+mod source;
+mod text;
+mod tree;
+
+use answers::{verdict, MOST_RESPONSE_BYTES, MOST_SCRIPT_BYTES};
+use arguments::{Asked, Form, Request, BUDGET};
+use facts::{Facts, Given};
+use failure::{said, Failure};
+use library::Library;
+use points::Wanted;
+use source::Source;
+use std::io::{self, BufWriter, ErrorKind, Write};
+use std::process::ExitCode;
+
+/// What `--help` says.
+const HELP: &str = include_str!("../help.txt");
+/// The exit status where the command could not do its work.
+const FAILED: u8 = 3;
+
+/// The script of the shipped example.
+const EXAMPLE_SCRIPT: Source = Source::Shipped(
+    "examples/swap.sy",
+    include_str!("../../../examples/swap.sy"),
+);
+/// The response of the shipped example.
+const EXAMPLE_RESPONSE: Source = Source::Shipped(
+    "examples/swap.response",
+    include_str!("../../../examples/swap.response"),
+);
+
+/// Does what the arguments ask for; a failure is said on standard error.
+fn main() -> ExitCode {
+    let arguments = std::env::args_os().skip(1).collect();
+    let status = arguments::parse(arguments).and_then(run);
+    ExitCode::from(status.unwrap_or_else(|failure| {
+        let _ = writeln!(io::stderr(), "{failure}");
+        FAILED
+    }))
+}
+
+/// Does what is asked and gives the exit status.
+fn run(asked: Asked) -> Result<u8, Failure> {
+    match asked {
+        Asked::Help => print(0, |to| to.write_all(HELP.as_bytes())),
+        Asked::Version => print(0, |to| writeln!(to, "sverdhyll {}", env!("CARGO_PKG_VERSION"))),
+        Asked::Check(request) => check(&request, ""),
+        Asked::Example => check(
+            &Request {
+                script: EXAMPLE_SCRIPT,
+                response: EXAMPLE_RESPONSE,
+                points: Wanted::Fitting,
+                budget: BUDGET,
+                form: Form::Full,
+            },
+            "Checking the shipped example: the script examples/swap.sy with the response examples/swap.response.\n",
+        ),
+    }
+}
+
+/// Checks and says the outcome, after an opening.
+fn check(request: &Request, opening: &str) -> Result<u8, Failure> {
+    let script = request.script.read(MOST_SCRIPT_BYTES)?;
+    let response = request.response.read(MOST_RESPONSE_BYTES)?;
+    let read = script::read(&script.bytes);
+    let points = request.points.points(&read.variables)?;
+    let given = Given {
+        script,
+        response,
+        points,
+        budget: request.budget,
+        read,
+    };
+    let unready = |error| Failure(format!("the checker cannot be started: {}", said(&error)));
+    let mut library = Library::open().map_err(unready)?;
+    let facts = facts::gather(&mut library, given)?;
+    let status = verdict(facts.answer.number).status();
+    print(status, |to| {
+        to.write_all(opening.as_bytes())?;
+        write(&facts, request.form, to)
+    })
+}
+
+/// Writes the outcome in a form.
+fn write(facts: &Facts, form: Form, to: &mut impl Write) -> io::Result<()> {
+    match form {
+        Form::Full => text::write(facts, to),
+        Form::Quiet => text::write_line(facts, to),
+        Form::Json => writeln!(to, "{}", json::object(facts)),
+    }
+}
+
+/// Writes to standard output and gives the status, also where nobody reads on.
+fn print(
+    status: u8,
+    write: impl FnOnce(&mut BufWriter<io::StdoutLock>) -> io::Result<()>,
+) -> Result<u8, Failure> {
+    let mut to = BufWriter::new(io::stdout().lock());
+    match write(&mut to).and_then(|()| to.flush()) {
+        Err(error) if error.kind() != ErrorKind::BrokenPipe => {
+            Err(Failure(format!("cannot write: {}", said(&error))))
+        }
+        _ => Ok(status),
+    }
+}

@@ -1,0 +1,139 @@
+//! Lines, columns, and the line of a text with carets under a word.
+
+/// At most so many columns of a line are shown.
+const MOST_COLUMNS: usize = 100;
+/// At most so many columns are shown before the word.
+const MOST_BEFORE: usize = 50;
+/// What stands for the part of a line that is not shown.
+const CUT: &str = "...";
+
+/// A place in a text.
+#[derive(Clone, Debug, PartialEq, Eq)]
+pub struct Place {
+    /// From 1; a line ends at byte 10 only.
+    pub line: usize,
+    /// From 1, in bytes.
+    pub column: usize,
+    /// The word that starts there, or nothing.
+    pub word: String,
+    /// The line, or the part of it around the word.
+    pub source: String,
+    /// Spaces, then a caret under each column of the word, at least one.
+    pub carets: String,
+}
+
+/// The place at an offset of a text where a word of this length starts.
+pub fn place(text: &[u8], at: usize, length: usize) -> Place {
+    let at = at.min(text.len());
+    let end = at.saturating_add(length).min(text.len());
+    let start = text[..at]
+        .iter()
+        .rposition(|&byte| byte == b'\n')
+        .map_or(0, |found| found + 1);
+    let stop = text[end..]
+        .iter()
+        .position(|&byte| byte == b'\n')
+        .map_or(text.len(), |found| end + found);
+    let word = shown(&text[at..end]);
+    let (source, carets) = window(
+        shown(&text[start..at]),
+        &word,
+        shown(&text[end..stop])
+            .trim_end_matches("\\x0d")
+            .to_string(),
+    );
+    Place {
+        line: 1 + text[..at].iter().filter(|&&byte| byte == b'\n').count(),
+        column: 1 + at - start,
+        word,
+        source,
+        carets,
+    }
+}
+
+/// Bytes as one line of ASCII: a tab is four spaces, and what is not printed is `\x` and two digits.
+pub fn shown(bytes: &[u8]) -> String {
+    let mut line = String::new();
+    for &byte in bytes {
+        match byte {
+            b'\t' => line.push_str("    "),
+            b' '..=b'~' => line.push(char::from(byte)),
+            _ => line.push_str(&format!("\\x{byte:02x}")),
+        }
+    }
+    line
+}
+
+/// The line around a word, and the carets under the word; all three parts are ASCII.
+fn window(mut before: String, word: &str, mut after: String) -> (String, String) {
+    if before.len() + word.len() + after.len() > MOST_COLUMNS {
+        if before.len() > MOST_BEFORE {
+            before = CUT.to_string() + &before[before.len() - MOST_BEFORE..];
+        }
+        let left = MOST_COLUMNS.saturating_sub(before.len());
+        let word = &word[..word.len().min(left)];
+        let left = left - word.len();
+        if after.len() > left {
+            after = after[..left].to_string() + CUT;
+        }
+        return with_carets(before, word, after);
+    }
+    with_carets(before, word, after)
+}
+
+/// The line that three parts make, and carets under the second.
+fn with_carets(before: String, word: &str, after: String) -> (String, String) {
+    let carets = " ".repeat(before.len()) + &"^".repeat(word.len().max(1));
+    (before + word + &after, carets)
+}
+
+#[cfg(test)]
+mod tests {
+    use super::*;
+
+    /// The line and the carets at a place.
+    fn lines(text: &[u8], at: usize, length: usize) -> (String, String) {
+        let place = place(text, at, length);
+        (place.source, place.carets)
+    }
+
+    #[test]
+    fn lines_and_columns_count_from_1() {
+        let text = b"ab\ncd e\r\n";
+        for (at, line, column) in [
+            (0, 1, 1),
+            (2, 1, 3),
+            (3, 2, 1),
+            (6, 2, 4),
+            (8, 2, 6),
+            (9, 3, 1),
+        ] {
+            let place = place(text, at, 0);
+            assert_eq!((place.line, place.column), (line, column), "at {at}");
+        }
+        assert_eq!(lines(text, 6, 1), ("cd e".to_string(), "   ^".to_string()));
+        assert_eq!(lines(text, 9, 0), (String::new(), "^".to_string()));
+        assert_eq!(lines(b"", 0, 0), (String::new(), "^".to_string()));
+    }
+
+    #[test]
+    fn tabs_and_other_bytes_keep_the_carets_under_the_word() {
+        let text = b"\ta\xc3\xa9\x1b(wrong\xff )";
+        let (source, carets) = lines(text, 6, 6);
+        assert_eq!(source, "    a\\xc3\\xa9\\x1b(wrong\\xff )");
+        assert_eq!(carets, format!("{}^^^^^^^^^", " ".repeat(18)));
+        assert_eq!(&source[18..27], "wrong\\xff");
+    }
+
+    #[test]
+    fn long_lines_are_cut_around_the_word() {
+        let text = format!("{} word {}", "a".repeat(200), "b".repeat(200));
+        let (source, carets) = lines(text.as_bytes(), 201, 4);
+        assert!(source.starts_with("...aa") && source.ends_with("bb..."));
+        assert!(source.len() <= MOST_COLUMNS + CUT.len());
+        let at = source.find("word").expect("the word is shown");
+        assert_eq!(carets, " ".repeat(at) + "^^^^");
+        let (source, carets) = lines(&[b'c'; 30_000], 0, 30_000);
+        assert_eq!((source.len(), carets.len()), (MOST_COLUMNS, MOST_COLUMNS));
+    }
+}

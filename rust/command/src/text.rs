@@ -1,0 +1,136 @@
+//! The outcome for people.
+
+use crate::answers::{counted, sentence, verdict};
+use crate::derivation::Step;
+use crate::facts::{Derived, Facts, Judged, Located};
+use std::io::{self, Write};
+
+/// Writes the one line that says the answer.
+pub fn write_line(facts: &Facts, to: &mut impl Write) -> io::Result<()> {
+    let answer = facts.answer;
+    if let Some(located) = &facts.located {
+        write!(to, "{}: ", position(located))?;
+    }
+    let verdict = verdict(answer.number).word();
+    write!(
+        to,
+        "{verdict} (answer {}): {}",
+        answer.number,
+        sentence(facts)
+    )?;
+    if matches!(answer.number, 0 | 14 | 15) {
+        write!(to, " ({} spent)", counted(answer.units, "unit"))?;
+    }
+    writeln!(to)
+}
+
+/// Writes all that there is to say.
+pub fn write(facts: &Facts, to: &mut impl Write) -> io::Result<()> {
+    write_line(facts, to)?;
+    if let Some(located) = &facts.located {
+        write_source(located, to)?;
+    }
+    if let Some((what, located)) = &facts.note {
+        writeln!(to, "{}: {what}", position(located))?;
+        write_source(located, to)?;
+    }
+    if let Some(judged) = &facts.judged {
+        write_judged(facts, judged, to)?;
+    }
+    if matches!(facts.answer.number, 0 | 14 | 15) {
+        writeln!(to, "points: {}", facts.given.points.origin)?;
+    }
+    for derived in &facts.derived {
+        match facts.answer.number {
+            0 => write_derivation(derived, to)?,
+            _ => write_rules(derived, to)?,
+        }
+    }
+    Ok(())
+}
+
+/// A place as `file:line:column`.
+fn position(located: &Located) -> String {
+    format!(
+        "{}:{}:{}",
+        located.file, located.place.line, located.place.column
+    )
+}
+
+/// Writes the line of a place, and carets under its word.
+fn write_source(located: &Located, to: &mut impl Write) -> io::Result<()> {
+    let line = located.place.line.to_string();
+    writeln!(to, "{line:>5} | {}", located.place.source)?;
+    writeln!(to, "      | {}", located.place.carets)
+}
+
+/// Writes the constraint and the point of answer 14 or 15.
+fn write_judged(facts: &Facts, judged: &Judged, to: &mut impl Write) -> io::Result<()> {
+    let answer = facts.answer;
+    writeln!(
+        to,
+        "{}: constraint {}, counted from 0:",
+        position(&judged.located),
+        answer.second
+    )?;
+    writeln!(to, "  {}", judged.text)?;
+    if !judged.point.is_empty() {
+        writeln!(to, "at point {}, counted from 0:", answer.place)?;
+    }
+    for (name, value) in &judged.point {
+        writeln!(to, "  {name} = {value}")?;
+    }
+    if let Some([left, right]) = &judged.sides {
+        writeln!(to, "left side:\n  {} = {}", left.0, left.1)?;
+        writeln!(to, "right side:\n  {} = {}", right.0, right.1)?;
+    }
+    if answer.number == 15 {
+        writeln!(to, "--budget gives a larger one")?;
+    }
+    Ok(())
+}
+
+/// Writes a derivation step by step.
+fn write_derivation(derived: &Derived, to: &mut impl Write) -> io::Result<()> {
+    let steps = counted(derived.steps.len() as u64, "step");
+    writeln!(
+        to,
+        "\n{}: derived from {} in {steps}, the leftmost non-terminal each time",
+        derived.name, derived.start
+    )?;
+    for (index, step) in derived.steps.iter().enumerate() {
+        write_step(index + 1, step, to)?;
+    }
+    Ok(())
+}
+
+/// Writes one step: rule, non-terminal, the rule's text, and below it the term so far.
+fn write_step(count: usize, step: &Step, to: &mut impl Write) -> io::Result<()> {
+    let Step {
+        number,
+        nonterminal,
+        rule,
+        given,
+        term,
+    } = step;
+    write!(to, "{count:>4}. rule {number:<3}  {nonterminal} -> {rule}")?;
+    if let Some(word) = given {
+        write!(to, ", here {word}")?;
+    }
+    writeln!(to, "\n      {term}")
+}
+
+/// Writes the rule numbers of a derivation.
+fn write_rules(derived: &Derived, to: &mut impl Write) -> io::Result<()> {
+    let numbers: Vec<String> = derived
+        .steps
+        .iter()
+        .map(|step| step.number.to_string())
+        .collect();
+    writeln!(
+        to,
+        "{}: derived by rules {}",
+        derived.name,
+        numbers.join(" ")
+    )
+}

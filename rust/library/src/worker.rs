@@ -1,0 +1,115 @@
+//! The static library in a worker process. Both sides send frames: eight bytes with a length, low byte first, then so many bytes. All numbers have their
+//! low byte first.
+
+use crate::Answer;
+use std::io::{self, Read, Write};
+use std::process::{Child, ChildStdin, ChildStdout, Command, Stdio};
+
+/// The script that builds the worker where it is missing, and runs it.
+const WORKER: &str = concat!(env!("CARGO_MANIFEST_DIR"), "/worker");
+/// The frame that a worker sends when it is ready.
+const READY: &[u8] = b"sverdhyll";
+/// The frame that begins a check.
+const CHECK: &[u8] = b"check";
+/// The frame that begins an enquiry for a word.
+const WORD: &[u8] = b"word";
+
+/// A running worker and the two pipes to it.
+pub struct Held {
+    process: Child,
+    requests: Option<ChildStdin>,
+    answers: ChildStdout,
+}
+
+impl Held {
+    /// Starts the worker and waits until it is ready.
+    pub fn open() -> io::Result<Held> {
+        let mut process = Command::new(WORKER)
+            .stdin(Stdio::piped())
+            .stdout(Stdio::piped())
+            .spawn()?;
+        let requests = process.stdin.take();
+        let answers = process.stdout.take().expect("standard output is piped");
+        let mut held = Held {
+            process,
+            requests,
+            answers,
+        };
+        let mut ready = [0; READY.len()];
+        held.receive(&mut ready)?;
+        if ready != READY {
+            return Err(io::Error::other("the checker's worker speaks otherwise"));
+        }
+        Ok(held)
+    }
+
+    /// Asks the worker for `sverdhyll_check`.
+    pub fn check(
+        &mut self,
+        script: &[u8],
+        response: &[u8],
+        points: &[u64],
+        budget: u64,
+        shown: &mut [u16],
+    ) -> io::Result<Answer> {
+        let points: Vec<u8> = points.iter().flat_map(|one| one.to_le_bytes()).collect();
+        let mut area: Vec<u8> = shown.iter().flat_map(|one| one.to_le_bytes()).collect();
+        let budget = budget.to_le_bytes();
+        self.send(&[CHECK, script, response, &points, &budget, &area])?;
+        let mut head = [0; 2];
+        let mut numbers = [[0; 8]; 3];
+        self.receive(&mut head)?;
+        for number in &mut numbers {
+            self.receive(number)?;
+        }
+        self.receive(&mut area)?;
+        for (entry, bytes) in shown.iter_mut().zip(area.chunks_exact(2)) {
+            *entry = u16::from_le_bytes([bytes[0], bytes[1]]);
+        }
+        let [place, second, units] = numbers.map(u64::from_le_bytes);
+        Ok(Answer {
+            number: head[0],
+            text: head[1],
+            place,
+            second,
+            units,
+        })
+    }
+
+    /// Asks the worker for `sverdhyll_word`.
+    pub fn word(&mut self, text: &[u8], at: usize) -> io::Result<usize> {
+        self.send(&[WORD, text, &(at as u64).to_le_bytes()])?;
+        let mut length = [0; 8];
+        self.receive(&mut length)?;
+        Ok(u64::from_le_bytes(length) as usize)
+    }
+
+    /// Sends frames.
+    fn send(&mut self, frames: &[&[u8]]) -> io::Result<()> {
+        let requests = self.requests.as_mut().expect("open until it is dropped");
+        for frame in frames {
+            requests.write_all(&(frame.len() as u64).to_le_bytes())?;
+            requests.write_all(frame)?;
+        }
+        requests.flush()
+    }
+
+    /// Receives a frame whose length is known.
+    fn receive(&mut self, frame: &mut [u8]) -> io::Result<()> {
+        let mut length = [0; 8];
+        let received = self.answers.read_exact(&mut length);
+        received.map_err(|_| io::Error::other("the checker's worker has gone"))?;
+        if u64::from_le_bytes(length) != frame.len() as u64 {
+            return Err(io::Error::other("the checker's worker speaks otherwise"));
+        }
+        self.answers.read_exact(frame)
+    }
+}
+
+impl Drop for Held {
+    /// Closes the pipe of requests, upon which the worker ends, and waits for that.
+    fn drop(&mut self) {
+        self.requests = None;
+        let _ = self.process.wait();
+    }
+}

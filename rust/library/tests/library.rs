@@ -1,0 +1,77 @@
+//! The library through its Rust interface: the swap case, refusals, the enquiry, and many checks by one process.
+
+use library::{Answer, Library, AREA_LENGTH, UNUSED};
+
+/// The script of the shipped example.
+const SCRIPT: &[u8] = include_bytes!("../../../examples/swap.sy");
+/// The response of the shipped example.
+const RESPONSE: &[u8] = include_bytes!("../../../examples/swap.response");
+
+/// An answer without units.
+fn answer(number: u8, text: u8, place: u64, second: u64) -> Answer {
+    Answer {
+        number,
+        text,
+        place,
+        second,
+        units: 0,
+    }
+}
+
+/// The answer of one check, with the first entries of the area.
+fn checked(library: &mut Library, script: &[u8], budget: u64) -> (Answer, [u16; 5]) {
+    let mut area = vec![7; AREA_LENGTH];
+    let answer = library.check(script, RESPONSE, &[], budget, &mut area);
+    let first = [area[0], area[1], area[2], area[3], area[4]];
+    (answer.expect("an answer"), first)
+}
+
+#[test]
+fn swap_case() {
+    let mut library = Library::open().expect("a library");
+    let shown = [7, 15, 3, 8, UNUSED];
+    let accepted = Answer {
+        units: 24,
+        ..answer(0, 3, 0, 1)
+    };
+    assert_eq!(checked(&mut library, SCRIPT, 24), (accepted, shown));
+    let ended = Answer {
+        units: 16,
+        ..answer(15, 2, 0, 2)
+    };
+    assert_eq!(checked(&mut library, SCRIPT, 23), (ended, shown));
+}
+
+#[test]
+fn sizes() {
+    let mut library = Library::open().expect("a library");
+    let long = vec![b' '; 32_769];
+    let (refused, shown) = checked(&mut library, &long, 0);
+    assert_eq!((refused, shown), (answer(1, 0, 32_769, 0), [UNUSED; 5]));
+    let mut area = [7; 3];
+    let refused = library.check(b"", b"", &[1, 2], u64::MAX, &mut area);
+    assert_eq!(refused.expect("an answer"), answer(1, 3, 3, 0));
+    assert_eq!(area, [7; 3]);
+    let refused = library.check(SCRIPT, RESPONSE, &[1, 2], 0, &mut vec![0; AREA_LENGTH]);
+    assert_eq!(refused.expect("an answer"), answer(16, 2, 2, 0));
+}
+
+#[test]
+fn enquiry() {
+    let mut library = Library::open().expect("a library");
+    for (at, length) in [(0, 0), (2, 0), (3, 2), (4, 0), (5, 1), (6, 0), (900, 0)] {
+        let found = library.word(b"; \nab( ", at);
+        assert_eq!(found.expect("an answer"), length, "at {at}");
+    }
+}
+
+#[test]
+fn many_checks_by_one_process() {
+    let mut library = Library::open().expect("a library");
+    for budget in 0..200 {
+        let (answer, shown) = checked(&mut library, SCRIPT, budget);
+        assert_eq!(shown, [7, 15, 3, 8, UNUSED]);
+        assert_eq!(answer.number, if budget < 24 { 15 } else { 0 });
+        assert_eq!(answer.units, 8 * (budget / 8).min(3));
+    }
+}

@@ -1,0 +1,87 @@
+/* The worker: the proved checker behind two pipes, for machines that cannot run its code themselves (see src/worker.rs).
+   A frame is eight bytes with a length, low byte first, then so many bytes. It sends the frame "sverdhyll" when it is ready. Then it reads requests and
+   answers each:
+   "check", script, response, points, budget, area: two bytes with number and text, place, second number, units, and the area, a frame each;
+   "word", text, offset: the length of the word that starts there.
+   It ends where standard input does. Its machine is x86-64, so numbers in memory have their low byte first, as in the frames. */
+#include <stdint.h>
+#include <stdio.h>
+#include <stdlib.h>
+#include <string.h>
+
+#include "sverdhyll.h"
+
+/* A frame received, with room that is used again. */
+struct frame {
+    void *bytes;
+    uint64_t length, room;
+};
+
+/* Reads a frame; returns 0 where standard input ends or memory does. */
+static int receive(struct frame *frame)
+{
+    if (fread(&frame->length, sizeof frame->length, 1, stdin) != 1) return 0;
+    if (!frame->bytes || frame->length > frame->room) {
+        free(frame->bytes);
+        frame->bytes = malloc(frame->length + 1);
+        frame->room = frame->length;
+    }
+    return frame->bytes && fread(frame->bytes, 1, frame->length, stdin) == frame->length;
+}
+
+/* Writes a frame. */
+static void send(const void *bytes, uint64_t length)
+{
+    fwrite(&length, sizeof length, 1, stdout);
+    fwrite(bytes, 1, length, stdout);
+}
+
+/* Whether a frame is this word. */
+static int is(const struct frame *frame, const char *word)
+{
+    return frame->length == strlen(word) && !memcmp(frame->bytes, word, frame->length);
+}
+
+/* Reads what a check takes, and answers; returns 0 where standard input ends. */
+static int check(void)
+{
+    static struct frame script, response, points, budget, area;
+    uint8_t head[2];
+    uint64_t place, second, units;
+
+    if (!receive(&script) || !receive(&response) || !receive(&points) || !receive(&budget) || !receive(&area)) return 0;
+    if (budget.length != sizeof(uint64_t)) return 0;
+    head[0] = sverdhyll_check(script.bytes, script.length, response.bytes, response.length, points.bytes, points.length / sizeof(uint64_t),
+                              *(uint64_t *)budget.bytes, area.bytes, area.length / sizeof(uint16_t), &head[1], &place, &second, &units);
+    send(head, sizeof head);
+    send(&place, sizeof place);
+    send(&second, sizeof second);
+    send(&units, sizeof units);
+    send(area.bytes, area.length);
+    return 1;
+}
+
+/* Reads what an enquiry takes, and answers; returns 0 where standard input ends. */
+static int word(void)
+{
+    static struct frame text, at;
+    uint64_t length;
+
+    if (!receive(&text) || !receive(&at) || at.length != sizeof(uint64_t)) return 0;
+    length = sverdhyll_word(text.bytes, text.length, *(uint64_t *)at.bytes);
+    send(&length, sizeof length);
+    return 1;
+}
+
+int main(void)
+{
+    static struct frame request;
+
+    send("sverdhyll", strlen("sverdhyll"));
+    fflush(stdout);
+    while (receive(&request)) {
+        if (!(is(&request, "check") ? check() : is(&request, "word") && word())) return 1;
+        if (fflush(stdout)) return 1;
+    }
+    return 0;
+}

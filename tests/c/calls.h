@@ -1,0 +1,102 @@
+/* What the tests of the checker from C share: a call with its answer, and texts that are put together from pieces. */
+#ifndef CALLS_H
+#define CALLS_H
+
+#include <stdarg.h>
+#include <stdio.h>
+#include <stdlib.h>
+#include <string.h>
+
+#include "sverdhyll.h"
+
+/* An answer: its number, its text, its place, its second number and the units spent. */
+struct answer {
+    uint8_t number, text;
+    uint64_t place, second, units;
+};
+
+/* The area of every call, with two entries behind it. */
+static uint16_t area[SVERDHYLL_AREA + 2];
+
+/* A call with all that a caller may choose. */
+static inline struct answer check_all(const char *script, size_t script_size, const char *response, size_t response_size, const uint64_t *points, size_t count,
+                                      uint64_t budget, uint16_t *shown, size_t size)
+{
+    struct answer a = {99, 99, 99, 99, 99};
+    a.number = sverdhyll_check((const uint8_t *)script, script_size, (const uint8_t *)response, response_size, points, count, budget, shown, size, &a.text,
+                               &a.place, &a.second, &a.units);
+    return a;
+}
+
+/* A call with two texts, no points and the area. */
+static inline struct answer check_texts(const char *script, const char *response, uint64_t budget)
+{
+    return check_all(script, strlen(script), response, strlen(response), NULL, 0, budget, area, SVERDHYLL_AREA);
+}
+
+/* Whether an answer is as given. */
+static inline int is_answer(struct answer a, uint8_t number, uint8_t text, uint64_t place, uint64_t second, uint64_t units)
+{
+    return a.number == number && a.text == text && a.place == place && a.second == second && a.units == units;
+}
+
+/* How many entries the list of a function has, if all behind it up to the next list are unused; else -1. */
+static inline int list_size(size_t function)
+{
+    const uint16_t *list = area + SVERDHYLL_LIST * function;
+    int size = 0, i;
+    while (size < SVERDHYLL_LIST && list[size] != SVERDHYLL_UNUSED) size++;
+    for (i = size; i < SVERDHYLL_LIST; i++)
+        if (list[i] != SVERDHYLL_UNUSED) return -1;
+    return size;
+}
+
+/* Whether the area shows no list. */
+static inline int is_blank(void)
+{
+    for (size_t i = 0; i < SVERDHYLL_AREA; i++)
+        if (area[i] != SVERDHYLL_UNUSED) return 0;
+    return 1;
+}
+
+/* A text, and how many words it has. */
+struct text {
+    char bytes[40000];
+    size_t size, words;
+};
+
+/* How many words a piece has that begins and ends with whole words. */
+static inline size_t words_in(const char *piece)
+{
+    size_t count = 0;
+    for (size_t i = 0; piece[i] != 0; i++) {
+        const int bracket = piece[i] == '(' || piece[i] == ')', white = piece[i] == ' ' || piece[i] == '\n';
+        const char next = piece[i + 1];
+        const int ends = next == 0 || next == ' ' || next == '\n' || next == '(' || next == ')';
+        count += bracket || (!white && ends);
+    }
+    return count;
+}
+
+/* Adds a piece to a text. */
+static inline void add(struct text *text, const char *format, ...)
+{
+    va_list given;
+    va_start(given, format);
+    const size_t start = text->size;
+    text->size += vsnprintf(text->bytes + start, sizeof text->bytes - start, format, given);
+    va_end(given);
+    if (text->size >= sizeof text->bytes) {
+        printf("a text is too long\n");
+        exit(1);
+    }
+    text->words += words_in(text->bytes + start);
+}
+
+/* Adds a piece so many times. */
+static inline void repeat(struct text *text, const char *piece, size_t times)
+{
+    while (times-- > 0) add(text, "%s", piece);
+}
+
+#endif

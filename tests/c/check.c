@@ -1,0 +1,162 @@
+/* The checker, called from C: what include/sverdhyll.h says, with a case for each answer. */
+#include "calls.h"
+
+#define SCRIPT(commands) "(set-logic BV)" commands "(check-synth)"
+#define F "(synth-fun f ((x Bool)) Bool ((A Bool)) ((A Bool (x (not A)))))"
+#define RESPONSE(body) "((define-fun f ((x Bool)) Bool " body "))"
+#define V "(declare-var v Bool)"
+
+static int failures = 0;
+
+static void expect(const char *what, int holds)
+{
+    if (!holds) {
+        failures++;
+        printf("failed: %s\n", what);
+    }
+}
+
+/* The offset of the first occurrence of a part. */
+static uint64_t at(const char *text, const char *part)
+{
+    return strstr(text, part) - text;
+}
+
+/* Fills the area and what is behind it with one number. */
+static void fill(uint16_t entry)
+{
+    for (size_t i = 0; i < SVERDHYLL_AREA + 2; i++) area[i] = entry;
+}
+
+/* Whether every entry is this number. */
+static int all_are(uint16_t entry)
+{
+    for (size_t i = 0; i < SVERDHYLL_AREA + 2; i++)
+        if (area[i] != entry) return 0;
+    return 1;
+}
+
+/* Whether nothing behind the area has changed. */
+static int behind_stays(void)
+{
+    return area[SVERDHYLL_AREA] == 4660 && area[SVERDHYLL_AREA + 1] == 4660;
+}
+
+/* A refusal of either text: the answer, an area that shows nothing, and nothing behind it changed. */
+static void refused(const char *what, const char *script, const char *response, uint8_t number, uint8_t text, uint64_t place, uint64_t second)
+{
+    fill(4660);
+    const struct answer a = check_texts(script, response, 100);
+    expect(what, is_answer(a, number, text, place, second, 0) && is_blank() && behind_stays());
+}
+
+/* An answer that shows the derivation 1, 0 of (not x). */
+static void shows(const char *what, const char *script, const uint64_t *points, size_t count, uint64_t budget, struct answer wanted)
+{
+    const char *response = RESPONSE("(not x)");
+    fill(4660);
+    const struct answer a = check_all(script, strlen(script), response, strlen(response), points, count, budget, area, SVERDHYLL_AREA);
+    expect(what, is_answer(a, wanted.number, wanted.text, wanted.place, wanted.second, wanted.units));
+    expect(what, list_size(0) == 2 && area[0] == 1 && area[1] == 0 && list_size(1) == 0 && list_size(7) == 0 && behind_stays());
+}
+
+/* Answers 2 to 9, of a script. */
+static void scripts(void)
+{
+    const char *none = RESPONSE("x");
+    const char *bad = SCRIPT(F "(constraint 00)"), *often = SCRIPT(")"), *open = "(set-logic BV)(", *wide = SCRIPT("(declare-var v (_ BitVec 65))");
+    const char *unknown = SCRIPT("(foo)"), *other = "(set-logic LIA)", *name = SCRIPT(F "(constraint y)"), *sort = SCRIPT(F "(constraint #x00)");
+    const char *rule = SCRIPT("(synth-fun g () Bool ((B Bool)) ((B Bool (true #x00))))");
+    refused("a bad word is 2", bad, none, SVERDHYLL_BAD_WORD, SVERDHYLL_SCRIPT, at(bad, "00"), 0);
+    refused("a bracket closed too often is 3", often, none, SVERDHYLL_BRACKET, SVERDHYLL_SCRIPT, at(often, ")("), 0);
+    refused("a bracket never closed is 3", open, none, SVERDHYLL_BRACKET, SVERDHYLL_SCRIPT, strlen(open), 0);
+    refused("a width past its limit is 4", wide, none, SVERDHYLL_PAST_LIMIT, SVERDHYLL_SCRIPT, at(wide, "65"), 0);
+    refused("an unknown command is 5", unknown, none, SVERDHYLL_UNKNOWN_SHAPE, SVERDHYLL_SCRIPT, at(unknown, "(foo"), 0);
+    refused("another logic is 6", other, none, SVERDHYLL_NOT_CARRIED, SVERDHYLL_SCRIPT, 0, 0);
+    refused("an unknown name is 7", name, none, SVERDHYLL_NAME, SVERDHYLL_SCRIPT, at(name, "y)(check"), 0);
+    refused("a constraint that is not Bool is 8", sort, none, SVERDHYLL_SORT, SVERDHYLL_SCRIPT, at(sort, "#x00"), 0);
+    refused("a rule of another sort is 9", rule, none, SVERDHYLL_GRAMMAR, SVERDHYLL_SCRIPT, at(rule, "#x00"), 0);
+}
+
+/* Answers 10 to 13, of a response, and answers of a script that a response may have too. */
+static void responses(void)
+{
+    const char *script = SCRIPT(F), *bad = RESPONSE("00"), *name = RESPONSE("v");
+    const char *header = "((define-fun g ((x Bool)) Bool x))", *underived = RESPONSE("(or x x)");
+    refused("`fail` is 10", script, " fail ;", SVERDHYLL_FAIL, SVERDHYLL_RESPONSE, 0, 0);
+    refused("`infeasible` is 11", script, "infeasible", SVERDHYLL_INFEASIBLE, SVERDHYLL_RESPONSE, 0, 0);
+    refused("another name is 12", script, header, SVERDHYLL_HEADER, SVERDHYLL_RESPONSE, at(header, "g ("), 0);
+    refused("no derivation is 13", script, underived, SVERDHYLL_NO_DERIVATION, SVERDHYLL_RESPONSE, at(underived, "(or"), 0);
+    refused("a bad word of a response is 2", script, bad, SVERDHYLL_BAD_WORD, SVERDHYLL_RESPONSE, at(bad, "00"), 0);
+    refused("an unknown name of a response is 7", script, name, SVERDHYLL_NAME, SVERDHYLL_RESPONSE, at(name, "v))"), 0);
+}
+
+/* Answers 0, 14, 15 and 16, and the units: a constraint costs 7, that of the body (not x) among it. */
+static void points(void)
+{
+    const char *script = SCRIPT(F V "(constraint (= (f v) (not v)))" "(constraint (not v))");
+    const uint64_t good[3] = {0, 0, 0}, late[3] = {0, 0, 1}, bad[3] = {0, 1, 2};
+    shows("three points are accepted", script, good, 3, 100, (struct answer){SVERDHYLL_ACCEPTED, SVERDHYLL_NONE, 0, 3, 27});
+    shows("no points are accepted", script, NULL, 0, 0, (struct answer){SVERDHYLL_ACCEPTED, SVERDHYLL_NONE, 0, 0, 0});
+    shows("a false constraint is 14", script, late, 3, 100, (struct answer){SVERDHYLL_FALSE, SVERDHYLL_POINTS, 2, 1, 27});
+    shows("a budget that ends is 15", script, good, 3, 26, (struct answer){SVERDHYLL_BUDGET_ENDED, SVERDHYLL_POINTS, 2, 1, 25});
+    fill(4660);
+    const struct answer a = check_all(script, strlen(script), RESPONSE("x"), strlen(RESPONSE("x")), bad, 3, 100, area, SVERDHYLL_AREA);
+    expect("a number outside its sort is 16", is_answer(a, SVERDHYLL_BAD_POINTS, SVERDHYLL_POINTS, 2, 0, 0) && is_blank() && behind_stays());
+}
+
+/* Answer 1, and the areas that it leaves unchanged. */
+static void sizes(void)
+{
+    static char text[SVERDHYLL_MOST_SCRIPT + 1];
+    static uint64_t numbers[SVERDHYLL_MOST_POINTS + 1];
+    const char *script = SCRIPT(F), *response = RESPONSE("x");
+    const size_t size = strlen(script), most = strlen(response);
+    struct answer a;
+    memset(text, ' ', sizeof text);
+    fill(4660);
+    a = check_all(text, SVERDHYLL_MOST_SCRIPT + 1, response, most, NULL, 0, 0, area, SVERDHYLL_AREA);
+    expect("a script too long is 1", is_answer(a, SVERDHYLL_TOO_LONG, SVERDHYLL_SCRIPT, SVERDHYLL_MOST_SCRIPT + 1, 0, 0) && is_blank() && behind_stays());
+    a = check_all(script, size, text, SVERDHYLL_MOST_RESPONSE + 1, NULL, 0, 0, area, SVERDHYLL_AREA);
+    expect("a response too long is 1", is_answer(a, SVERDHYLL_TOO_LONG, SVERDHYLL_RESPONSE, SVERDHYLL_MOST_RESPONSE + 1, 0, 0));
+    a = check_all(script, size, response, most, numbers, SVERDHYLL_MOST_POINTS + 1, 0, area, SVERDHYLL_AREA);
+    expect("too many numbers are 1", is_answer(a, SVERDHYLL_TOO_LONG, SVERDHYLL_POINTS, SVERDHYLL_MOST_POINTS + 1, 0, 0));
+    for (size_t lent = SVERDHYLL_AREA - 1; lent <= SVERDHYLL_AREA + 1; lent += 2) {
+        fill(4660);
+        a = check_all(script, size, response, most, NULL, 0, 100, area, lent);
+        expect("an area of wrong size is 1", is_answer(a, SVERDHYLL_TOO_LONG, SVERDHYLL_NONE, lent, 0, 0));
+        check_all(text, SVERDHYLL_MOST_SCRIPT + 1, response, most, NULL, 0, 0, area, lent);
+        expect("an area of wrong size is unchanged", all_are(4660));
+    }
+}
+
+/* Texts, points and areas of no bytes, at no address. */
+static void nothing(void)
+{
+    expect("nothing at all", is_answer(check_all(NULL, 0, NULL, 0, NULL, 0, 0, NULL, 0), SVERDHYLL_TOO_LONG, SVERDHYLL_NONE, 0, 0, 0));
+    expect("no script", is_answer(check_all(NULL, 0, NULL, 0, NULL, 0, 0, area, SVERDHYLL_AREA), SVERDHYLL_UNKNOWN_SHAPE, SVERDHYLL_SCRIPT, 0, 0, 0));
+    const struct answer a = check_all(SCRIPT(F), strlen(SCRIPT(F)), NULL, 0, NULL, 0, 0, area, SVERDHYLL_AREA);
+    expect("no response", is_answer(a, SVERDHYLL_UNKNOWN_SHAPE, SVERDHYLL_RESPONSE, 0, 0, 0) && is_blank());
+}
+
+/* The enquiry, which stands in the same library. */
+static void enquiries(void)
+{
+    const uint8_t text[] = "(ab 12);(c";
+    const size_t size = sizeof text - 1;
+    expect("a word's length", sverdhyll_word(text, size, 0) == 1 && sverdhyll_word(text, size, 1) == 2 && sverdhyll_word(text, size, 4) == 2);
+    expect("no word starts there", sverdhyll_word(text, size, 2) == 0 && sverdhyll_word(text, size, 8) == 0 && sverdhyll_word(text, size, 99) == 0);
+    expect("an empty text has no word", sverdhyll_word(NULL, 0, 0) == 0);
+}
+
+int main(void)
+{
+    scripts();
+    responses();
+    points();
+    sizes();
+    nothing();
+    enquiries();
+    printf(failures ? "%d failed\n" : "the checker from C: as the header says\n", failures);
+    return failures != 0;
+}

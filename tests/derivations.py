@@ -1,0 +1,196 @@
+"""Derivations of the bodies of a response by the grammars of a script, from their lists of words alone.
+
+`derivations` searches for the lists of rule numbers that could be shown, and `fault` replays a list; the two share no more than the grammar. Both take texts
+that document 01 passes: nothing is checked of them here.
+"""
+from collections import namedtuple
+
+import words
+
+# A word with its offset, or a list with that of its bracket: `word` or `items` is None.
+Tree = namedtuple("Tree", "start word items")
+
+# A rule: its non-terminal, and what it derives, a tree with non-terminals in it.
+Rule = namedtuple("Rule", "head form")
+
+# The grammar of a function: its start, its non-terminals, its rules in order, and its arguments, each with its sort.
+Grammar = namedtuple("Grammar", "start names rules arguments")
+
+
+# Texts
+
+def trees(text):
+    """The trees of a text."""
+    open_lists = [(0, [])]
+    for start, end in words.spans(text):
+        word = text[start:end]
+        if word == b"(":
+            open_lists.append((start, []))
+        elif word == b")":
+            first, items = open_lists.pop()
+            open_lists[-1][1].append(Tree(first, None, items))
+        else:
+            open_lists[-1][1].append(Tree(start, word, None))
+    return open_lists[0][1]
+
+
+def same(one, other):
+    """Whether two trees have the same words, compared as written."""
+    if one.items is None or other.items is None:
+        return one.word == other.word
+    return len(one.items) == len(other.items) and all(map(same, one.items, other.items))
+
+
+def sort_of(tree):
+    """A sort: 0 for Bool, the width of a bit vector."""
+    return 0 if tree.items is None else int(tree.items[2].word)
+
+
+def literal_sort(word):
+    """The sort of a literal; None for any other word."""
+    if word in (b"true", b"false"):
+        return 0
+    if word[:2] == b"#x":
+        return 4 * (len(word) - 2)
+    return len(word) - 2 if word[:2] == b"#b" else None
+
+
+def grammar_of(command):
+    """The grammar of a `synth-fun`."""
+    arguments, predeclared, groups = (command.items[i].items for i in (2, 4, 5))
+    names = [pair.items[0].word for pair in predeclared]
+    rules = [Rule(group.items[0].word, form) for group in groups for form in group.items[2].items]
+    return Grammar(names[0], set(names), rules, {pair.items[0].word: sort_of(pair.items[1]) for pair in arguments})
+
+
+def grammars(script):
+    """The grammars of a script, one a function."""
+    return [grammar_of(tree) for tree in trees(script) if tree.items and tree.items[0].word == b"synth-fun"]
+
+
+def bodies(response):
+    """The bodies of a response, one a function."""
+    return [command.items[4] for command in trees(response)[0].items]
+
+
+# What one rule derives
+
+def is_pattern(form, name):
+    """Whether a form is a whole rule `(Constant σ)` or `(Variable σ)`."""
+    return form.items is not None and form.items[0].word == name
+
+
+def derives_leaf(grammar, form, term):
+    """Whether a rule `(Constant σ)` or `(Variable σ)` derives a term; None for any other rule."""
+    if is_pattern(form, b"Constant"):
+        return term.items is None and literal_sort(term.word) == sort_of(form.items[1])
+    if is_pattern(form, b"Variable"):
+        return term.items is None and grammar.arguments.get(term.word) == sort_of(form.items[1])
+    return None
+
+
+# Replay
+
+def fault(grammar, body, numbers):
+    """What is wrong with a list of rule numbers as a derivation of a body, leftmost first; None if nothing is.
+
+    The leftmost non-terminal that is left stands on top of the stack, with the part of the body at its place.
+    """
+    left, used, at = [(Tree(0, grammar.start, None), body)], set(), 0
+    while left:
+        form, term = left.pop()
+        if form.items is None and form.word in grammar.names:
+            if at == len(numbers):
+                return "the list ends early"
+            if numbers[at] >= len(grammar.rules) or grammar.rules[numbers[at]].head != form.word:
+                return "%d is no rule of %s" % (numbers[at], form.word.decode())
+            if (term.start, form.word) in used:
+                return "%s is used twice at one place" % form.word.decode()
+            used.add((term.start, form.word))
+            form, at = grammar.rules[numbers[at]].form, at + 1
+            leaf = derives_leaf(grammar, form, term)
+            if leaf is None:
+                left.append((form, term))
+            elif not leaf:
+                return "rule %d does not derive what stands at %d" % (numbers[at - 1], term.start)
+        elif form.items is None or term.items is None:
+            if not same(form, term):
+                return "a rule has another word than the body at %d" % term.start
+        else:
+            if not same(form.items[0], term.items[0]) or len(form.items) != len(term.items):
+                return "a rule has another head or other operands than the body at %d" % term.start
+            left += list(zip(form.items[1:], term.items[1:]))[::-1]
+    return None if at == len(numbers) else "%d numbers are left of the list" % (len(numbers) - at)
+
+
+def fault_of_lists(script, response, lists):
+    """What is wrong with the lists that are shown for a script and a response; None if nothing is."""
+    functions = grammars(script)
+    if len(lists) != len(functions):
+        return "%d lists for %d functions" % (len(lists), len(functions))
+    for k, (grammar, body, numbers) in enumerate(zip(functions, bodies(response), lists)):
+        found = fault(grammar, body, numbers)
+        if found:
+            return "function %d: %s" % (k, found)
+    return None
+
+
+# Search
+
+def holes(grammar, form, term):
+    """The non-terminals of a form, left to right, each with the part of the term at its place; None where the term is no instance of the form."""
+    if form.items is None and form.word in grammar.names:
+        return [(form.word, term)]
+    if form.items is None or term.items is None:
+        return [] if same(form, term) else None
+    if not same(form.items[0], term.items[0]) or len(form.items) != len(term.items):
+        return None
+    found = []
+    for one, other in zip(form.items[1:], term.items[1:]):
+        more = holes(grammar, one, other)
+        if more is None:
+            return None
+        found += more
+    return found
+
+
+class Search:
+    """The search for derivations of one body: at most two of each part are kept, so that one tells whether there is another."""
+
+    MOST = 2
+
+    def __init__(self, grammar):
+        self.grammar = grammar
+        self.found = {}
+
+    def of_name(self, name, term, used):
+        """Derivations of a term from a non-terminal, where those of `used` were used at its place before."""
+        key = (name, term.start, used)
+        if key not in self.found:
+            lists = []
+            for number, rule in enumerate(self.grammar.rules):
+                if rule.head == name and len(lists) < self.MOST:
+                    lists += [[number] + rest for rest in self.of_form(rule.form, term, used | {name})]
+            self.found[key] = lists[:self.MOST]
+        return self.found[key]
+
+    def of_form(self, form, term, used):
+        """Derivations of a term from the form of a rule."""
+        leaf = derives_leaf(self.grammar, form, term)
+        if leaf is not None:
+            return [[]] if leaf else []
+        parts = holes(self.grammar, form, term)
+        if parts is None:
+            return []
+        lists = [[]]
+        for name, part in parts:
+            if part is term and name in used:
+                return []
+            more = self.of_name(name, part, used if part is term else frozenset())
+            lists = [one + other for one in lists for other in more][:self.MOST]
+        return lists
+
+
+def derivations(grammar, body):
+    """Derivations of a body from the start in which no non-terminal is used twice at one place: all of them, or two."""
+    return Search(grammar).of_name(grammar.start, body, frozenset())
