@@ -75,6 +75,26 @@ pub fn evaluate(script: &Script, bodies: &[Tree], points: &[u64], budget: u64) -
     (Outcome::Accepted { points }, budget - left)
 }
 
+/// The constraints that are false at the first point and cost no more than a bound.
+pub fn false_constraints(
+    script: &Script,
+    bodies: &[Tree],
+    points: &[u64],
+    most: u64,
+) -> Vec<usize> {
+    let functions = Functions::new(script, bodies);
+    let points = whole_points(points, &script.variables);
+    let Some(first) = points.first() else {
+        return Vec::new();
+    };
+    let costs = constraint_costs(script, &functions);
+    let is_false = |&index: &usize| {
+        let value = || functions.value(&script.constraints[index], first);
+        costs[index] <= u128::from(most) && value() == Value::Bool(false)
+    };
+    (0..script.constraints.len()).filter(is_false).collect()
+}
+
 /// The cost of each constraint, which is the same at every point.
 pub fn constraint_costs(script: &Script, functions: &Functions) -> Vec<u128> {
     let variables = script.variables.iter().map(|one| one.name.as_str());

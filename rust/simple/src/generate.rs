@@ -1,10 +1,12 @@
-//! Random cases from a seed, for tests that compare two checkers: sound ones, and mutations of them.
+//! Random cases from a seed, for tests that compare two checkers: sound ones, mutations of them, cases about the limits, and noise.
 
 mod draft;
 mod mutate;
-mod random;
+mod noise;
+pub mod random;
+mod sized;
 
-use crate::eval::{constraint_costs, Functions};
+use crate::eval::{constraint_costs, false_constraints, Functions};
 use crate::{check, response, script, words, AREA_LENGTH, MOST_RESPONSE_BYTES, MOST_SCRIPT_BYTES};
 use draft::{draft, tower, Draft};
 use random::Random;
@@ -27,7 +29,7 @@ pub fn valid(seed: u64) -> Case {
     loop {
         let draft = match random.percent(3) {
             true => tower(&mut random),
-            false => draft(&mut random),
+            false => settled(draft(&mut random, true)),
         };
         let mut case = rendered(&mut random, draft);
         if within_limits(&case) {
@@ -37,15 +39,16 @@ pub fn valid(seed: u64) -> Case {
     }
 }
 
-/// A case made from a sound one by one to three mutations.
+/// A case made from a sound one by one to three mutations, or with bodies that need not be derived.
 pub fn mutated(seed: u64) -> Case {
     let mut random = Random::new(!seed);
+    let estranged = random.percent(15);
     let mut draft = match random.percent(2) {
         true => tower(&mut random),
-        false => draft(&mut random),
+        false => draft(&mut random, !estranged),
     };
     let in_bytes = random.percent(10);
-    if !in_bytes {
+    if !in_bytes && !estranged {
         let count = random.pick(&[1, 1, 1, 1, 2, 3]);
         for _ in 0..count {
             mutate::mutate(&mut random, &mut draft);
@@ -62,12 +65,72 @@ pub fn mutated(seed: u64) -> Case {
     case
 }
 
+/// A case made from a sound one by several mutations within one command, so that faults of several numbers meet in it.
+pub fn crowded(seed: u64) -> Case {
+    let mut random = Random::new(seed.rotate_left(32));
+    let mut draft = draft(&mut random, true);
+    mutate::crowd(&mut random, &mut draft);
+    let mut case = rendered(&mut random, draft);
+    case.budget = budget(&mut random, &case);
+    case
+}
+
+/// A case about one or two limits.
+pub fn sized(seed: u64) -> Case {
+    let mut random = Random::new(!seed.rotate_left(32));
+    let made = sized::sized(&mut random);
+    let mut case = Case {
+        script: made.script,
+        response: made.response,
+        points: made.points,
+        budget: 0,
+    };
+    case.budget = budget(&mut random, &case);
+    case
+}
+
+/// A case whose script, response or both are noise.
+pub fn noise(seed: u64) -> Case {
+    let mut random = Random::new(seed.rotate_left(16));
+    let mut case = valid(random.number());
+    match random.below(4) {
+        0 => case.script = noise::noise(&mut random),
+        1 => case.response = noise::noise(&mut random),
+        2 => {
+            case.script = noise::framed(&mut random);
+            case.response = noise::RESPONSE.to_vec();
+        }
+        _ => {
+            case.script = noise::framed(&mut random);
+            case.response = noise::noise(&mut random);
+        }
+    }
+    case.budget = budget(&mut random, &case);
+    case
+}
+
 /// Whether both texts are within the limits of bytes, words and nesting.
 fn within_limits(case: &Case) -> bool {
     case.script.len() <= MOST_SCRIPT_BYTES
         && case.response.len() <= MOST_RESPONSE_BYTES
         && words::read(&case.script, script::MOST_WORDS).is_ok()
         && words::read(&case.response, response::MOST_WORDS).is_ok()
+}
+
+/// A draft with each constraint negated that is false at the first point, so that later ones are evaluated too; what
+/// terms mean then decides the answer.
+fn settled(mut draft: Draft) -> Draft {
+    let text = |words: &[String]| words.join(" ").into_bytes();
+    let Ok(script) = script::read(&text(&draft.script)) else {
+        return draft;
+    };
+    let Ok(bodies) = response::read(&text(&draft.response), &script) else {
+        return draft;
+    };
+    for index in false_constraints(&script, &bodies, &draft.points, MOST_UNITS) {
+        mutate::negate(&mut draft.script, index);
+    }
+    draft
 }
 
 /// The texts of a draft, the budget still to be found.

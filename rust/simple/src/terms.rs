@@ -46,7 +46,7 @@ pub const OTHER_COMMANDS: [&str; 22] = [
 ];
 
 /// The reserved words that are neither operators nor command words.
-const OTHER_RESERVED: [&str; 11] = [
+pub const OTHER_RESERVED: [&str; 11] = [
     "true", "false", "Bool", "BitVec", "_", "!", "let", "exists", "forall", "Constant", "Variable",
 ];
 

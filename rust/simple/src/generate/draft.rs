@@ -5,9 +5,9 @@ use crate::operators::{Sort, SortRule, OPERATORS};
 use crate::terms::{is_reserved, Name};
 
 /// Names to take new ones from; few, so that commands often share them.
-const NAMES: [&str; 24] = [
+const NAMES: [&str; 26] = [
     "x", "y", "z", "a", "b", "c", "A", "B", "C", "Start", "BV32", "f", "g", "h", "d0", "d1", "x.1",
-    "@k", "~", "as", "fail", "bvsle", "<=", "Int",
+    "@k", "~", "as", "fail", "bvsle", "<=", "Int", "a/b?!$", "*_-+&^%>",
 ];
 
 /// The words of a script and a response, and the points.
@@ -17,11 +17,12 @@ pub struct Draft {
     pub points: Vec<u64>,
 }
 
-/// A term as it is made: the words of its head and its operands, none for a leaf.
+/// A term as it is made: the words of its head, its operands, none for a leaf, and its sort.
 #[derive(Clone)]
 struct Shape {
     head: Vec<String>,
     operands: Vec<Shape>,
+    sort: Sort,
 }
 
 /// A rule as it is made.
@@ -42,13 +43,14 @@ struct Group {
 /// A synthesized function with its derived body.
 struct Function {
     name: Name,
-    arguments: Vec<String>,
+    arguments: Vec<Name>,
     body: Shape,
 }
 
 /// What is made so far.
 struct Maker<'a> {
     random: &'a mut Random,
+    derived: bool,
     sorts: Vec<Sort>,
     variables: Vec<Name>,
     definitions: Vec<Name>,
@@ -56,24 +58,30 @@ struct Maker<'a> {
     constraints: usize,
     rules_left: usize,
     script: Vec<String>,
-    response: Vec<String>,
 }
 
 impl Shape {
     /// A leaf of one word.
-    fn leaf(word: &str) -> Shape {
+    fn leaf(word: &str, sort: Sort) -> Shape {
         Shape {
             head: vec![word.to_string()],
             operands: Vec::new(),
+            sort,
         }
     }
 
     /// An application.
-    fn apply(head: &str, operands: Vec<Shape>) -> Shape {
+    fn apply(head: &str, operands: Vec<Shape>, sort: Sort) -> Shape {
         Shape {
             head: words(head),
             operands,
+            sort,
         }
+    }
+
+    /// An application that is a Bool.
+    fn apply_bool(head: &str, operands: Vec<Shape>) -> Shape {
+        Shape::apply(head, operands, Sort::Bool)
     }
 
     /// The words of the term.
@@ -100,6 +108,7 @@ impl Shape {
         Shape {
             head: self.head.clone(),
             operands: operands.map(|one| one.replaced(replacement)).collect(),
+            sort: self.sort,
         }
     }
 }
@@ -144,17 +153,19 @@ pub fn literal(random: &mut Random, sort: Sort) -> String {
     }
 }
 
-/// A random number of a sort, often at an end.
+/// A random number of a sort, often at an end or about the width.
 pub fn value(random: &mut Random, sort: Sort) -> u64 {
-    let most = match sort {
+    let width = match sort {
         Sort::Bool => 1,
-        Sort::BitVec(width) => u64::MAX >> (64 - width),
+        Sort::BitVec(width) => width,
     };
-    match random.below(5) {
+    let most = u64::MAX >> (64 - width);
+    match random.below(6) {
         0 => 0,
         1 => 1,
         2 => most,
-        3 => random.number() & most & 15,
+        3 => (random.between(0, 2) as u64 + u64::from(width) - 1) & most,
+        4 => random.number() & most & 15,
         _ => random.number() & most,
     }
 }
@@ -168,12 +179,13 @@ fn sort(random: &mut Random) -> Sort {
     }
 }
 
-/// A random draft; one in twenty has many of everything.
-pub fn draft(random: &mut Random) -> Draft {
+/// A random draft, its bodies derived or with a term put in that need not be; one in twenty has many of everything.
+pub fn draft(random: &mut Random, derived: bool) -> Draft {
     let many = random.percent(5);
     let sorts = (0..3).map(|_| sort(random)).collect();
     let mut maker = Maker {
         random,
+        derived,
         sorts,
         variables: Vec::new(),
         definitions: Vec::new(),
@@ -181,15 +193,13 @@ pub fn draft(random: &mut Random) -> Draft {
         constraints: 0,
         rules_left: 0,
         script: words("( set-logic BV )"),
-        response: Vec::new(),
     };
     maker.commands(many);
     maker.script.extend(words("( check-synth )"));
-    let points = maker.points();
     Draft {
+        response: maker.response(),
+        points: maker.points(),
         script: maker.script,
-        response: list(maker.response),
-        points,
     }
 }
 
@@ -200,10 +210,10 @@ pub fn tower(random: &mut Random) -> Draft {
     script.extend(words("( define-fun d0 ( ) Bool true )"));
     let levels = random.between(4, 31);
     for level in 1..=levels {
-        let last = Shape::leaf(&format!("d{}", level - 1));
+        let last = Shape::leaf(&format!("d{}", level - 1), Sort::Bool);
         let mut body = last.clone();
         for _ in 0..random.between(1, 6) {
-            body = Shape::apply("and", vec![last.clone(), body]);
+            body = Shape::apply_bool("and", vec![last.clone(), body]);
         }
         script.extend(words(&format!("( define-fun d{level} ( ) Bool")));
         script.extend(body.words());
@@ -317,7 +327,7 @@ impl Maker<'_> {
         self.definitions.push(function_name(name, &arguments, sort));
     }
 
-    /// `(synth-fun f (arguments) σ (predeclaration) (listing))`, with the `define-fun` that the response gives for it.
+    /// `(synth-fun f (arguments) σ (predeclaration) (listing))`.
     fn synth_fun(&mut self) {
         let name = self.fresh(&[]);
         let count = self.argument_count();
@@ -338,21 +348,38 @@ impl Maker<'_> {
         }
         let groups = self.groups(&arguments, &nonterminals);
         let pair = |one: &Name| joined([words(&one.name), sort_words(one.sort)]);
-        let header = header_words(&name, &arguments, sort);
         self.script.extend(joined([
             words("synth-fun"),
-            header.clone(),
+            header_words(&name, &arguments, sort),
             joined(nonterminals.iter().map(pair)),
             joined(groups.iter().map(group_words)),
         ]));
         let body = self.body(&groups, &arguments);
-        self.response
-            .extend(joined([words("define-fun"), header, body.words()]));
         self.functions.push(Function {
             name: function_name(name, &arguments, sort),
-            arguments: arguments.into_iter().map(|one| one.name).collect(),
+            arguments,
             body,
         });
+    }
+
+    /// The response: the `define-fun` of each function.
+    fn response(&mut self) -> Vec<String> {
+        let functions = std::mem::take(&mut self.functions);
+        let mut parts = Vec::new();
+        for Function {
+            name,
+            arguments,
+            body,
+        } in functions
+        {
+            let body = match self.derived {
+                true => body,
+                false => self.estranged(&body, &[&arguments[..], &self.definitions].concat()),
+            };
+            let header = header_words(&name.name, &arguments, name.sort);
+            parts.push(joined([words("define-fun"), header, body.words()]));
+        }
+        joined(parts)
     }
 
     /// The listing of a grammar.
@@ -387,12 +414,18 @@ impl Maker<'_> {
         }
     }
 
-    /// Any rule of a sort: a chain, `(Constant σ)`, `(Variable σ)` or a term.
+    /// Any rule of a sort: a chain, `(Constant σ)`, `(Variable σ)`, an equation of two non-terminals or a term.
     fn rule(&mut self, sort: Sort, seen: &[Name], nonterminals: &[Name]) -> Rule {
         match self.random.below(10) {
             0 => Rule::Constant(sort),
             1 => Rule::Variable(sort),
             2 | 3 => Rule::Term(self.leaf(sort, nonterminals)),
+            4 | 5 if sort == Sort::Bool => {
+                let one = self.random.pick(nonterminals);
+                let one = Shape::leaf(&one.name, one.sort);
+                let other = self.leaf(one.sort, nonterminals);
+                Rule::Term(Shape::apply_bool("=", vec![one, other]))
+            }
             _ => {
                 let size = self.random.between(2, 6);
                 Rule::Term(self.term(sort, seen, size))
@@ -432,13 +465,13 @@ impl Maker<'_> {
             }
         }
         match &group.rules[chosen] {
-            Rule::Constant(sort) => Shape::leaf(&literal(self.random, *sort)),
+            Rule::Constant(sort) => Shape::leaf(&literal(self.random, *sort), *sort),
             Rule::Variable(sort) => {
                 let fitting = arguments.iter().filter(|one| one.sort == *sort);
                 let fitting: Vec<&Name> = fitting.collect();
                 match fitting.is_empty() {
                     true => self.derived(groups, arguments, index, 0),
-                    false => Shape::leaf(&self.random.pick(&fitting).name),
+                    false => Shape::leaf(&self.random.pick(&fitting).name, *sort),
                 }
             }
             Rule::Term(term) => term.replaced(&mut |leaf| {
@@ -448,16 +481,34 @@ impl Maker<'_> {
         }
     }
 
-    /// `(constraint t)`: mostly a true one, by a function's own body or by its form.
+    /// The term with one part replaced by a random one of its sort, or with other operands where it compares two.
+    fn estranged(&mut self, term: &Shape, seen: &[Name]) -> Shape {
+        let mut changed = term.clone();
+        let compares = matches!(term.head[0].as_str(), "=" | "distinct");
+        let chosen = self.random.below(term.operands.len() + 1);
+        if compares && self.random.percent(60) {
+            let sort = self.sort();
+            changed.operands.fill_with(|| self.leaf(sort, seen));
+        } else if chosen < term.operands.len() {
+            changed.operands[chosen] = self.estranged(&term.operands[chosen], seen);
+        } else {
+            let size = self.random.between(1, 4);
+            changed = self.term(term.sort, seen, size);
+        }
+        changed
+    }
+
+    /// `(constraint t)`: by a function's own body, true by its form, or any.
     fn constraint(&mut self) {
         let mut seen = [&self.variables[..], &self.variables, &self.definitions].concat();
         seen.extend(self.functions.iter().map(|one| one.name.clone()));
         let term = match self.random.below(8) {
             0 => self.term(Sort::Bool, &seen, 8),
-            1..=4 if !self.functions.is_empty() => self.equation(&seen),
+            1..=3 => self.bit(&seen),
+            4..=6 if !self.functions.is_empty() => self.equation(&seen),
             _ => self.tautology(&seen),
         };
-        if term.nodes() <= 256 {
+        if term.nodes() <= 255 {
             self.constraints += 1;
             self.script
                 .extend(joined([words("constraint"), term.words()]));
@@ -475,10 +526,25 @@ impl Maker<'_> {
         }
         let function = &self.functions[index];
         let body = function.body.replaced(&mut |leaf| {
-            let argument = function.arguments.iter().position(|one| one == leaf)?;
+            let argument = function.arguments.iter().position(|one| one.name == leaf)?;
             Some(operands[argument].clone())
         });
-        Shape::apply("=", vec![Shape::apply(&name.name, operands), body])
+        let call = Shape::apply(&name.name, operands, name.sort);
+        Shape::apply_bool("=", vec![call, body])
+    }
+
+    /// That a bit of a random term is 1.
+    fn bit(&mut self, seen: &[Name]) -> Shape {
+        let sort = self.sort();
+        let size = self.random.between(2, 9);
+        let term = self.term(sort, seen, size);
+        let Sort::BitVec(width) = sort else {
+            return term;
+        };
+        let at = self.random.below(width as usize);
+        let bit = Sort::BitVec(1);
+        let part = Shape::apply(&format!("( _ extract {at} {at} )"), vec![term], bit);
+        Shape::apply_bool("=", vec![part, Shape::leaf("#b1", bit)])
     }
 
     /// A constraint that is true by its form.
@@ -486,13 +552,13 @@ impl Maker<'_> {
         let sort = self.sort();
         let any = self.term(sort, seen, 6);
         let one = self.term(Sort::Bool, seen, 6);
-        let negated = |term| Shape::apply("not", vec![term]);
+        let negated = |term| Shape::apply_bool("not", vec![term]);
         match self.random.below(5) {
-            0 => Shape::apply("=", vec![any.clone(), any]),
-            1 => negated(Shape::apply("distinct", vec![any.clone(), any])),
-            2 => Shape::apply("or", vec![one.clone(), negated(one)]),
-            3 => Shape::apply("=>", vec![one.clone(), one]),
-            _ => negated(Shape::apply("xor", vec![one.clone(), one])),
+            0 => Shape::apply_bool("=", vec![any.clone(), any]),
+            1 => negated(Shape::apply_bool("distinct", vec![any.clone(), any])),
+            2 => Shape::apply_bool("or", vec![one.clone(), negated(one)]),
+            3 => Shape::apply_bool("=>", vec![one.clone(), one]),
+            _ => negated(Shape::apply_bool("xor", vec![one.clone(), one])),
         }
     }
 
@@ -506,18 +572,19 @@ impl Maker<'_> {
         let functions: Vec<&Name> = functions.collect();
         if !functions.is_empty() && self.random.percent(30) {
             let name = self.random.pick(&functions).clone();
-            return self.application(&name.name, &name.operands, seen, size);
+            let operands = self.operand_terms(&name.operands, seen, size);
+            return Shape::apply(&name.name, operands, sort);
         }
         let (head, operands) = self.operator(sort);
-        self.application(&head, &operands, seen, size)
+        let operands = self.operand_terms(&operands, seen, size);
+        Shape::apply(&head, operands, sort)
     }
 
-    /// An application of a head to random terms.
-    fn application(&mut self, head: &str, sorts: &[Sort], seen: &[Name], size: usize) -> Shape {
+    /// Random terms of these sorts for an application with about so many nodes.
+    fn operand_terms(&mut self, sorts: &[Sort], seen: &[Name], size: usize) -> Vec<Shape> {
         let share = (size - 1).div_ceil(sorts.len());
         let operands = sorts.iter().map(|&sort| self.term(sort, seen, share));
-        let operands = operands.collect();
-        Shape::apply(head, operands)
+        operands.collect()
     }
 
     /// A literal or a seen name without operands.
@@ -526,9 +593,9 @@ impl Maker<'_> {
         let names = names.filter(|one| one.sort == sort && one.operands.is_empty());
         let names: Vec<&Name> = names.collect();
         if names.is_empty() || self.random.percent(20) {
-            return Shape::leaf(&literal(self.random, sort));
+            return Shape::leaf(&literal(self.random, sort), sort);
         }
-        Shape::leaf(&self.random.pick(&names).name)
+        Shape::leaf(&self.random.pick(&names).name, sort)
     }
 
     /// An operator that gives a sort, as its words and the sorts of its operands.

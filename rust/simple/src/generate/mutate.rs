@@ -1,8 +1,10 @@
 //! Mutations of a draft, word by word, tree by tree and command by command, and of a text, byte by byte.
 
 use super::draft::{literal, sort_words, words, Draft};
+use super::noise::tree;
 use super::random::Random;
 use crate::operators::{operator, Sort, OPERATORS};
+use crate::terms::{CARRIED_COMMANDS, OTHER_COMMANDS, OTHER_RESERVED};
 use std::ops::Range;
 
 /// Words that tend to break a rule wherever they stand.
@@ -12,7 +14,7 @@ const WORDS: &str = "( ) 0 1 8 64 65 999999999 1000000000 00 07 #x #b2 #xG #xAB 
     constraint define-fun-rec BV LIA Int x y A B f nosuch \"s |q| :k a'b é -5";
 
 /// Trees that tend to break a rule wherever they stand.
-const TREES: [&str; 20] = [
+const TREES: [&str; 26] = [
     "( )",
     "( true )",
     "( x )",
@@ -29,6 +31,12 @@ const TREES: [&str; 20] = [
     "( ( _ extract 0 0 ) #x0 )",
     "( ( _ extract 0 1 ) #x0 )",
     "( Constant Bool )",
+    "( Variable Bool )",
+    "( Constant x )",
+    "( ( _ extract 4 0 ) #x0 )",
+    "( ( _ extract 4 4 ) #x0 )",
+    "( concat #x0000000000000000 #b0 )",
+    "( concat #x000000000000000 #b0000 )",
     "( Variable ( _ BitVec 8 ) )",
     "( Constant ( _ BitVec 65 ) )",
     "( concat #x00000000 #x000000001 )",
@@ -64,37 +72,115 @@ const RESPONSES: [&str; 6] = [
 ];
 
 /// One of the words that tend to break a rule.
-fn odd_word(random: &mut Random) -> String {
-    random.pick(&words(WORDS))
+pub fn odd_word(random: &mut Random) -> String {
+    match random.percent(10) {
+        true => random.pick(&OTHER_COMMANDS).to_string(),
+        false => random.pick(&words(WORDS)),
+    }
+}
+
+/// A tree that tends to break a rule, or one at random.
+fn odd_tree(random: &mut Random) -> Vec<String> {
+    match random.percent(75) {
+        true => words(random.pick(&TREES)),
+        false => words(&tree(random, 3)),
+    }
+}
+
+/// One of the reserved words.
+fn reserved_word(random: &mut Random) -> String {
+    let operators = OPERATORS.iter().map(|one| one.name);
+    let commands = CARRIED_COMMANDS.into_iter().chain(OTHER_COMMANDS);
+    let all = operators.chain(commands).chain(OTHER_RESERVED);
+    let all: Vec<&str> = all.collect();
+    random.pick(&all).to_string()
 }
 
 /// Changes a draft in one place.
 pub fn mutate(random: &mut Random, draft: &mut Draft) {
-    match random.below(20) {
-        0 => mutate_points(random, &mut draft.points),
-        1 => draft.response = words(random.pick(&RESPONSES)),
-        2 => mutate_operator(random, &mut draft.response),
-        3 => mutate_literal(random, &mut draft.response),
-        4..=7 => mutate_words(random, &mut draft.response),
+    match random.below(24) {
+        0 | 1 => mutate_points(random, &mut draft.points),
+        2 => draft.response = words(random.pick(&RESPONSES)),
+        3 => mutate_operator(random, &mut draft.response),
+        4 => mutate_literal(random, &mut draft.response),
+        5 => borrow_name(random, draft),
+        6 | 7 => rename_everywhere(random, draft),
+        8..=12 => mutate_words(random, &mut draft.response),
         _ => mutate_words(random, &mut draft.script),
     }
 }
 
+/// Replaces a name of the response by one of the script.
+fn borrow_name(random: &mut Random, draft: &mut Draft) {
+    let (own, others) = (names(&draft.response), names(&draft.script));
+    if !own.is_empty() && !others.is_empty() {
+        draft.response[random.pick(&own)] = draft.script[random.pick(&others)].clone();
+    }
+}
+
+/// Replaces a name wherever it stands in both texts, by another one or a reserved word.
+fn rename_everywhere(random: &mut Random, draft: &mut Draft) {
+    let (from, to) = match renaming(random, &draft.script) {
+        Some(renaming) => renaming,
+        None => return,
+    };
+    rename(&mut draft.script, &from, &to);
+    rename(&mut draft.response, &from, &to);
+}
+
+/// Negates the constraint of an index.
+pub fn negate(script: &mut Vec<String>, index: usize) {
+    let mut places = commands(script);
+    places.retain(|command| script[command.start + 1] == "constraint");
+    let place = &places[index];
+    insert(script, place.end - 1, words(")"));
+    insert(script, place.start + 2, words("( not"));
+}
+
+/// Changes one command of the script or the response in several places, mostly so that its shape stays.
+pub fn crowd(random: &mut Random, draft: &mut Draft) {
+    let text = match random.percent(70) {
+        true => &mut draft.script,
+        false => &mut draft.response,
+    };
+    let places = commands(text);
+    if places.is_empty() {
+        return;
+    }
+    let place = random.pick(&places);
+    let mut command = text[place.clone()].to_vec();
+    for _ in 0..random.between(2, 6) {
+        match random.percent(10) {
+            true => mutate_words(random, &mut command),
+            false => mutate_within_shape(random, &mut command),
+        }
+    }
+    replace(text, place, command);
+}
+
 /// Adds, removes or changes point numbers.
 fn mutate_points(random: &mut Random, points: &mut Vec<u64>) {
-    match random.below(6) {
+    match random.below(7) {
         0 => points.clear(),
         1 => points.push(random.number()),
         2 if !points.is_empty() => points.truncate(random.below(points.len())),
         3 if random.percent(20) => points.resize(1_025, 0),
         _ if points.is_empty() => points.push(0),
         _ => {
-            let index = random.below(points.len());
-            points[index] = match random.percent(50) {
-                true => random.number(),
-                false => points[index] + 1,
-            };
+            for _ in 0..random.between(1, 2) {
+                let index = random.below(points.len());
+                points[index] = other_number(random, points[index]);
+            }
         }
+    }
+}
+
+/// A number for a point in place of another one.
+fn other_number(random: &mut Random, number: u64) -> u64 {
+    match random.below(3) {
+        0 => random.number(),
+        1 => 1 << random.below(64),
+        _ => number.wrapping_add(1),
     }
 }
 
@@ -103,16 +189,34 @@ fn mutate_words(random: &mut Random, words: &mut Vec<String>) {
     if words.is_empty() {
         return;
     }
-    match random.below(12) {
+    match random.below(16) {
         0 => mutate_one_word(random, words),
         1 => mutate_command(random, words),
         2 => mutate_sort(random, words),
         3 => mutate_literal(random, words),
-        4 | 5 => mutate_name(random, words),
+        4 => mutate_name(random, words),
+        5 => rename_in_command(random, words),
         6 => mutate_count(random, words),
         7 => mutate_operator(random, words),
         8 | 9 => mutate_grammar(random, words),
+        10..=12 => mutate_term(random, words),
+        13 => mutate_numeral(random, words),
         _ => mutate_tree(random, words),
+    }
+}
+
+/// Changes a sort, a literal, a name, an operator, a count or a grammar.
+fn mutate_within_shape(random: &mut Random, words: &mut Vec<String>) {
+    match random.below(15) {
+        0..=2 => mutate_sort(random, words),
+        3 => mutate_literal(random, words),
+        4 | 5 => mutate_name(random, words),
+        6 => rename_in_command(random, words),
+        7 | 8 => mutate_operator(random, words),
+        9 => mutate_count(random, words),
+        10 => mutate_term(random, words),
+        11 => mutate_numeral(random, words),
+        _ => mutate_grammar(random, words),
     }
 }
 
@@ -148,25 +252,16 @@ fn trees(words: &[String]) -> Vec<Range<usize>> {
 
 /// The places of all commands: lists that stand in no list, or in the outer list of a response.
 fn commands(words: &[String]) -> Vec<Range<usize>> {
-    let heads = [
-        "set-logic",
-        "declare-var",
-        "define-fun",
-        "synth-fun",
-        "constraint",
-        "check-synth",
-    ];
     let begun = |tree: &Range<usize>| {
-        words
-            .get(tree.start + 1)
-            .is_some_and(|head| heads.contains(&head.as_str()))
+        let head = words.get(tree.start + 1);
+        head.is_some_and(|head| CARRIED_COMMANDS.contains(&head.as_str()))
     };
     let mut commands = trees(words);
     commands.retain(|tree| tree.len() > 1 && begun(tree));
     commands
 }
 
-/// Deletes, doubles, swaps or puts in a command.
+/// Deletes, doubles, swaps or puts in a command, changes its head, or deletes all commands like it.
 fn mutate_command(random: &mut Random, list: &mut Vec<String>) {
     let places = commands(list);
     if places.is_empty() {
@@ -174,11 +269,23 @@ fn mutate_command(random: &mut Random, list: &mut Vec<String>) {
     }
     let command = random.pick(&places);
     let other = random.pick(&places);
-    match random.below(5) {
+    match random.below(8) {
         0 => drop(list.drain(command)),
         1 => insert(list, other.end, list[command].to_vec()),
         2 => swap(list, command, other),
+        3 => list[command.start + 1] = reserved_word(random),
+        4 => drop_alike(list, &list[command.start + 1].clone()),
+        5 => insert(list, list.len(), words(random.pick(&COMMANDS))),
         _ => insert(list, other.end, words(random.pick(&COMMANDS))),
+    }
+}
+
+/// Deletes all commands with a head.
+fn drop_alike(list: &mut Vec<String>, head: &str) {
+    for command in commands(list).into_iter().rev() {
+        if list[command.start + 1] == head {
+            list.drain(command);
+        }
     }
 }
 
@@ -199,7 +306,7 @@ fn mutate_tree(random: &mut Random, list: &mut Vec<String>) {
             insert(list, tree.end, words(")"));
             insert(list, tree.start, words("("));
         }
-        _ => replace(list, tree, words(random.pick(&TREES))),
+        _ => replace(list, tree, odd_tree(random)),
     }
 }
 
@@ -251,6 +358,23 @@ fn mutate_literal(random: &mut Random, words: &mut [String]) {
         3 => literal(random, Sort::BitVec(8)),
         _ => literal(random, alike),
     };
+}
+
+/// Makes a numeral one more or one less, or another one.
+fn mutate_numeral(random: &mut Random, words: &mut [String]) {
+    let numeral = |at: &usize| words[*at].parse::<u32>().is_ok();
+    let places: Vec<usize> = (0..words.len()).filter(numeral).collect();
+    if places.is_empty() {
+        return;
+    }
+    let at = random.pick(&places);
+    let value: u32 = words[at].parse().expect("a numeral");
+    let value = match random.below(3) {
+        0 => value.saturating_add(1),
+        1 => value.saturating_sub(1),
+        _ => random.below(70) as u32,
+    };
+    words[at] = value.to_string();
 }
 
 /// Replaces an operator by another one, mostly with operands of the same number and sorts.
@@ -324,10 +448,61 @@ fn mutate_grammar(random: &mut Random, list: &mut Vec<String>) {
     }
 }
 
-/// Replaces a name by another one of the text or by a new one.
-fn mutate_name(random: &mut Random, words: &mut [String]) {
+/// The places of all words that may be names.
+fn names(words: &[String]) -> Vec<usize> {
     let is_name = |word: &String| word.starts_with(|byte: char| byte.is_ascii_alphabetic());
-    let places: Vec<usize> = (0..words.len()).filter(|&at| is_name(&words[at])).collect();
+    (0..words.len()).filter(|&at| is_name(&words[at])).collect()
+}
+
+/// The places of the names that commands declare.
+fn declared(words: &[String]) -> Vec<usize> {
+    let places = commands(words).into_iter().map(|one| one.start + 2);
+    places
+        .filter(|&at| words[at] != "(" && words[at] != ")")
+        .collect()
+}
+
+/// A name of the text and another one of it or a reserved word.
+fn renaming(random: &mut Random, words: &[String]) -> Option<(String, String)> {
+    let places = match random.percent(50) {
+        true => declared(words),
+        false => names(words),
+    };
+    if places.is_empty() {
+        return None;
+    }
+    let from = words[random.pick(&places)].clone();
+    let to = match random.percent(50) {
+        true => words[random.pick(&places)].clone(),
+        false => reserved_word(random),
+    };
+    Some((from, to))
+}
+
+/// Replaces a name wherever it stands.
+fn rename(words: &mut [String], from: &str, to: &str) {
+    for word in words {
+        if word == from {
+            *word = to.to_string();
+        }
+    }
+}
+
+/// Replaces a name wherever it stands in one command.
+fn rename_in_command(random: &mut Random, words: &mut [String]) {
+    let places = commands(words);
+    if places.is_empty() {
+        return;
+    }
+    let command = random.pick(&places);
+    if let Some((from, to)) = renaming(random, &words[command.clone()]) {
+        rename(&mut words[command], &from, &to);
+    }
+}
+
+/// Replaces a name at one place by another one of the text or by a new one.
+fn mutate_name(random: &mut Random, words: &mut [String]) {
+    let places = names(words);
     if places.is_empty() {
         return;
     }
@@ -336,6 +511,32 @@ fn mutate_name(random: &mut Random, words: &mut [String]) {
         true => words[random.pick(&places)].clone(),
         false => odd_word(random),
     };
+}
+
+/// Replaces a part of a constraint's or a body's term.
+fn mutate_term(random: &mut Random, list: &mut Vec<String>) {
+    let mut places = commands(list);
+    places.retain(|command| {
+        matches!(
+            list[command.start + 1].as_str(),
+            "constraint" | "define-fun"
+        )
+    });
+    if places.is_empty() {
+        return;
+    }
+    let Some(term) = items(list, &random.pick(&places)).pop() else {
+        return;
+    };
+    let mut parts = trees(&list[term.clone()]);
+    let part = parts.swap_remove(random.below(parts.len()));
+    let place = term.start + part.start..term.start + part.end;
+    let other = match random.below(4) {
+        0 => list[random.pick(&trees(list))].to_vec(),
+        1 => words(&odd_word(random)),
+        _ => odd_tree(random),
+    };
+    replace(list, place, other);
 }
 
 /// Repeats a tree up to about a limit, or buries it in negations.

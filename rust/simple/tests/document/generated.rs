@@ -1,6 +1,6 @@
 //! The random cases: the same for the same seed, sound ones sound, and every answer reached by mutations.
 
-use simple::generate::{mutated, valid, Case};
+use simple::generate::{crowded, mutated, noise, sized, valid, Case};
 use simple::{check, replay, AREA_LENGTH};
 
 /// The number of a case's answer, the area being judged as well.
@@ -15,11 +15,12 @@ fn number(case: &Case) -> u8 {
 
 #[test]
 fn a_seed_gives_one_case() {
-    for seed in 0..50 {
-        assert_eq!(valid(seed), valid(seed));
-        assert_eq!(mutated(seed), mutated(seed));
+    for make in [valid, mutated, crowded, sized, noise] {
+        for seed in 0..30 {
+            assert_eq!(make(seed), make(seed));
+        }
+        assert_ne!(make(1), make(2));
     }
-    assert_ne!(valid(1), valid(2));
 }
 
 #[test]
@@ -30,6 +31,18 @@ fn sound_cases_are_evaluated() {
     }
     assert_eq!(counts[0] + counts[14] + counts[15], 500);
     assert!(counts[0] > 250 && counts[14] > 0 && counts[15] > 0);
+}
+
+#[test]
+fn cases_about_limits_are_at_both_sides() {
+    let mut counts = [0; 17];
+    for seed in 0..500 {
+        counts[usize::from(number(&sized(seed)))] += 1;
+    }
+    assert!(
+        counts[0] > 50 && counts[1] > 0 && counts[4] > 100,
+        "{counts:?}"
+    );
 }
 
 #[test]

@@ -1,0 +1,147 @@
+//! What is measured: scripts of several sizes with responses that their grammars derive, and points.
+
+/// What a checker takes, the lent area and the budget apart.
+pub struct Input {
+    pub script: Vec<u8>,
+    pub response: Vec<u8>,
+    pub points: Vec<u64>,
+}
+
+/// The most blocks of a script: so many reach the limits of functions, `define-fun`s, constraints, words and bytes.
+pub const MOST_BLOCKS: usize = 8;
+/// The words of a block; the first one makes room for those of the script's frame.
+pub const BLOCK_WORDS: usize = 512;
+/// The bytes of a block.
+const BLOCK_BYTES: usize = 4_096;
+/// The most numbers of points.
+pub const MOST_POINTS: usize = 1_024;
+/// What begins a script of blocks.
+const BEGIN: &str = "(set-logic BV)\n(declare-var left_reading (_ BitVec 32))\n";
+/// What ends a script.
+const END: &str = "(check-synth)\n";
+/// The arguments of functions.
+const ARGUMENTS: &str = "((first_word (_ BitVec 32)) (second_word (_ BitVec 32))) (_ BitVec 32)";
+/// The operators of 32 bits and two operands.
+const OPERATORS: [&str; 10] = [
+    "bvadd", "bvsub", "bvand", "bvor", "bvxor", "bvmul", "bvudiv", "bvurem", "bvshl", "bvlshr",
+];
+
+/// A script of 1 to 2 KiB with variables and without points, so that nothing is evaluated.
+pub fn typical() -> Input {
+    Input {
+        script: include_bytes!("typical.sy").to_vec(),
+        response: include_bytes!("typical.response").to_vec(),
+        points: Vec::new(),
+    }
+}
+
+/// A script of so many blocks, with a variable and without points, so that nothing is evaluated.
+pub fn blocks(count: usize) -> Input {
+    let mut script = BEGIN.to_string();
+    let mut response = "(\n".to_string();
+    let frame = count_words(BEGIN) + count_words(END);
+    for index in 0..count {
+        let taken = if index == 0 { frame } else { 0 };
+        let ends = if index + 1 == count { END } else { "" };
+        let start = if index == 0 { 0 } else { script.len() };
+        script += &block(index, BLOCK_WORDS - taken);
+        let missing = (start + BLOCK_BYTES).saturating_sub(script.len() + ends.len() + 1);
+        script += &format!("{:;<missing$}\n{ends}", "");
+        response += &format!("(define-fun compute_{index} {ARGUMENTS}\n  {})\n", body(5));
+    }
+    response += ")\n";
+    Input {
+        script: script.into_bytes(),
+        response: response.into_bytes(),
+        points: Vec::new(),
+    }
+}
+
+/// So many parts, each made from its number, one after another.
+fn repeated(count: usize, part: impl Fn(usize) -> String) -> String {
+    (0..count).map(part).collect()
+}
+
+/// The number of words of a text without comments.
+fn count_words(text: &str) -> usize {
+    let apart = text.replace('(', " ( ").replace(')', " ) ");
+    apart.split_whitespace().count()
+}
+
+/// Four `define-fun`s, a `synth-fun` and eight constraints with so many words.
+fn block(index: usize, words: usize) -> String {
+    let definitions = repeated(4, |number| {
+        format!("(define-fun combine_{index}_{number} {ARGUMENTS}\n  (bvxor first_word (bvadd second_word #x0000000{number})))\n")
+    });
+    let constraints = repeated(8, |number| {
+        format!("(constraint (= (compute_{index} left_reading left_reading)\n  (bvadd left_reading #x0000000{number})))\n")
+    });
+    let missing = words - count_words(&definitions) - count_words(&constraints);
+    definitions + &function(index, missing) + &constraints
+}
+
+/// A `synth-fun` with so many words.
+fn function(index: usize, words: usize) -> String {
+    let begin = format!("(synth-fun compute_{index} {ARGUMENTS}\n  ((Word (_ BitVec 32)) (Condition Bool))\n  ((Word (_ BitVec 32) (");
+    let binary = OPERATORS.map(|name| format!("({name} Word Word)\n    "));
+    let calls = repeated(4, |number| {
+        format!("(combine_{index}_{number} Word Word)\n    ")
+    });
+    let rules =
+        "first_word second_word (ite Condition Word Word)\n    (bvnot Word) (bvneg Word)\n    ";
+    let end = "))\n   (Condition Bool ((= Word Word) (bvult Word Word) (and Condition Condition) (not Condition)))))\n";
+    let text = format!("{begin}{}{calls}{rules}", binary.concat());
+    let literals = words - count_words(&text) - count_words(end);
+    let literals = repeated(literals, |number| format!("#x{number:08X} "));
+    format!("{text}{literals}{end}")
+}
+
+/// A body that such a function's grammar derives, so many operators deep.
+fn body(depth: usize) -> String {
+    match depth {
+        0 => "first_word".to_string(),
+        _ => {
+            let operand = body(depth - 1);
+            let operator = OPERATORS[depth % OPERATORS.len()];
+            format!("({operator} {operand} {operand})")
+        }
+    }
+}
+
+/// A script with 64 constraints that hold everywhere, at so many points.
+pub fn constraints(points: usize) -> Input {
+    let sort = "(_ BitVec 32)";
+    let constraints = repeated(64, |number| {
+        format!("(constraint (= (f (bvadd x #x000000{number:02X})) (f (bvadd #x000000{number:02X} x))))\n")
+    });
+    let script = format!(
+        "(set-logic BV)\n(declare-var x {sort})
+(define-fun fold ((w {sort}) (by {sort})) {sort} (bvxor w (bvlshr w by)))
+(synth-fun f ((w {sort})) {sort} ((A {sort})) ((A {sort} (w (Constant {sort}) (fold A A) (bvmul A A) (bvand A A)))))
+{constraints}{END}"
+    );
+    let response = format!("((define-fun f ((w {sort})) {sort} (bvand (fold (bvmul w #x9E3779B1) #x00000010) #x0000FFFF)))");
+    let point = |number: u64| number.wrapping_mul(0x9E37_79B1) & 0xFFFF_FFFF;
+    Input {
+        script: script.into_bytes(),
+        response: response.into_bytes(),
+        points: (0..points as u64).map(point).collect(),
+    }
+}
+
+#[cfg(test)]
+mod tests {
+    use super::*;
+
+    #[test]
+    fn the_largest_script_is_as_large_as_may_be() {
+        let input = blocks(MOST_BLOCKS);
+        let text = String::from_utf8(input.script).expect("a text");
+        let lines = text.lines().map(|line| line.split(';').next());
+        let words = lines.map(|line| count_words(line.expect("a part")));
+        assert_eq!(words.sum::<usize>(), 4_096);
+        assert!((32_700..=32_768).contains(&text.len()), "{}", text.len());
+        assert!((4_000..=8_192).contains(&input.response.len()));
+        assert!((1_024..=2_048).contains(&typical().script.len()));
+    }
+}
