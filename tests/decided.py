@@ -58,10 +58,10 @@ for r in map(json.loads, open('tests/readings.jsonl')):
         if (s, p) in seen: continue
         seen.add((s, p)); cases.append((r['item'], s, p, number, w))
 
-MODULES = ['forest', 'spelling', 'words', 'bits', 'terms', 'grammar', 'reserved', 'lexemes', 'shapes', 'sorting', 'sorts', 'gathering', 'rules', 'naming', 'declaring',
+MODULES = ['forest', 'spelling', 'scanning', 'lookup', 'bits', 'terms', 'grammar', 'reserved', 'lexemes', 'shapes', 'carrying', 'sorting', 'sorts', 'gathering', 'rules', 'naming', 'declaring',
            'faults', 'heading', 'listing', 'headers', 'grammars', 'script', 'response']
 SKIP = {('terms', 'Costs'), ('terms', 'Values'), ('terms', 'Nodes'), ('lexemes', 'Table'), ('gathering', 'Table'), ('sorting', 'Tables'), ('naming', 'Table'),
-        ('words', 'Reading'), ('words', 'Table'), ('forest', 'Rows'), ('grammar', 'Derivation'), ('grammar', 'Tables'), ('grammar', 'Columns'),
+        ('scanning', 'Reading'), ('scanning', 'Table'), ('forest', 'Rows'), ('grammar', 'Derivation'), ('grammar', 'Tables'), ('grammar', 'Columns'),
         ('grammar', 'Answer'), ('script', 'Tables')}
 DROP = set('startTable first from size AllSorted FunctionsSorted sortsOf operatorValue enquired faultFrom sortColumn knownWords placeAmong wordNumber'.split())
 uses = {}; unfolded = []
@@ -71,7 +71,7 @@ for c in MODULES:
         if m == 'Steps' or (c, m) in SKIP: continue
         kept = []
         for x in re.findall(r'^unfoldable pub (\S+) :', open(f).read(), re.M):
-            if x in DROP: continue
+            if x in DROP or (c, x) == ('lookup', 'wordsIn'): continue
             if (c, m) == ('spelling', 'Kinds') and x in ('numeral', 'literal', 'symbol'):
                 kept.append('%s as %sKind' % (x, x)); unfolded.append(x + 'Kind')
             else:
@@ -79,7 +79,7 @@ for c in MODULES:
         if kept: uses['Rattle.%s.specs.%s' % (c, m)] = kept
 
 uses['Rattle.heading.specs.Heads'] = ['allowed']
-uses['Rattle.script.specs.Script'] += ['Known', 'Read', 'passed', 'refused', 'start']
+uses['Rattle.script.specs.Script'] += ['Known', 'Read', 'passed', 'refused', 'nothingKnown']
 uses['Rattle.response.specs.Response'] += ['Answered', 'bodies', 'refused as refusedBody']
 
 def imports(names):
@@ -118,7 +118,7 @@ bothAnswer reading (passed k) =
 
 -- What the definitions answer.
 abbrev defined : Reading → List ℕ
-defined reading = bothAnswer reading (readAll allowed (reading .scriptWords) start (itemsOf (spelling (reading .script))))
+defined reading = bothAnswer reading (readAll allowed (reading .scriptWords) nothingKnown (itemsOf (spelling (reading .script))))
 
 -- The readings.
 abbrev readings : List Reading

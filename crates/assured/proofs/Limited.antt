@@ -9,7 +9,7 @@ use lib.ListN.{length}
 use borrow.Author.Tests.{leb-true}
 use Rattle.forest.specs.Forest.{none, tree}
 use Rattle.bits.specs.Sorts.{maxWidth}
-use Rattle.words.specs.Trees.{Lexeme, wordOf}
+use Rattle.scanning.specs.Trees.{Lexeme, wordOf}
 use Rattle.lexemes.specs.Lists.{Items, inside, is, item}
 use Rattle.shapes.specs.Shapes.{isPattern}
 use Rattle.sorts.specs.Written.{groupPlace, leastIn, rulePlace, sortOf, sortPlace}
@@ -17,7 +17,7 @@ use Rattle.sorts.specs.declared.Fault.the-variants.{TooWide}
 use Rattle.gathering.specs.Terms.{pattern, rawRule, rawTerm}
 use Rattle.rules.specs.Rules.{Ruled, rulePast, rulesIn, rulesOf}
 use Rattle.grammar.specs.Derivation.{formOf}
-use Rattle.naming.specs.Scopes.{View, formOf as formIn}
+use Rattle.naming.specs.Scopes.{View, formsOf as formIn}
 use Rattle.script.proofs.Places.{Below, inside-below, item-below, sort-narrow}
 use Rattle.script.proofs.Terms.{terms-written}
 use Rattle.promises.proofs.Rules.{AllPlaced, also, no-rule, said}

@@ -12,10 +12,10 @@ use Rattle.forest.proofs.Options.{never}
 use Rattle.bits.specs.Operators.{operatorSort}
 use Rattle.terms.specs.Sorts.{Scope, labelSort, sortsOf}
 use Rattle.terms.proofs.Sorted.{sorted}
-use Rattle.words.specs.Trees.{Lexeme}
+use Rattle.scanning.specs.Trees.{Lexeme}
 use Rattle.lexemes.specs.Lists.{Items, is, item}
 use Rattle.gathering.specs.Terms.{Raw, constant, cut, firstWord, isNode, nodeWord, number, pattern, rawOf, rawTerm, rawTerms, word}
-use Rattle.naming.specs.Scopes.{View, formOf, itemOr, means}
+use Rattle.naming.specs.Scopes.{View, formsOf, itemOr, means}
 use Rattle.standing.proofs.Rising.{first-raw}
 use Rattle.script.specs.Script.{labelOf, termOf, termsIn}
 use Rattle.script.proofs.Places.{Below, WordsBelow}
@@ -52,16 +52,16 @@ module _ (view : View) (scope : Scope) where
 
   module _ {nowhere : ℕ} where
     -- Operands that are left out have no nodes.
-    operands-counted : (out : Bool) (F : Forest Raw) {ss : List ℕ} → (sortsOf scope (termsIn (formOf view F)) ≡ some ss → AllCounted nowhere (nodesOf F))
-        → sortsOf scope (termsIn (formOf view (cond out none F))) ≡ some ss → AllCounted nowhere (nodesOf (cond out none F))
+    operands-counted : (out : Bool) (F : Forest Raw) {ss : List ℕ} → (sortsOf scope (termsIn (formsOf view F)) ≡ some ss → AllCounted nowhere (nodesOf F))
+        → sortsOf scope (termsIn (formsOf view (cond out none F))) ≡ some ss → AllCounted nowhere (nodesOf (cond out none F))
     unfolding nodesOf
     operands-counted true F counted h = none-counted
     operands-counted false F counted h = counted h
 
     -- The nodes of items that have sorts as terms all count.
-    items-counted : (headed : Bool) (F : Items) {ss : List ℕ} → Below nowhere F → sortsOf scope (termsIn (formOf view (rawTerms headed F))) ≡ some ss
+    items-counted : (headed : Bool) (F : Items) {ss : List ℕ} → Below nowhere F → sortsOf scope (termsIn (formsOf view (rawTerms headed F))) ≡ some ss
         → AllCounted nowhere (nodesOf (rawTerms headed F))
-    unfolding Below formOf nodesOf rawTerms termsIn
+    unfolding Below formsOf nodesOf rawTerms termsIn
     items-counted headed none below h = none-counted
     items-counted true (tree l ops more) below h = items-counted false more (below .2) h
     items-counted false (tree l ops more) below h =

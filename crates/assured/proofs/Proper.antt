@@ -15,14 +15,14 @@ use Rattle.bits.specs.Operators.{operatorCount, operatorOf}
 use Rattle.bits.specs.Sorts.{maxWidth, valuesOf}
 use Rattle.terms.specs.Labels.{Label, defined, function, literal, name, operator}
 use Rattle.terms.specs.Nodes.{Plain}
-use Rattle.terms.specs.Sorts.{labelSort, sortOver, withSort}
+use Rattle.terms.specs.Sorts.{labelSort}
 use Rattle.terms.proofs.Parts.{parts}
 use Rattle.terms.proofs.Sorted.{joining}
 use Rattle.grammar.specs.Derivation.{Item, Proper, anyArgument, anyLiteral, nonTerminal, the}
 use Rattle.reserved.specs.Reserved.{isWord}
 use Rattle.sorting.specs.Forms.{FormScope, formSorts, itemSort}
 use Rattle.gathering.specs.Terms.{Raw, constant, cut, number, pattern, word}
-use Rattle.naming.specs.Scopes.{View, definedNames, formOf, functionNames, isNamed, itemOr, means, namesOf, symbolMeans}
+use Rattle.naming.specs.Scopes.{View, definedNames, formsOf, functionNames, isNamed, itemOr, means, namesOf, symbolMeans}
 use Rattle.script.proofs.Terms.{AllWritten, Written, also-written}
 
 -- The numbers of an item that its sort does not tell are small: j of `(_ extract i j)`, and σ of `(Constant σ)` and `(Variable σ)`.
@@ -76,8 +76,8 @@ module _ (view : View) where
   node-small (pattern at c s held) w = absurd w
 
   -- So have the forms that terms say.
-  pub terms-bounded : (F : Forest Raw) → AllWritten F → AllBounded (formOf view F)
-  unfolding formOf
+  pub terms-bounded : (F : Forest Raw) → AllWritten F → AllBounded (formsOf view F)
+  unfolding formsOf
   terms-bounded none w = none-bounded
   terms-bounded (tree r ops more) (also-written w o m) = also-bounded (node-small r w .bounded) (terms-bounded ops o) (terms-bounded more m)
 

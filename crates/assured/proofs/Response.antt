@@ -2,23 +2,20 @@
 use Prim.Native.Nat.{ℕ, _≤_, _<_, min}
 use native.Mathlib.Omega.{arith}
 use mathlib.Core.Bool.{Bool, true, false, cond, not, _&&_}
-use mathlib.Core.List.{List, [], _∷_, append-nil}
-use mathlib.Core.Path.{_≡_, refl, sym, subst}
+use mathlib.Core.List.{List, [], _∷_}
+use mathlib.Core.Path.{_≡_, refl, subst}
 use lib.Dec.{ltb}
 use borrow.Author.Tests.{ltb-false}
 use Rattle.forest.specs.Forest.{none, tree}
-use Rattle.words.specs.Reading.{readingOf}
-use Rattle.words.specs.Table.{wordTable}
-use Rattle.words.specs.Trees.{wordOf}
-use Rattle.words.specs.Words.{wordsOf}
+use Rattle.scanning.specs.Reading.{readingOf}
+use Rattle.scanning.specs.Trees.{wordOf}
 use Rattle.readings.specs.Limits.{responseLimits}
 use Rattle.readings.specs.declared.Reading.{Reading}
 use Rattle.readings.specs.declared.Reading.the-variants.{Whole, Refused}
 use Rattle.lexemes.specs.Lists.{Items, closeOf, inside, is, isList, item}
 use Rattle.lexemes.specs.Standing.{itemsOf}
-use Rattle.lexemes.specs.Table.{lexemeTable}
 use Rattle.lexemes.proofs.Wholes.{text-stands}
-use Rattle.shapes.specs.Carried.{anyUncarried}
+use Rattle.carrying.specs.Carried.{anyUncarried}
 use Rattle.shapes.specs.Shapes.{defineFunShape}
 use Rattle.naming.specs.Scopes.{Defined, Function}
 use Rattle.heading.specs.Heads.{allowed, headerPast}
@@ -29,8 +26,8 @@ use Rattle.script.specs.Naming.{termNames}
 use Rattle.script.specs.Script.{Known}
 use Rattle.script.proofs.Places.{Below, inside-below, item-below, stands-below}
 use Rattle.promises.proofs.Bodies.{body-sorted}
-use Rattle.response.specs.Response.{Answered, Body, answered, bodies, ending, inScriptOrder, isAlone, judgedAll, judgedBody, judgedExtra, refused, responseView}
-use Rattle.response.specs.Response.{withBody}
+use Rattle.response.specs.Response.{Answered, Body, answered, bodies, nothingBehind, inScriptOrder, isAlone, judgedAll, judgedBody, judgedExtra, refused}
+use Rattle.response.specs.Response.{responseView, withBody}
 use Rattle.response.specs.Steps.{bodyOf}
 use Rattle.texts.specs.Outcome.{ResponseOutcome, byAnswers, byResponse, given, responseOutcome}
 use Rattle.assured.specs.Assured.{BodiesFit}
@@ -57,7 +54,7 @@ followed b (refused number place) h = never-bodies number place h
 followed b (bodies others) h = (others, refl, cc)
 
 -- Behind the outer list nothing stands.
-nothing-behind : (items : Items) {bs : List Body} → ending items ≡ bodies bs → bs ≡ []
+nothing-behind : (items : Items) {bs : List Body} → nothingBehind items ≡ bodies bs → bs ≡ []
 nothing-behind none h = cc
 nothing-behind (tree l c more) h = never-bodies 5 (wordOf l) h
 
@@ -125,7 +122,7 @@ module _ (nowhere : ℕ) (defs : List Defined) where
       let some-answer = not-refused (is "fail" l && alone) 10 0 h in
       let feasible = not-refused (is "infeasible" l && alone) 11 0 (some-answer .1) in
       let listed = only-bodies (isList l) 5 (wordOf l) (feasible .1) in
-      judged-fit (closeOf l) fs c (ending more) bs (below .1) (λ cs e. nothing-behind more e) listed
+      judged-fit (closeOf l) fs c (nothingBehind more) bs (below .1) (λ cs e. nothing-behind more e) listed
 
 -- A refusal gives nothing.
 not-given : {A : Type 0} {number offset : ℕ} {bs : List Body} → ResponseOutcome.faulty number offset ≡ given bs → A
@@ -146,7 +143,6 @@ response-fits k text {bs} e = go (readingOf responseLimits text) refl e
         → BodiesFit (k .defined) (inScriptOrder (k .functions)) bs
     go (Refused fault place n) whole h = not-given h
     go (Whole n) whole h =
-        let stands = text-stands responseLimits text n whole (wordTable (wordsOf text)) (lexemeTable text (wordsOf text)) [] []
-        (sym (append-nil (wordTable (wordsOf text)))) (sym (append-nil (lexemeTable text (wordsOf text)))) in
+        let stands = text-stands responseLimits text n whole in
         let read = by-answers text (answered allowed n (k .defined) (inScriptOrder (k .functions)) (itemsOf text)) h in
         answered-fit n (k .defined) (inScriptOrder (k .functions)) (itemsOf text) bs (stands-below n stands (omega arith)) read

@@ -2,21 +2,20 @@
 use Prim.Native.Nat.{ℕ, _≤_, _<_}
 use native.Mathlib.Omega.{arith}
 use mathlib.Core.Bool.{Bool, true, false}
-use mathlib.Core.List.{List, [], _∷_, _++_}
+use mathlib.Core.List.{List, [], _∷_}
 use mathlib.Core.Path.{_≡_}
 use lib.ListN.{length, length-map}
 use Rattle.forest.specs.Forest.{count}
-use Rattle.bits.specs.Sorts.{maxWidth}
 use Rattle.grammar.specs.Derivation.{Admitted, formOf}
-use Rattle.lexemes.specs.Lists.{Items, inside, item}
+use Rattle.lexemes.specs.Lists.{Items, inside}
 use Rattle.rules.specs.Rules.{itemPast, rulePast, rulesIn}
-use Rattle.sorts.specs.Written.{grammarSorts, groupPlace, leastIn, pairPlace, sortPlace}
+use Rattle.sorts.specs.Written.{grammarSorts, groupPlace, leastIn, pairPlace}
 use Rattle.sorts.specs.declared.Fault.the-variants.{TooWide}
 use Rattle.naming.specs.Scopes.{Defined, Function, Named}
 use Rattle.heading.specs.Heads.{allowed, headerPast}
 use Rattle.grammars.specs.Grammars.{grammarPast}
 use Rattle.script.specs.Script.{Known, knownAfter, limitPlace, viewOf}
-use Rattle.script.proofs.Places.{Below, inside-below, item-below, sort-narrow}
+use Rattle.script.proofs.Places.{Below, inside-below}
 use Rattle.synthesizing.proofs.After.{named-long}
 use Rattle.synthesizing.proofs.Within.{items-few, past-neither, past-none}
 use Rattle.promises.specs.Sorted.{AllRulesSorted, RulesSorted, grammarScope}

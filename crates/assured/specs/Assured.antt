@@ -1,13 +1,13 @@
 -- What a script and a response that pass keep to, besides the sorts of rules, bodies and constraints.
-use Prim.Native.Nat.{ℕ, _≤_}
+use Prim.Native.Nat.{_≤_}
 use mathlib.Core.List.{List, [], _∷_}
 use mathlib.Core.Option.{some}
 use mathlib.Core.Path.{_≡_}
 use Rattle.forest.specs.Forest.{size}
 use Rattle.terms.specs.Sorts.{sortsOf as termSorts}
 use Rattle.grammar.specs.Derivation.{Admitted}
-use Rattle.meaning.specs.Steps.{SortsSmall}
-use Rattle.naming.specs.Scopes.{Defined, Function, sortsOf}
+use Rattle.running.specs.Steps.{SortsSmall}
+use Rattle.naming.specs.Scopes.{Defined, Function, namedSorts}
 use Rattle.faults.specs.Faults.{scopeOf}
 use Rattle.script.specs.Script.{Known}
 use Rattle.promises.specs.Sorted.{Sorted}
@@ -22,7 +22,7 @@ AllAdmitted (f ∷ others) = Admitted (f .grammar) × AllAdmitted others
 pub record Assured (k : Known) : Type 0 where
   pub sorted : Sorted k
   pub admitted : AllAdmitted (k .functions)
-  pub small : SortsSmall (sortsOf (k .variables))
+  pub small : SortsSmall (namedSorts (k .variables))
 
 -- A body for each function, in script order, of the function's sort, with at most 256 nodes.
 unfoldable pub BodiesFit : (defs : List Defined) → List Function → List Body → Type 0

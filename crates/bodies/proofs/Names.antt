@@ -15,19 +15,19 @@ use Rattle.naming.specs.declared.Seen.{Seen}
 use Rattle.bodies.specs.Steps.{Named, Naming}
 use Rattle.standing.proofs.Headed.{terms-headed}
 
-module _ {text words lexemes names raw nodes : List ℕ} {seen : Seen} {count base nowhere : ℕ} where
+module _ {text lexemes names raw nodes : List ℕ} {seen : Seen} {count base nowhere : ℕ} where
   -- the nodes of the term may be counted
-  pub term-counting : Naming text words lexemes names raw nodes seen count base nowhere → Counting raw count
+  pub term-counting : Naming text lexemes names raw nodes seen count base nowhere → Counting raw count
   term-counting p = record { F = rawTerm (p .label) (p .operands); rest = p .rest; is = p .raw-is; counted = p .counted }
 
   -- the term by itself
-  term-stands : (p : Naming text words lexemes names raw nodes seen count base nowhere)
-      → Stands (sourceOf text words lexemes) (p .i) (tree (p .label) (p .operands) none) (nextAt lexemes (p .i))
+  term-stands : (p : Naming text lexemes names raw nodes seen count base nowhere)
+      → Stands (sourceOf text lexemes) (p .i) (tree (p .label) (p .operands) none) (nextAt lexemes (p .i))
   term-stands p = by-itself refl (p .stands)
 
   module _ {rawAfter : List ℕ} (counted : (x : Counting raw count) → Counted x rawAfter) where
     -- its names may be looked up
-    pub term-resolving : Naming text words lexemes names raw nodes seen count base nowhere → Resolving names text words lexemes rawAfter nodes seen count base
+    pub term-resolving : Naming text lexemes names raw nodes seen count base nowhere → Resolving names text lexemes rawAfter nodes seen count base
     unfolding term-counting
     term-resolving p = record {
       F = rawTerm (p .label) (p .operands);
@@ -44,8 +44,8 @@ module _ {text words lexemes names raw nodes : List ℕ} {seen : Seen} {count ba
 
     -- and what is found is that of the term
     pub term-named : {nodesAfter : List ℕ} {r : ℕ}
-        → ((x : Resolving names text words lexemes rawAfter nodes seen count base) → Resolved x nowhere nodesAfter r)
-        → (p : Naming text words lexemes names raw nodes seen count base nowhere) → Named p rawAfter nodesAfter r
+        → ((x : Resolving names text lexemes rawAfter nodes seen count base) → Resolved x nowhere nodesAfter r)
+        → (p : Naming text lexemes names raw nodes seen count base nowhere) → Named p rawAfter nodesAfter r
     unfolding term-counting term-resolving
     term-named resolved p =
         let found = resolved (term-resolving p) in

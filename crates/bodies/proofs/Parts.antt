@@ -7,17 +7,17 @@ use lib.ListN.{drop, length, length-append, length-drop, take}
 use lib.Seq.{take-all}
 use Rattle.forest.specs.Forest.{nodesOf}
 use Rattle.forest.specs.Rows.{rows}
-use Rattle.words.specs.Trees.{Lexeme}
+use Rattle.scanning.specs.Trees.{Lexeme}
 use Rattle.grammar.specs.Tables.{formTable}
 use Rattle.lexemes.specs.Lists.{Items}
 use Rattle.gathering.specs.Terms.{rawTerm, rawTerms}
-use Rattle.naming.specs.Scopes.{View, formOf}
+use Rattle.naming.specs.Scopes.{View, formsOf}
 use Rattle.faults.specs.Steps.{BodyFound, BodySought}
 use Rattle.bodies.specs.Steps.{noSorts}
 
 -- a term has a form
-one-form : (view : View) (l : Lexeme) (ops : Items) → 0 < length (formTable (formOf view (rawTerm l ops)))
-unfolding formOf formTable nodesOf rawTerms rows
+one-form : (view : View) (l : Lexeme) (ops : Items) → 0 < length (formTable (formsOf view (rawTerm l ops)))
+unfolding formsOf formTable nodesOf rawTerms rows
 one-form view l ops = omega arith
 
 module _ (nodes : List ℕ) (base : ℕ) where
@@ -31,7 +31,7 @@ module _ (nodes : List ℕ) (base : ℕ) where
     part-starts p =
         let found = p .sought in
         let some = one-form (found .view) (p .label) (p .operands) in
-        let long = ap length (found .is-forms) ∙ length-append (formTable (formOf (found .view) (found .F))) (found .more) in
+        let long = ap length (found .is-forms) ∙ length-append (formTable (formsOf (found .view) (found .F))) (found .more) in
         omega (arith, length-drop (4 * base) nodes, rw (p .is) at long)
 
     module _ {column : List ℕ} (blank : column ≡ noSorts) where

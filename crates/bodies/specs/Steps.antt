@@ -6,7 +6,7 @@ use mathlib.Core.Path.{_≡_}
 use lib.ListN.{length, replicate}
 use lib.Seq.{sets}
 use Rattle.forest.specs.Forest.{nodesOf, size, tree}
-use Rattle.words.specs.Trees.{Lexeme}
+use Rattle.scanning.specs.Trees.{Lexeme}
 use Rattle.grammar.specs.Tables.{formTable}
 use Rattle.lexemes.specs.Lists.{Items}
 use Rattle.lexemes.specs.Standing.{Source, Stands}
@@ -14,7 +14,7 @@ use Rattle.lexemes.specs.Table.{nextAt}
 use Rattle.shapes.specs.Shapes.{termShape}
 use Rattle.gathering.specs.Table.{rawTable, uncountedTable}
 use Rattle.gathering.specs.Terms.{nodeWord, rawTerm}
-use Rattle.naming.specs.Scopes.{View, formOf}
+use Rattle.naming.specs.Scopes.{View, formsOf}
 use Rattle.naming.specs.Steps.{Sees, sourceOf}
 use Rattle.naming.specs.Unknown.{unknownIn}
 use Rattle.naming.specs.declared.Seen.{Seen}
@@ -43,15 +43,15 @@ pub record Limited {lexemes raw : List ℕ} {i : ℕ} (p : TermAt lexemes raw i)
   pub place-is : b .place ≡ nodeWord nowhere most (nodesOf (rawTerm (p .label) (p .operands)))
 
 -- The nodes of a term of a text are gathered, not counted yet; names are seen; and there is room for the forms from row `base` on.
-pub record Naming (text words lexemes names raw nodes : List ℕ) (seen : Seen) (count base nowhere : ℕ) : Type 0 where
+pub record Naming (text lexemes names raw nodes : List ℕ) (seen : Seen) (count base nowhere : ℕ) : Type 0 where
   pub i : ℕ
   pub end : ℕ
   pub label : Lexeme
   pub operands : Items
   pub more : Items
-  pub stands : Stands (sourceOf text words lexemes) i (tree label operands more) end
+  pub stands : Stands (sourceOf text lexemes) i (tree label operands more) end
   pub shaped : termShape label operands ≡ true
-  pub lawful : Lawful (sourceOf text words lexemes) nowhere
+  pub lawful : Lawful (sourceOf text lexemes) nowhere
   pub rest : List ℕ
   pub raw-is : raw ≡ uncountedTable (rawTerm label operands) ++ rest
   pub counted : count ≡ size (rawTerm label operands)
@@ -60,10 +60,10 @@ pub record Naming (text words lexemes names raw nodes : List ℕ) (seen : Seen) 
   pub room : 4 * (base + count) ≤ length nodes
 
 -- They are counted, the forms are written, and the least word with an unknown name is found.
-pub record Named {text words lexemes names raw nodes : List ℕ} {seen : Seen} {count base nowhere : ℕ}
-    (p : Naming text words lexemes names raw nodes seen count base nowhere) (rawAfter nodesAfter : List ℕ) (r : ℕ) : Type 0 where
+pub record Named {text lexemes names raw nodes : List ℕ} {seen : Seen} {count base nowhere : ℕ}
+    (p : Naming text lexemes names raw nodes seen count base nowhere) (rawAfter nodesAfter : List ℕ) (r : ℕ) : Type 0 where
   pub raw-is : rawAfter ≡ rawTable (rawTerm (p .label) (p .operands)) ++ p .rest
-  pub nodes-are : nodesAfter ≡ sets nodes (4 * base) (formTable (formOf (p .view) (rawTerm (p .label) (p .operands))))
+  pub nodes-are : nodesAfter ≡ sets nodes (4 * base) (formTable (formsOf (p .view) (rawTerm (p .label) (p .operands))))
   pub unknown-is : r ≡ unknownIn nowhere (p .view) (nodesOf (rawTerm (p .label) (p .operands)))
 
 -- The column of sorts before it is filled: "4,096 words".

@@ -26,7 +26,6 @@ pub fn body_limit(lexemes: &[u64], at: usize, raw: &mut [u64], most: usize, nowh
 // Counts the nodes that are gathered of a term and writes their forms into the rows from `base` on; returns the least word with a name that is not known.
 pub fn body_names(
     text: &[u8],
-    words: &[u32],
     lexemes: &[u64],
     names: &[u8],
     raw: &mut [u64],
@@ -36,22 +35,11 @@ pub fn body_names(
     base: usize,
     nowhere: usize,
 ) -> usize
-    requires { ⌜ Naming (now text) (now words) (now lexemes) (now names) (now raw) (now nodes) seen count base nowhere ⌝ }
-    ensures { λ r. ⌜ ((p : Naming (now (text .entry)) (now (words .entry)) (now (lexemes .entry)) (now (names .entry)) (now (raw .entry)) (now (nodes .entry)) seen count base nowhere) → Named p (now (raw .exit)) (now (nodes .exit)) r) ⌝ }
+    requires { ⌜ Naming (now text) (now lexemes) (now names) (now raw) (now nodes) seen count base nowhere ⌝ }
+    ensures { λ r. ⌜ ((p : Naming (now (text .entry)) (now (lexemes .entry)) (now (names .entry)) (now (raw .entry)) (now (nodes .entry)) seen count base nowhere) → Named p (now (raw .exit)) (now (nodes .exit)) r) ⌝ }
 {
     count_nodes(raw, count);
-    write_forms(
-        names,
-        seen,
-        text,
-        words,
-        lexemes,
-        raw,
-        count,
-        nodes,
-        base,
-        nowhere,
-    )
+    write_forms(names, seen, text, lexemes, raw, count, nodes, base, nowhere)
 }
 
 // The column of sorts before it is filled.

@@ -1,5 +1,1 @@
-pub mod Blanking
 pub mod Sizing
-pub mod Underived
-pub mod Judged
-pub mod Passing

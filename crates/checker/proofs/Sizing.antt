@@ -12,8 +12,9 @@ use Rattle.grammar.specs.Answer.{areaSize, unused}
 use Rattle.outcome.specs.Checked.{Checked, judged, missized, refusal, response-refused, script-refused, sizeAnswer, unshown}
 use Rattle.outcome.specs.Derived.{blankArea}
 use Rattle.outcome.specs.declared.Outcome.{Outcome}
-use Rattle.checker.specs.Steps.{Judging, SizesTold}
-use Rattle.checker.proofs.Blanking.{unshown-blank}
+use Rattle.outcome.proofs.Areas.{unshown-blank}
+use Rattle.judging.specs.Steps.{Judging}
+use Rattle.checker.specs.Steps.{SizesTold}
 
 -- where the script, the response and the points are short enough, the area's size is left to test
 area-left : (script response points area : List ℕ) → length script ≤ 32768 → length response ≤ 8192 → length points ≤ 1024

@@ -1,12 +1,10 @@
 //! The checker: a script, a response, a list of points and a budget, and one answer.
-mod area;
 pub mod exports;
-mod judging;
 mod sizes;
 
-use crate::area::blank_area;
-use crate::judging::judge_texts;
 use crate::sizes::size_answer;
+use judging::area::blank_area;
+use judging::verdicts::judge_texts;
 use outcome::Outcome;
 ghost use Rattle.outcome.specs.Checked.{Checked};
 

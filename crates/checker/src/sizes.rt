@@ -1,7 +1,7 @@
 //! The sizes of what is lent: answer 1.
+use judging::area::AREA;
 use outcome::Outcome;
-ghost use mathlib.Core.Path.{_≡_};
-ghost use Rattle.outcome.specs.Checked.{refusal};
+use outcome::refusal;
 ghost use Rattle.checker.specs.Steps.{SizesTold};
 
 // The number of an answer for what is too long, or not of its size.
@@ -15,22 +15,6 @@ const RESPONSE_BYTES: usize = 8192;
 
 // How many numbers a list of points may have.
 const POINT_NUMBERS: usize = 1024;
-
-// How many entries the area has.
-pub(crate) const AREA: usize = 32768;
-
-// An answer that names a text and a place.
-pub(crate) fn refusal(number: usize, text: usize, place: usize) -> Outcome
-    ensures { λ r. ⌜ r ≡ refusal number text place ⌝ }
-{
-    Outcome {
-        number,
-        text,
-        place,
-        second: 0,
-        units: 0,
-    }
-}
 
 // Answer 1 for the first of the script, the response, the points and the area that is too long or not of its size; number 0 where there is none.
 pub(crate) fn size_answer(script: &[u8], response: &[u8], points: &[u64], area: usize) -> Outcome

@@ -6,6 +6,7 @@ use mathlib.Core.Path.{_≡_, refl}
 use Rattle.forest.specs.Lists.{spelling}
 use Rattle.bits.specs.Operators.{named, operatorAt, operatorOf, operators, operatorSort}
 use Rattle.bits.specs.Sorts.{sortBy}
+use Rattle.carrying.specs.Carried.{anyUncarried, notCarried}
 use Rattle.declaring.specs.New.{namedBy, newPairs}
 use Rattle.faults.specs.Faults.{ruleMisfit, termFault}
 use Rattle.forest.specs.Forest.{count, join, nodesOf}
@@ -17,20 +18,20 @@ use Rattle.heading.specs.Heads.{allowed}
 use Rattle.lexemes.specs.Lists.{after, allNumerals, inside, item}
 use Rattle.lexemes.specs.Standing.{itemsOf}
 use Rattle.listing.specs.Listing.{listingMisfit}
-use Rattle.naming.specs.Scopes.{formOf, inOrder, isKnown, isNamed, placeIn, symbolMeans}
+use Rattle.lookup.specs.Search.{placeIn}
+use Rattle.naming.specs.Scopes.{formsOf, inOrder, isKnown, isNamed, symbolMeans}
 use Rattle.naming.specs.Unknown.{unknownIn}
 use Rattle.reserved.specs.Reserved.{isOneOf, isReserved, reservedWords}
 use Rattle.response.specs.Response.{Answered, answered, bodies, inScriptOrder, judgedAll, judgedBody, judgedExtra, refused as refusedBody}
 use Rattle.rules.specs.Rules.{nodesPast, rulePast, rulesIn, rulesOf, sides}
-use Rattle.script.specs.Script.{grammarPlace, judged, Known, knownAfter, limitPlace, namePlace, passed, Read, readAll, refused, sortingPlace, start, termsIn, tested}
-use Rattle.shapes.specs.Carried.{anyUncarried, notCarried}
+use Rattle.scanning.specs.Spans.{runEnd, startsFrom, wordEnd, wordStarts}
+use Rattle.scanning.specs.Trees.{levelsAt, levelsBefore, treesFrom}
+use Rattle.scanning.specs.Words.{bytesAt, wordAt, wordsOf}
+use Rattle.script.specs.Script.{grammarPlace, judged, Known, knownAfter, limitPlace, namePlace, nothingKnown, passed, Read, readAll, refused, sortingPlace, termsIn, tested}
 use Rattle.shapes.specs.Shapes.{all, commandShape, termShapes}
 use Rattle.sorts.specs.Written.{leastIn}
 use Rattle.spelling.specs.Kinds.{allIn, formed, hashed, kindOf, literal as literalKind, numeral as numeralKind, spelled, symbol as symbolKind}
 use Rattle.terms.specs.Sorts.{calledSort, labelSort, sameSorts, sortOver, withSort}
-use Rattle.words.specs.Spans.{runEnd, startsFrom, wordEnd, wordStarts}
-use Rattle.words.specs.Trees.{levelsAt, levelsBefore, treesFrom}
-use Rattle.words.specs.Words.{bytesAt, wordAt, wordsOf}
 
 -- A reading: a script of so many words, a response of so many, and the number and the word of the refusal; nothing where both pass.
 pub record Reading : Type 0 where
@@ -57,7 +58,7 @@ bothAnswer reading (passed k) =
 
 -- What the definitions answer.
 abbrev defined : Reading → List ℕ
-defined reading = bothAnswer reading (readAll allowed (reading .scriptWords) start (itemsOf (spelling (reading .script))))
+defined reading = bothAnswer reading (readAll allowed (reading .scriptWords) nothingKnown (itemsOf (spelling (reading .script))))
 
 -- The readings.
 abbrev readings : List Reading
@@ -408,5 +409,5 @@ readings =
 
 -- The definitions answer every one of them so.
 pub decided : map defined readings ≡ map (λ (r : Reading). r .answer) readings
-unfolding after all allIn allNumerals answered anyUncarried argumentTokens bytesAt calledSort cases commandShape count differing formOf formSorts formed grammarPlace hashed inOrder inScriptOrder inside isKnown isNamed isOneOf isReserved item itemSort itemsOf join judged judgedAll judgedBody judgedExtra kindOf knownAfter labelSort leastIn levelsAt levelsBefore limitPlace listingMisfit literalKind namePlace named namedBy newPairs nodeWord nodesOf nodesPast notCarried numeralKind operatorAt operatorOf operatorSort operators placeIn rawTerms readAll reservedWords ruleMisfit rulePast rulesIn rulesOf runEnd sameBytes sameSorts sides sortBy sortOver sortingPlace spelled startsFrom symbolKind symbolMeans termFault termShapes termsIn tested treesFrom unknownIn withSort wordAt wordEnd wordStarts wordsIn wordsOf
+unfolding after all allIn allNumerals answered anyUncarried argumentTokens bytesAt calledSort cases commandShape count differing formSorts formed formsOf grammarPlace hashed inOrder inScriptOrder inside isKnown isNamed isOneOf isReserved item itemSort itemsOf join judged judgedAll judgedBody judgedExtra kindOf knownAfter labelSort leastIn levelsAt levelsBefore limitPlace listingMisfit literalKind namePlace named namedBy newPairs nodeWord nodesOf nodesPast notCarried numeralKind operatorAt operatorOf operatorSort operators placeIn rawTerms readAll reservedWords ruleMisfit rulePast rulesIn rulesOf runEnd sameBytes sameSorts sides sortBy sortOver sortingPlace spelled startsFrom symbolKind symbolMeans termFault termShapes termsIn tested treesFrom unknownIn withSort wordAt wordEnd wordStarts wordsIn wordsOf
 decided = refl

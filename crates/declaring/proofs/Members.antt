@@ -9,9 +9,10 @@ use borrow.Author.Tests.{le-ltb, lt-ltb}
 use Rattle.forest.specs.Forest.{none, tree}
 use Rattle.forest.specs.Lists.{sameBytes}
 use Rattle.reserved.specs.Reserved.{isReserved}
-use Rattle.words.specs.Trees.{Lexeme, wordOf}
+use Rattle.scanning.specs.Trees.{Lexeme, wordOf}
 use Rattle.lexemes.specs.Lists.{Items, item, nameOf}
-use Rattle.naming.specs.Scopes.{isNamed, placeIn}
+use Rattle.lookup.specs.Search.{placeIn}
+use Rattle.naming.specs.Scopes.{isNamed}
 use Rattle.naming.specs.Table.{nameIn, namesFrom}
 use Rattle.declaring.specs.New.{newName, newPairs}
 

@@ -9,7 +9,7 @@ use lib.ListN.{length}
 use lib.Seq.{sets}
 use Rattle.forest.specs.Forest.{count}
 use Rattle.forest.proofs.Bools.{and-left, and-right}
-use Rattle.words.specs.Trees.{Lexeme}
+use Rattle.scanning.specs.Trees.{Lexeme}
 use Rattle.lexemes.specs.Lists.{Items, inside, isList, isSymbol, item, nameOf}
 use Rattle.lexemes.specs.Standing.{ItemAt}
 use Rattle.lexemes.proofs.Listed.{item-room, list-from}
@@ -30,12 +30,12 @@ name-symbol l ops e =
     let front = isList l && eqb (count ops) 2 in
     and-right front (isSymbol (item 0 ops)) (and-left (front && isSymbol (item 0 ops)) (sortShape (item 1 ops) (inside 1 ops)) e)
 
-module _ {text words lexemes names : List ℕ} {row i : ℕ} (p : PairAt text words lexemes names row i) where
+module _ {text lexemes names : List ℕ} {row i : ℕ} (p : PairAt text lexemes names row i) where
   -- an item of the shape of pairs stands there
   abbrev pub pair-here : ShapedAt pairShape lexemes i
   pair-here = record {
     here = record {
-      source = sourceOf text words lexemes;
+      source = sourceOf text lexemes;
       same = refl;
       label = p .label;
       operands = p .operands;
@@ -47,7 +47,7 @@ module _ {text words lexemes names : List ℕ} {row i : ℕ} (p : PairAt text wo
   }
 
   -- within the table of lexemes
-  pub pair-room : 3 * i < length lexemes
+  pub pair-room : 6 * i < length lexemes
   pair-room = item-room (pair-here .here)
 
   -- its name stands at the next word
@@ -58,7 +58,7 @@ module _ {text words lexemes names : List ℕ} {row i : ℕ} (p : PairAt text wo
       item-come list (come-first list) (omega (arith, s .long))
 
   -- it is a new name
-  abbrev pub name-here : {scope : Scope} → Few scope → {first n : ℕ} → first + n ≤ rowCount → NewName text words lexemes names scope first n (i + 1)
+  abbrev pub name-here : {scope : Scope} → Few scope → {first n : ℕ} → first + n ≤ rowCount → NewName text lexemes names scope first n (i + 1)
   name-here few fits = record {
     label = name-item .label;
     operands = name-item .operands;
@@ -71,7 +71,7 @@ module _ {text words lexemes names : List ℕ} {row i : ℕ} (p : PairAt text wo
     fits = fits;
   }
 
-  symbol-here : SymbolAt text words lexemes (i + 1) (item 0 (p .operands))
+  symbol-here : SymbolAt text lexemes (i + 1) (item 0 (p .operands))
   symbol-here = symbol-at (name-item .stands) (name-symbol (p .label) (p .operands) (p .shaped))
 
   -- the sort stands at the word behind it
@@ -82,7 +82,7 @@ module _ {text words lexemes names : List ℕ} {row i : ℕ} (p : PairAt text wo
   pub name-fits : length (nameOf (item 0 (p .operands))) ≤ longest
   name-fits = rw (← symbol-here .spelled) (p .short (i + 1) (omega (arith, symbol-here .coded)))
 
-  module _ {bytes : List ℕ} (eb : bytes ≡ bytesAt text words (i + 1)) where
+  module _ {bytes : List ℕ} (eb : bytes ≡ bytesAt text lexemes (i + 1)) where
     bytes-are : bytes ≡ nameOf (item 0 (p .operands))
     bytes-are = eb ∙ symbol-here .spelled
 
@@ -95,6 +95,6 @@ module _ {text words lexemes names : List ℕ} {row i : ℕ} (p : PairAt text wo
     sort-small = omega (arith, es sort-here, p .narrow)
 
     -- name and sort are put into the row
-    pub pair-put : {bytes : List ℕ} → bytes ≡ bytesAt text words (i + 1) → {after : List ℕ} → after ≡ sets names (66 * row) (nameRow sort bytes)
+    pub pair-put : {bytes : List ℕ} → bytes ≡ bytesAt text lexemes (i + 1) → {after : List ℕ} → after ≡ sets names (66 * row) (nameRow sort bytes)
         → PairPut p after
     pair-put eb e = e ∙ ap (sets names (66 * row)) (ap₂ nameRow (es sort-here) (bytes-are eb))

@@ -13,13 +13,14 @@ use Rattle.forest.specs.Lists.{sameBytes}
 use Rattle.forest.proofs.Bools.{apart}
 use Rattle.bits.specs.Operators.{Operator, operators}
 use Rattle.reserved.specs.Reserved.{carriedCommands, isOneOf, isReserved, isWord, knownWords, otherCommands, otherWords, placeAmong, reservedWords, wordNumber}
-use Rattle.words.specs.Trees.{Lexeme, list, literal, numeral, symbol, wordOf}
+use Rattle.scanning.specs.Trees.{Lexeme, list, literal, numeral, symbol, wordOf}
 use Rattle.lexemes.specs.Lists.{Items, isSymbol, item, nameOf}
 use Rattle.lexemes.specs.Standing.{Stands, WordIs}
 use Rattle.lexemes.specs.Table.{codeAt, symbolCode}
 use Rattle.lexemes.proofs.ByCode.{codeFor, front-range}
 use Rattle.sorts.proofs.Walked.{placed, symbol-word, word-is}
-use Rattle.naming.specs.Scopes.{isNamed, placeIn}
+use Rattle.lookup.specs.Search.{placeIn}
+use Rattle.naming.specs.Scopes.{isNamed}
 use Rattle.naming.specs.Steps.{bytesAt, sourceOf}
 use Rattle.naming.specs.Table.{definedRow, functionRow, namesFrom, variableRow}
 use Rattle.declaring.specs.Steps.{NameTested, NewName, namesIn}
@@ -59,16 +60,16 @@ reserved-code name =
     ∙ two-ranges (symbolCode name)
 
 -- The symbol at a word: its code, its bytes and its place.
-pub record SymbolAt (text words lexemes : List ℕ) (i : ℕ) (l : Lexeme) : Type 0 where
+pub record SymbolAt (text lexemes : List ℕ) (i : ℕ) (l : Lexeme) : Type 0 where
   pub coded : codeAt lexemes i ≡ symbolCode (nameOf l)
-  pub spelled : bytesAt text words i ≡ nameOf l
+  pub spelled : bytesAt text lexemes i ≡ nameOf l
   pub is-placed : wordOf l ≡ i
 
-pub symbol-at : {text words lexemes : List ℕ} {i e : ℕ} {l : Lexeme} {ops more : Items} → Stands (sourceOf text words lexemes) i (tree l ops more) e
-    → isSymbol l ≡ true → SymbolAt text words lexemes i l
-symbol-at {text} {words} {lexemes} {i} {l = l} stands s = go l s (word-is stands (symbol-word l s))
+pub symbol-at : {text lexemes : List ℕ} {i e : ℕ} {l : Lexeme} {ops more : Items} → Stands (sourceOf text lexemes) i (tree l ops more) e
+    → isSymbol l ≡ true → SymbolAt text lexemes i l
+symbol-at {text} {lexemes} {i} {l = l} stands s = go l s (word-is stands (symbol-word l s))
   where
-    go : (l : Lexeme) → isSymbol l ≡ true → WordIs (sourceOf text words lexemes) i l → SymbolAt text words lexemes i l
+    go : (l : Lexeme) → isSymbol l ≡ true → WordIs (sourceOf text lexemes) i l → SymbolAt text lexemes i l
     go (symbol at name) s w = record { coded = w .coded; spelled = w .written refl; is-placed = w .placed }
     go (list at close) s w = apart s
     go (numeral at v) s w = apart s
@@ -93,11 +94,11 @@ in-scope names scope word ea ev ed ef =
     let f = namesFrom names functionRow (scope .functions) in
     sym (named-both (a ++ v ++ d) f word ∙ rw (named-both (a ++ v) d word, named-both a v word) (rw (ea, ev, ed, ef)))
 
-module _ {text words lexemes names : List ℕ} {scope : Scope} {row count i : ℕ} {code : ℕ} (ec : code ≡ codeAt lexemes i)
-    {bytes : List ℕ} (eb : bytes ≡ bytesAt text words i)
+module _ {text lexemes names : List ℕ} {scope : Scope} {row count i : ℕ} {code : ℕ} (ec : code ≡ codeAt lexemes i)
+    {bytes : List ℕ} (eb : bytes ≡ bytesAt text lexemes i)
     {a : Bool} (ea : a ≡ isNamed (namesFrom names row count) bytes) {b : Bool} (es : b ≡ isNamed (namesIn names scope) bytes) where
   -- the test is that of the definition
-  name-test : (p : NewName text words lexemes names scope row count i) (nowhere : ℕ) {t : Bool} → leb 8 code && ltb code 70 || (a || b) ≡ t
+  name-test : (p : NewName text lexemes names scope row count i) (nowhere : ℕ) {t : Bool} → leb 8 code && ltb code 70 || (a || b) ≡ t
       → NameTested p nowhere (cond t i nowhere)
   name-test p nowhere {t} e =
       let s = symbol-at (p .stands) (p .a-symbol) in
@@ -109,11 +110,11 @@ module _ {text words lexemes names : List ℕ} {scope : Scope} {row count i : �
       rw (told, scope-test, e, s .is-placed)
 
   -- the name is reserved or taken
-  pub name-at-fault : leb 8 code && ltb code 70 || (a || b) ≡ true → (nowhere : ℕ) (p : NewName text words lexemes names scope row count i)
+  pub name-at-fault : leb 8 code && ltb code 70 || (a || b) ≡ true → (nowhere : ℕ) (p : NewName text lexemes names scope row count i)
       → NameTested p nowhere i
   name-at-fault e nowhere p = name-test p nowhere e
 
   -- it is neither
-  pub name-right : leb 8 code && ltb code 70 || (a || b) ≡ false → (nowhere : ℕ) (p : NewName text words lexemes names scope row count i)
+  pub name-right : leb 8 code && ltb code 70 || (a || b) ≡ false → (nowhere : ℕ) (p : NewName text lexemes names scope row count i)
       → NameTested p nowhere nowhere
   name-right e nowhere p = name-test p nowhere e

@@ -13,7 +13,7 @@ use Rattle.lexemes.specs.Table.{nextAt}
 use Rattle.lexemes.proofs.Along.{Along, along-end, along-here, along-start, along-turn, item-of}
 use Rattle.shapes.specs.Shapes.{all, pairShape}
 use Rattle.sorts.specs.Written.{sortOf}
-use Rattle.naming.specs.Scopes.{namesOf, sortsOf}
+use Rattle.naming.specs.Scopes.{namesOf, namedSorts}
 use Rattle.naming.specs.Steps.{Kept, Names, sourceOf}
 use Rattle.naming.specs.Table.{definedRow, functionRow, namesFrom, sortsFrom, variableRow}
 use Rattle.naming.proofs.Putting.{Put, kept-more, kept-none, last-row, put-row}
@@ -30,13 +30,13 @@ unfolding namesFrom
 behind-kept first zero kept apart = refl
 behind-kept first (suc m) kept apart = kept .names-behind first (suc m) (omega (arith, apart 0 (omega arith)))
 
-module _ {text words lexemes names₀ : List ℕ} {scope : Scope} {row first close : ℕ} where
+module _ {text lexemes names₀ : List ℕ} {scope : Scope} {row first close : ℕ} where
   -- where the pairs stand
-  abbrev pub pairs-between : NewPairs text words lexemes names₀ scope row first close → Between lexemes first close
-  pairs-between p = record { source = sourceOf text words lexemes; same = refl; items = p .items; stands = p .stands }
+  abbrev pub pairs-between : NewPairs text lexemes names₀ scope row first close → Between lexemes first close
+  pairs-between p = record { source = sourceOf text lexemes; same = refl; items = p .items; stands = p .stands }
 
   -- the names in scope are kept
-  scope-kept : (p : NewPairs text words lexemes names₀ scope row first close) {done : ℕ} {names : List ℕ} → Kept names₀ row done names
+  scope-kept : (p : NewPairs text lexemes names₀ scope row first close) {done : ℕ} {names : List ℕ} → Kept names₀ row done names
       → done ≤ count (p .items) → namesIn names scope ≡ namesIn names₀ scope
   scope-kept p kept h =
       let l = p .low in
@@ -52,7 +52,7 @@ module _ {text words lexemes names₀ : List ℕ} {scope : Scope} {row first clo
       (kept .names-before functionRow (scope .functions) (omega arith))
 
   -- So many pairs are put into their rows, their least place at fault is found, and others are left.
-  pub record PairsLeft (nowhere : ℕ) (names : List ℕ) (place done : ℕ) (p : NewPairs text words lexemes names₀ scope row first close) (left : Items)
+  pub record PairsLeft (nowhere : ℕ) (names : List ℕ) (place done : ℕ) (p : NewPairs text lexemes names₀ scope row first close) (left : Items)
       : Type 0 where
     pub shaped : all pairShape left ≡ true
     pub narrow : AllNarrow left
@@ -62,17 +62,17 @@ module _ {text words lexemes names₀ : List ℕ} {scope : Scope} {row first clo
     pub table : Names names
     pub kept : Kept names₀ row done names
     pub names-are : namesFrom names row done ++ namesOf (namedBy left) ≡ namesOf (namedBy (p .items))
-    pub sorts-are : sortsFrom names row done ++ sortsOf (namedBy left) ≡ sortsOf (namedBy (p .items))
+    pub sorts-are : sortsFrom names row done ++ namedSorts (namedBy left) ≡ namedSorts (namedBy (p .items))
 
 -- Of the pairs from one word to another the loop has come to word `at`.
-abbrev pub Going : (text words lexemes names₀ : List ℕ) (scope : Scope) (row first close nowhere : ℕ) (names : List ℕ) (place at done : ℕ) → Type 0
-Going text words lexemes names₀ scope row first close nowhere names place at done =
-    Along (λ (p : NewPairs text words lexemes names₀ scope row first close). pairs-between p) at (PairsLeft nowhere names place done)
+abbrev pub Going : (text lexemes names₀ : List ℕ) (scope : Scope) (row first close nowhere : ℕ) (names : List ℕ) (place at done : ℕ) → Type 0
+Going text lexemes names₀ scope row first close nowhere names place at done =
+    Along (λ (p : NewPairs text lexemes names₀ scope row first close). pairs-between p) at (PairsLeft nowhere names place done)
 
-module _ {text words lexemes names₀ : List ℕ} {scope : Scope} {row first close nowhere : ℕ} where
+module _ {text lexemes names₀ : List ℕ} {scope : Scope} {row first close nowhere : ℕ} where
   -- before the first pair
-  pub go-start : NewPairs text words lexemes names₀ scope row first close
-      → Going text words lexemes names₀ scope row first close nowhere names₀ nowhere first 0
+  pub go-start : NewPairs text lexemes names₀ scope row first close
+      → Going text lexemes names₀ scope row first close nowhere names₀ nowhere first 0
   unfolding namesFrom sortsFrom
   go-start given = along-start (λ p. pairs-between p) given (λ p. record {
     shaped = p .shaped;
@@ -88,8 +88,8 @@ module _ {text words lexemes names₀ : List ℕ} {scope : Scope} {row first clo
 
   module _ {names : List ℕ} {place done : ℕ} where
     -- a pair that is left, where it stands
-    module _ (p : NewPairs text words lexemes names₀ scope row first close) {at : ℕ} (x : ItemAt lexemes at)
-        (source : x .source ≡ sourceOf text words lexemes)
+    module _ (p : NewPairs text lexemes names₀ scope row first close) {at : ℕ} (x : ItemAt lexemes at)
+        (source : x .source ≡ sourceOf text lexemes)
         (k : PairsLeft nowhere names place done p (tree (x .label) (x .operands) (x .more))) where
       -- there is a row for it
       pub pair-fits : row + done < 144
@@ -105,7 +105,7 @@ module _ {text words lexemes names₀ : List ℕ} {scope : Scope} {row first clo
       pair-narrow = k .narrow .0
 
       -- it stands there
-      abbrev pub pair-left : PairAt text words lexemes names (row + done) at
+      abbrev pub pair-left : PairAt text lexemes names (row + done) at
       pair-left = record {
         label = x .label;
         operands = x .operands;
@@ -120,12 +120,12 @@ module _ {text words lexemes names₀ : List ℕ} {scope : Scope} {row first clo
       }
 
       -- and so does its name
-      abbrev pub name-left : NewName text words lexemes names scope row done (at + 1)
+      abbrev pub name-left : NewName text lexemes names scope row done (at + 1)
       name-left = name-here pair-left (p .few) (omega (arith, pair-fits))
 
       -- its name is tested, and it is put into its row
-      module _ {tested : ℕ} (known : (q : NewName text words lexemes names scope row done (at + 1)) → NameTested q nowhere tested)
-          {after : List ℕ} (put : (q : PairAt text words lexemes names (row + done) at) → PairPut q after) where
+      module _ {tested : ℕ} (known : (q : NewName text lexemes names scope row done (at + 1)) → NameTested q nowhere tested)
+          {after : List ℕ} (put : (q : PairAt text lexemes names (row + done) at) → PairPut q after) where
         -- its row
         row-put : Put names (row + done) (sortOf (item 1 (x .operands)) (inside 1 (x .operands))) (nameOf (item 0 (x .operands))) after
         row-put =
@@ -176,9 +176,9 @@ module _ {text words lexemes names₀ : List ℕ} {scope : Scope} {row first clo
           sorts-are = rw sorts-put (append-assoc (sortsFrom names row done) _ _ ∙ k .sorts-are);
         }
 
-    module _ {at : ℕ} (s : Going text words lexemes names₀ scope row first close nowhere names place at done) where
+    module _ {at : ℕ} (s : Going text lexemes names₀ scope row first close nowhere names place at done) where
       -- all pairs are put
-      pub go-end : close ≤ at → (p : NewPairs text words lexemes names₀ scope row first close) → PairsNamed p nowhere names place
+      pub go-end : close ≤ at → (p : NewPairs text lexemes names₀ scope row first close) → PairsNamed p nowhere names place
       unfolding count namedBy newPairs
       go-end h p =
           let k = along-end s h p in
@@ -201,17 +201,17 @@ module _ {text words lexemes names₀ : List ℕ} {scope : Scope} {row first clo
         go-room = pair-fits (s .given) (item-of s h (s .given)) refl (along-here s h (s .given))
 
         -- the name of the next pair
-        pub go-name : NewName text words lexemes names scope row done (at + 1)
+        pub go-name : NewName text lexemes names scope row done (at + 1)
         go-name = name-left (s .given) (item-of s h (s .given)) refl (along-here s h (s .given))
 
         -- the next pair
-        pub go-pair : PairAt text words lexemes names (row + done) at
+        pub go-pair : PairAt text lexemes names (row + done) at
         go-pair = pair-left (s .given) (item-of s h (s .given)) refl (along-here s h (s .given))
 
         -- a turn
-        pub go-turn : {tested : ℕ} → ((q : NewName text words lexemes names scope row done (at + 1)) → NameTested q nowhere tested)
+        pub go-turn : {tested : ℕ} → ((q : NewName text lexemes names scope row done (at + 1)) → NameTested q nowhere tested)
             → {lesser : ℕ} → lesser ≡ min place tested
-            → {after : List ℕ} → ((q : PairAt text words lexemes names (row + done) at) → PairPut q after)
+            → {after : List ℕ} → ((q : PairAt text lexemes names (row + done) at) → PairPut q after)
             → {next : ℕ} → next ≡ nextAt lexemes at
-            → Going text words lexemes names₀ scope row first close nowhere after lesser next (done + 1)
+            → Going text lexemes names₀ scope row first close nowhere after lesser next (done + 1)
         go-turn known e put n = along-turn s h n (λ p x source k. pairs-put p x source k known put e)

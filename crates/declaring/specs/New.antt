@@ -3,7 +3,7 @@ use Prim.Native.Nat.{ℕ, min}
 use mathlib.Core.Bool.{cond}
 use mathlib.Core.List.{List, [], _∷_}
 use Rattle.forest.specs.Forest.{none, tree}
-use Rattle.words.specs.Trees.{Lexeme, wordOf}
+use Rattle.scanning.specs.Trees.{Lexeme, wordOf}
 use Rattle.lexemes.specs.Lists.{Items, inside, item, nameOf}
 use Rattle.naming.specs.Scopes.{Named, isTaken}
 use Rattle.sorts.specs.Written.{sortOf}

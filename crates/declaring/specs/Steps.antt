@@ -6,12 +6,12 @@ use mathlib.Core.Path.{_≡_}
 use lib.Seq.{sets}
 use Rattle.forest.specs.Forest.{count, none, tree}
 use Rattle.bits.specs.Sorts.{maxWidth}
-use Rattle.words.specs.Trees.{Lexeme}
+use Rattle.scanning.specs.Trees.{Lexeme}
 use Rattle.lexemes.specs.Lists.{Items, inside, isSymbol, item, nameOf}
 use Rattle.lexemes.specs.Standing.{Stands}
 use Rattle.shapes.specs.Shapes.{all, pairShape}
 use Rattle.sorts.specs.Written.{sortOf}
-use Rattle.naming.specs.Scopes.{namesOf, sortsOf}
+use Rattle.naming.specs.Scopes.{namesOf, namedSorts}
 use Rattle.naming.specs.Steps.{Kept, Names, ShortNames, sourceOf}
 use Rattle.naming.specs.Table.{definedRow, functionRow, nameRow, namesFrom, rowCount, rowWidth, sortsFrom, variableRow}
 use Rattle.declaring.specs.New.{namedBy, newName, newPairs}
@@ -33,19 +33,19 @@ namesIn names scope =
     ++ namesFrom names functionRow (scope .functions)
 
 -- A symbol stands at word i, and the table has the names in scope and n more from `row` on.
-pub record NewName (text words lexemes names : List ℕ) (scope : Scope) (row n i : ℕ) : Type 0 where
+pub record NewName (text lexemes names : List ℕ) (scope : Scope) (row n i : ℕ) : Type 0 where
   pub label : Lexeme
   pub operands : Items
   pub more : Items
   pub end : ℕ
-  pub stands : Stands (sourceOf text words lexemes) i (tree label operands more) end
+  pub stands : Stands (sourceOf text lexemes) i (tree label operands more) end
   pub a-symbol : isSymbol label ≡ true
   pub table : Names names
   pub few : Few scope
   pub fits : row + n ≤ rowCount
 
 -- The word at fault is found.
-abbrev pub NameTested : {text words lexemes names : List ℕ} {scope : Scope} {row n i : ℕ} → NewName text words lexemes names scope row n i
+abbrev pub NameTested : {text lexemes names : List ℕ} {scope : Scope} {row n i : ℕ} → NewName text lexemes names scope row n i
     → (nowhere r : ℕ) → Type 0
 NameTested {names = names} {scope = scope} {row = row} {n = n} p nowhere r = r ≡ newName nowhere (namesFrom names row n ++ namesIn names scope) (p .label)
 
@@ -56,12 +56,12 @@ AllNarrow (tree l ops more) = (sortOf (item 1 ops) (inside 1 ops) ≤ maxWidth) 
 
 -- Pairs stand from word i to before word e, the table has the names in scope, and behind and apart from these there is room for the names of the pairs from
 -- `row` on.
-pub record NewPairs (text words lexemes names : List ℕ) (scope : Scope) (row i e : ℕ) : Type 0 where
+pub record NewPairs (text lexemes names : List ℕ) (scope : Scope) (row i e : ℕ) : Type 0 where
   pub items : Items
-  pub stands : Stands (sourceOf text words lexemes) i items e
+  pub stands : Stands (sourceOf text lexemes) i items e
   pub shaped : all pairShape items ≡ true
   pub narrow : AllNarrow items
-  pub short : ShortNames (sourceOf text words lexemes)
+  pub short : ShortNames (sourceOf text lexemes)
   pub table : Names names
   pub few : Few scope
   pub low : functionRow + 8 ≤ row
@@ -69,28 +69,28 @@ pub record NewPairs (text words lexemes names : List ℕ) (scope : Scope) (row i
   pub fits : row + count items ≤ rowCount
 
 -- The least word at fault is found, and the names and sorts of the pairs stand in the rows from `row` on.
-pub record PairsNamed {text words lexemes names : List ℕ} {scope : Scope} {row i e : ℕ} (p : NewPairs text words lexemes names scope row i e) (nowhere : ℕ)
+pub record PairsNamed {text lexemes names : List ℕ} {scope : Scope} {row i e : ℕ} (p : NewPairs text lexemes names scope row i e) (nowhere : ℕ)
     (namesAfter : List ℕ) (r : ℕ) : Type 0 where
   pub place-is : r ≡ newPairs nowhere (namesIn names scope) (p .items)
   pub table : Names namesAfter
   pub names-are : namesFrom namesAfter row (count (p .items)) ≡ namesOf (namedBy (p .items))
-  pub sorts-are : sortsFrom namesAfter row (count (p .items)) ≡ sortsOf (namedBy (p .items))
+  pub sorts-are : sortsFrom namesAfter row (count (p .items)) ≡ namedSorts (namedBy (p .items))
   pub kept : Kept names row (count (p .items)) namesAfter
 
 -- A pair with a sort at most 64 wide stands at word i, and the table has the row.
-pub record PairAt (text words lexemes names : List ℕ) (row i : ℕ) : Type 0 where
+pub record PairAt (text lexemes names : List ℕ) (row i : ℕ) : Type 0 where
   pub label : Lexeme
   pub operands : Items
   pub more : Items
   pub end : ℕ
-  pub stands : Stands (sourceOf text words lexemes) i (tree label operands more) end
+  pub stands : Stands (sourceOf text lexemes) i (tree label operands more) end
   pub shaped : pairShape label operands ≡ true
   pub narrow : sortOf (item 1 operands) (inside 1 operands) ≤ maxWidth
-  pub short : ShortNames (sourceOf text words lexemes)
+  pub short : ShortNames (sourceOf text lexemes)
   pub table : Names names
   pub fits : row < rowCount
 
 -- The name and the sort of the pair are put into the row.
-abbrev pub PairPut : {text words lexemes names : List ℕ} {row i : ℕ} → PairAt text words lexemes names row i → (namesAfter : List ℕ) → Type 0
+abbrev pub PairPut : {text lexemes names : List ℕ} {row i : ℕ} → PairAt text lexemes names row i → (namesAfter : List ℕ) → Type 0
 PairPut {names = names} {row = row} p namesAfter =
     namesAfter ≡ sets names (rowWidth * row) (nameRow (sortOf (item 1 (p .operands)) (inside 1 (p .operands))) (nameOf (item 0 (p .operands))))

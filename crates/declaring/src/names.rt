@@ -43,7 +43,6 @@ fn is_in_scope(names: &[u8], scope: Scope, word: &[u8]) -> bool
 // The word of a new name where it is reserved or taken, by a name in scope or one of the `count` from a row on; `nowhere` where it is not.
 pub fn new_name(
     text: &[u8],
-    words: &[u32],
     lexemes: &[u64],
     names: &[u8],
     scope: Scope,
@@ -52,11 +51,11 @@ pub fn new_name(
     word: usize,
     nowhere: usize,
 ) -> usize
-    requires { ⌜ NewName (now text) (now words) (now lexemes) (now names) scope row count word ⌝ }
-    ensures { λ r. ⌜ ((p : NewName (now (text .entry)) (now (words .entry)) (now (lexemes .entry)) (now (names .entry)) scope row count word) → NameTested p nowhere r) ⌝ }
+    requires { ⌜ NewName (now text) (now lexemes) (now names) scope row count word ⌝ }
+    ensures { λ r. ⌜ ((p : NewName (now (text .entry)) (now (lexemes .entry)) (now (names .entry)) scope row count word) → NameTested p nowhere r) ⌝ }
 {
     let code = code_at(lexemes, word);
-    let bytes = bytes_at(text, words, word);
+    let bytes = bytes_at(text, lexemes, word);
     let reserved = (code >= SET_LOGIC) & (code < OTHER);
     let taken = is_named(names, row, count, bytes) | is_in_scope(names, scope, bytes);
     if reserved | taken {
@@ -66,18 +65,17 @@ pub fn new_name(
 }
 
 // Puts the name and the sort of the pair at a word into a row.
-fn put_pair(text: &[u8], words: &[u32], lexemes: &[u64], names: &mut [u8], row: usize, at: usize)
-    requires { ⌜ PairAt (now text) (now words) (now lexemes) (now names) row at ⌝ }
-    ensures { λ r. ⌜ ((p : PairAt (now (text .entry)) (now (words .entry)) (now (lexemes .entry)) (now (names .entry)) row at) → PairPut p (now (names .exit))) ⌝ }
+fn put_pair(text: &[u8], lexemes: &[u64], names: &mut [u8], row: usize, at: usize)
+    requires { ⌜ PairAt (now text) (now lexemes) (now names) row at ⌝ }
+    ensures { λ r. ⌜ ((p : PairAt (now (text .entry)) (now (lexemes .entry)) (now (names .entry)) row at) → PairPut p (now (names .exit))) ⌝ }
 {
     let sort = sort_of(lexemes, at + 2) as u8;
-    put_name(names, row, sort, bytes_at(text, words, at + 1));
+    put_name(names, row, sort, bytes_at(text, lexemes, at + 1));
 }
 
 // Puts the names and sorts of the pairs from a word to the bracket that closes their list into the rows from `row` on; returns the least word whose name is reserved or taken.
 pub fn new_pairs(
     text: &[u8],
-    words: &[u32],
     lexemes: &[u64],
     names: &mut [u8],
     scope: Scope,
@@ -86,26 +84,16 @@ pub fn new_pairs(
     close: usize,
     nowhere: usize,
 ) -> usize
-    requires { ⌜ NewPairs (now text) (now words) (now lexemes) (now names) scope row first close ⌝ }
-    ensures { λ r. ⌜ ((p : NewPairs (now (text .entry)) (now (words .entry)) (now (lexemes .entry)) (now (names .entry)) scope row first close) → PairsNamed p nowhere (now (names .exit)) r) ⌝ }
+    requires { ⌜ NewPairs (now text) (now lexemes) (now names) scope row first close ⌝ }
+    ensures { λ r. ⌜ ((p : NewPairs (now (text .entry)) (now (lexemes .entry)) (now (names .entry)) scope row first close) → PairsNamed p nowhere (now (names .exit)) r) ⌝ }
 {
     let mut place = nowhere;
     let mut at = first;
     let mut done = 0;
     while at < close {
-        let tested = new_name(
-            text,
-            words,
-            lexemes,
-            names,
-            scope,
-            row,
-            done,
-            at + 1,
-            nowhere,
-        );
+        let tested = new_name(text, lexemes, names, scope, row, done, at + 1, nowhere);
         place = least(place, tested);
-        put_pair(text, words, lexemes, names, row + done, at);
+        put_pair(text, lexemes, names, row + done, at);
         done += 1;
         at = next_at(lexemes, at);
     }

@@ -9,7 +9,7 @@ use lib.Seq.{sets}
 use Rattle.forest.specs.Forest.{count, size, tree}
 use Rattle.bits.specs.Sorts.{maxWidth}
 use Rattle.grammar.specs.Tables.{formTable}
-use Rattle.words.specs.Trees.{Lexeme, wordOf}
+use Rattle.scanning.specs.Trees.{Lexeme, wordOf}
 use Rattle.lexemes.specs.Lists.{Items, after, inside, isList, item}
 use Rattle.lexemes.specs.Standing.{ListAt, Source, Stands}
 use Rattle.lexemes.specs.Table.{nextAt}
@@ -20,7 +20,7 @@ use Rattle.sorts.proofs.Walked.{placed}
 use Rattle.gathering.specs.Table.{uncountedTable}
 use Rattle.gathering.specs.Terms.{rawTerm}
 use Rattle.gathering.proofs.Saying.{say-terms}
-use Rattle.naming.specs.Scopes.{View, formOf}
+use Rattle.naming.specs.Scopes.{View, formsOf}
 use Rattle.naming.specs.Steps.{Sees, sourceOf}
 use Rattle.naming.specs.declared.Seen.{Seen}
 use Rattle.faults.specs.Steps.{Lawful, Signed}
@@ -34,11 +34,11 @@ use Rattle.defining.specs.Steps.{Judging}
 use Rattle.defining.proofs.Judging.{item-ends}
 
 -- A term stands at word i of a lawful text of so many words, before word `close`.
-pub record BodyAt (text words lexemes : List ℕ) (i nowhere close : ℕ) (label : Lexeme) (operands : Items) : Type 0 where
+pub record BodyAt (text lexemes : List ℕ) (i nowhere close : ℕ) (label : Lexeme) (operands : Items) : Type 0 where
   pub more : Items
-  pub stands : Stands (sourceOf text words lexemes) i (tree label operands more) close
+  pub stands : Stands (sourceOf text lexemes) i (tree label operands more) close
   pub shaped : termShape label operands ≡ true
-  pub lawful : Lawful (sourceOf text words lexemes) nowhere
+  pub lawful : Lawful (sourceOf text lexemes) nowhere
   pub below : close ≤ nowhere
   pub few : nowhere ≤ 4096
 
@@ -52,15 +52,15 @@ pub item-stands : {s : Source} {j e : ℕ} (n : ℕ) (F : Items) → n < count F
     → Stands s j (tree (item n F) (inside n F) (after (suc n) F)) e
 item-stands {s} {j} {e} n F h stands = subst (λ (G : Items). Stands s j G e) (from-item n F h) stands
 
-module _ {text words lexemes : List ℕ} {i nowhere : ℕ} (x : CommandAt text words lexemes i nowhere) where
+module _ {text lexemes : List ℕ} {i nowhere : ℕ} (x : CommandAt text lexemes i nowhere) where
   -- The items behind a command's word stand from the next word on.
   pub behind-word : 0 < count (x .command) → isList (item 0 (x .command)) ≡ false
-      → Stands (sourceOf text words lexemes) (i + 2) (after 1 (x .command)) (x .close)
+      → Stands (sourceOf text lexemes) (i + 2) (after 1 (x .command)) (x .close)
   unfolding after
   behind-word some a-word =
       let list = here refl (x .stands) .a-list refl in
       let same : list .close ≡ x .close = cc (list .label) in
-      let items : Stands (sourceOf text words lexemes) (i + 1) (after 0 (x .command)) (x .close) = rw (← same) (list .stands) in
+      let items : Stands (sourceOf text lexemes) (i + 1) (after 0 (x .command)) (x .close) = rw (← same) (list .stands) in
       let next = here refl (item-stands 0 (x .command) some items) .a-word a-word in
       next-stands 0 (x .command) some items (omega (arith, next .0))
 
@@ -74,7 +74,7 @@ module _ {text words lexemes : List ℕ} {i nowhere : ℕ} (x : CommandAt text w
   -- A command is a list.
   abbrev pub listed : ListAt lexemes i
   listed = record {
-    source = sourceOf text words lexemes;
+    source = sourceOf text lexemes;
     same = refl;
     close = x .close;
     operands = x .command;
@@ -83,8 +83,8 @@ module _ {text words lexemes : List ℕ} {i nowhere : ℕ} (x : CommandAt text w
     stands = x .stands;
   }
 
-module _ {text words lexemes : List ℕ} {i nowhere close : ℕ} {label : Lexeme} {operands : Items}
-    (b : BodyAt text words lexemes i nowhere close label operands) where
+module _ {text lexemes : List ℕ} {i nowhere close : ℕ} {label : Lexeme} {operands : Items}
+    (b : BodyAt text lexemes i nowhere close label operands) where
   -- The term ends before that word.
   pub body-ends : nextAt lexemes i ≤ close
   body-ends = forward (here refl (b .stands) .rest)
@@ -96,7 +96,7 @@ module _ {text words lexemes : List ℕ} {i nowhere close : ℕ} {label : Lexeme
   -- Its nodes may be gathered.
   abbrev pub body-term : {raw : List ℕ} → 4 * nowhere ≤ length raw → TermAt lexemes raw i
   body-term room = record {
-    source = sourceOf text words lexemes;
+    source = sourceOf text lexemes;
     same = refl;
     label = label;
     operands = operands;
@@ -118,7 +118,7 @@ module _ {text words lexemes : List ℕ} {i nowhere close : ℕ} {label : Lexeme
       {base : ℕ} (fits : base + count ≤ close) (nodes : List ℕ) (nodes-room : 4 * nowhere ≤ length nodes) where
     -- Its names and its sort may be tested.
     abbrev pub body-judging : {names : List ℕ} {seen : Seen} {view : View} → Sees names seen view → {places : List ℕ} → Signed places view
-        → {sort : ℕ} → sort ≤ maxWidth → Judging text words lexemes names raw places nodes seen sort count base nowhere
+        → {sort : ℕ} → sort ≤ maxWidth → Judging text lexemes names raw places nodes seen sort count base nowhere
     body-judging {view = view} sees signed low = record {
       naming = record {
         i = i;
@@ -143,10 +143,10 @@ module _ {text words lexemes : List ℕ} {i nowhere close : ℕ} {label : Lexeme
 
     -- The forms that are written are the nodes of the term.
     pub body-grown : (view : View) → view .nonTerminals ≡ []
-        → {nodesAfter : List ℕ} → nodesAfter ≡ sets nodes (4 * base) (formTable (formOf view (rawTerm label operands)))
+        → {nodesAfter : List ℕ} → nodesAfter ≡ sets nodes (4 * base) (formTable (formsOf view (rawTerm label operands)))
         → Grown nodes base count (termOf view label operands) nodesAfter
     body-grown view closed e = record {
-      plain = term-plain view closed label operands (sourceOf text words lexemes) (b .lawful) (say-terms false (by-itself refl (b .stands)) (b .shaped));
+      plain = term-plain view closed label operands (sourceOf text lexemes) (b .lawful) (say-terms false (by-itself refl (b .stands)) (b .shaped));
       label = _;
       operands = _;
       single = term-tree view closed label operands;

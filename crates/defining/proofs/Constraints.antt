@@ -97,7 +97,7 @@ module _ (k : Known) {c : Items} (t : Chosen c 12) where
   unfolding knownAfter
   one-more = rw (t .constrains)
 
-module _ {text words lexemes : List ℕ} {p : Progress} {at nowhere : ℕ} (d : CommandOf "constraint" text words lexemes p at nowhere) where
+module _ {text lexemes : List ℕ} {p : Progress} {at nowhere : ℕ} (d : CommandOf "constraint" text lexemes p at nowhere) where
   -- It is the command of that word.
   is-constraint : Chosen (d .here .command) 12
   unfolding codeFor
@@ -116,7 +116,7 @@ module _ {text words lexemes : List ℕ} {p : Progress} {at nowhere : ℕ} (d : 
       parts (d .here .command) (rw (t .sets, t .declares, t .defines, t .synthesizes, t .constrains) at (d .shaped))
 
   -- Its term stands two words on.
-  pub term-here : BodyAt text words lexemes (at + 2) nowhere (d .here .close) (item 1 (d .here .command)) (inside 1 (d .here .command))
+  pub term-here : BodyAt text lexemes (at + 2) nowhere (d .here .close) (item 1 (d .here .command)) (inside 1 (d .here .command))
   term-here = record {
     more = after 2 (d .here .command);
     stands = item-stands 1 (d .here .command) (omega (arith, its-parts .two)) (behind-word (d .here) (omega (arith, its-parts .two)) no-list);
@@ -126,13 +126,13 @@ module _ {text words lexemes : List ℕ} {p : Progress} {at nowhere : ℕ} (d : 
     few = d .here .few;
   }
 
-module _ {text words lexemes names raw places nodes : List ℕ} {p : Progress} {at nowhere : ℕ} where
+module _ {text lexemes names raw places nodes : List ℕ} {p : Progress} {at nowhere : ℕ} where
   -- Its term is gathered.
-  abbrev pub term-at : Constraining text words lexemes names raw places nodes p at nowhere → TermAt lexemes raw (at + 2)
+  abbrev pub term-at : Constraining text lexemes names raw places nodes p at nowhere → TermAt lexemes raw (at + 2)
   term-at d = body-term (term-here (d .of)) (d .raw-room)
 
   -- The names that it sees.
-  pub constraint-sees : (d : Constraining text words lexemes names raw places nodes p at nowhere)
+  pub constraint-sees : (d : Constraining text lexemes names raw places nodes p at nowhere)
       → Sees names (constraintSeen p) (constraintView (d .of .known))
   unfolding namesFrom
   constraint-sees d =
@@ -152,7 +152,7 @@ module _ {text words lexemes names raw places nodes : List ℕ} {p : Progress} {
       }
 
   -- The signatures that it sees.
-  pub constraint-signed : (d : Constraining text words lexemes names raw places nodes p at nowhere) → Signed places (constraintView (d .of .known))
+  pub constraint-signed : (d : Constraining text lexemes names raw places nodes p at nowhere) → Signed places (constraintView (d .of .known))
   unfolding SortsAre
   constraint-signed d =
       let counted = d .of .counted in
@@ -169,14 +169,14 @@ module _ {text words lexemes names raw places nodes : List ℕ} {p : Progress} {
   module _ {rawAfter : List ℕ} {body : Body} (limited : (q : TermAt lexemes raw (at + 2)) → Limited q 256 nowhere rawAfter body)
       {one : ℕ} (eo : one ≡ commandPast nowhere 64 (p .constraints) at) {past : ℕ} (ep : past ≡ min one (body .place)) where
     -- The word past a limit.
-    past-is : (d : Constraining text words lexemes names raw places nodes p at nowhere)
+    past-is : (d : Constraining text lexemes names raw places nodes p at nowhere)
         → past ≡ limitPlace allowed nowhere (d .of .known) at (d .of .here .command)
     past-is d =
         let counted = ap (λ (n : ℕ). commandPast nowhere 64 n at) (d .of .counted .constraints-are) in
         ep ∙ ap₂ min (eo ∙ counted) (limited (term-at d) .place-is) ∙ sym (limit-is nowhere (d .of .known) at (is-constraint (d .of)))
 
     -- A limit is passed.
-    pub limit-refused : past < nowhere → (d : Constraining text words lexemes names raw places nodes p at nowhere)
+    pub limit-refused : past < nowhere → (d : Constraining text lexemes names raw places nodes p at nowhere)
         → Constrained d rawAfter places nodes (record { number = 4; place = past; rows = 0 })
     limit-refused h d = record {
       verdict-is = says-limit allowed nowhere (d .of .known) at (d .of .here .command) (After (d .of)) (record { number = 4; place = past; rows = 0 })
@@ -189,12 +189,12 @@ module _ {text words lexemes names raw places nodes : List ℕ} {p : Progress} {
     }
 
     -- Its nodes have rows before its last word.
-    pub rows-within : (d : Constraining text words lexemes names raw places nodes p at nowhere) → p .nodes + body .rows ≤ d .of .here .close
+    pub rows-within : (d : Constraining text lexemes names raw places nodes p at nowhere) → p .nodes + body .rows ≤ d .of .here .close
     rows-within d = body-within (term-here (d .of)) (d .raw-room) limited (omega (arith, d .within))
 
     -- Its names and its sort may be tested.
-    abbrev pub constraint-judging : (d : Constraining text words lexemes names raw places nodes p at nowhere)
-        → Judging text words lexemes names rawAfter places nodes
+    abbrev pub constraint-judging : (d : Constraining text lexemes names raw places nodes p at nowhere)
+        → Judging text lexemes names rawAfter places nodes
         (constraintSeen p) 0 (body .rows) (p .nodes) nowhere
     constraint-judging d =
         let gathered = limited (term-at d) in
@@ -202,19 +202,19 @@ module _ {text words lexemes names raw places nodes : List ℕ} {p : Progress} {
         (constraint-signed d) (omega arith)
 
     -- There are fewer constraints than there may be.
-    constraint-fits : nowhere ≤ past → Constraining text words lexemes names raw places nodes p at nowhere → p .constraints < 64
+    constraint-fits : nowhere ≤ past → Constraining text lexemes names raw places nodes p at nowhere → p .constraints < 64
     constraint-fits passed d = command-fits nowhere 64 (p .constraints) at (command-word (d .of .here)) (omega arith)
 
     -- There is a place for the row at which its term begins.
-    pub row-place : nowhere ≤ past → Constraining text words lexemes names raw places nodes p at nowhere → 600 + p .constraints < length places
+    pub row-place : nowhere ≤ past → Constraining text lexemes names raw places nodes p at nowhere → 600 + p .constraints < length places
     row-place passed d = omega (arith, constraint-fits passed d, d .places-hold .long)
 
     module _ (passed : nowhere ≤ past) {rawLast nodesAfter : List ℕ} {v : Verdict}
-        (judged : (q : Judging text words lexemes names rawAfter places nodes
+        (judged : (q : Judging text lexemes names rawAfter places nodes
         (constraintSeen p) 0 (body .rows) (p .nodes) nowhere)
         → Judged q nowhere nowhere rawLast nodesAfter v) where
       -- The verdict by the words at fault.
-      verdict-by : (d : Constraining text words lexemes names raw places nodes p at nowhere)
+      verdict-by : (d : Constraining text lexemes names raw places nodes p at nowhere)
           → v ≡ verdictOf nowhere (namePlace nowhere (d .of .known) (d .of .here .command)) (sortingPlace nowhere (d .of .known) (d .of .here .command))
           (body .rows)
       verdict-by d =
@@ -227,17 +227,17 @@ module _ {text words lexemes names raw places nodes : List ℕ} {p : Progress} {
           judged (constraint-judging d) .verdict-is ∙ ap₂ (λ (a b : ℕ). verdictOf nowhere a b (body .rows)) names sorts
 
       -- The verdict is that of its tests.
-      its-verdict : (d : Constraining text words lexemes names raw places nodes p at nowhere) → Tested (d .of) v
+      its-verdict : (d : Constraining text lexemes names raw places nodes p at nowhere) → Tested (d .of) v
       its-verdict d =
           body-says allowed nowhere (d .of .known) at (d .of .here .command) (After (d .of)) v (body .rows) (omega (arith, past-is d))
           (no-grammar nowhere (d .of .known) at (is-constraint (d .of))) (verdict-by d)
 
       -- The table of nodes is as long as it was.
-      nodes-kept : (d : Constraining text words lexemes names raw places nodes p at nowhere) → length nodesAfter ≡ length nodes
+      nodes-kept : (d : Constraining text lexemes names raw places nodes p at nowhere) → length nodesAfter ≡ length nodes
       nodes-kept d = ap length (judged (constraint-judging d) .nodes-are) ∙ simp length-sets
 
       -- A name or a sort is at fault.
-      pub term-refused : 0 < v .number → (d : Constraining text words lexemes names raw places nodes p at nowhere) → Constrained d rawLast places nodesAfter v
+      pub term-refused : 0 < v .number → (d : Constraining text lexemes names raw places nodes p at nowhere) → Constrained d rawLast places nodesAfter v
       term-refused h d = record {
         verdict-is = its-verdict d;
         places-hold = λ e. absurd (omega arith);
@@ -249,7 +249,7 @@ module _ {text words lexemes names raw places nodes : List ℕ} {p : Progress} {
 
       -- It passes, and where its term begins is put into the table of places.
       pub constraint-known : v .number ≤ 0 → {placesAfter : List ℕ} → placesAfter ≡ set places (600 + p .constraints) (p .nodes)
-          → (d : Constraining text words lexemes names raw places nodes p at nowhere) → Constrained d rawLast placesAfter nodesAfter v
+          → (d : Constraining text lexemes names raw places nodes p at nowhere) → Constrained d rawLast placesAfter nodesAfter v
       constraint-known h put d =
           let c = d .of .here .command in
           let k = d .of .known in

@@ -19,22 +19,22 @@ use Rattle.defining.specs.Steps.{Defined, Defining, Settled, Within}
 use Rattle.defining.proofs.Bodies.{body-term, body-within}
 use Rattle.defining.proofs.Definitions.{body-behind, body-here, header-here, is-definition, limit-is}
 
-module _ {text words lexemes names raw places nodes : List ℕ} {p : Progress} {at nowhere : ℕ} where
+module _ {text lexemes names raw places nodes : List ℕ} {p : Progress} {at nowhere : ℕ} where
   -- Its header.
-  abbrev pub its-header : Defining text words lexemes names raw places nodes p at nowhere → HeaderAt lexemes at
+  abbrev pub its-header : Defining text lexemes names raw places nodes p at nowhere → HeaderAt lexemes at
   its-header d = header-here (d .of)
 
   module _ {arguments : ℕ} (ea : arguments ≡ nextAt lexemes (at + 2)) {result : ℕ} (er : result ≡ nextAt lexemes arguments)
       {i : ℕ} (ei : i ≡ nextAt lexemes result) where
     -- Its body may be gathered.
-    abbrev pub body-at : Defining text words lexemes names raw places nodes p at nowhere → TermAt lexemes raw i
+    abbrev pub body-at : Defining text lexemes names raw places nodes p at nowhere → TermAt lexemes raw i
     body-at d = body-term (body-here (d .of) ea er ei) (d .raw-room)
 
     module _ {rawAfter : List ℕ} {body : Body} (gathered : (q : TermAt lexemes raw i) → Limited q 256 nowhere rawAfter body)
         {before : ℕ} (eb : before ≡ commandPast nowhere 32 (p .defined) at) {head : ℕ} (eh : (q : HeaderAt lexemes at) → HeadLimited q allowed nowhere head)
         {lesser : ℕ} (el : lesser ≡ min head (body .place)) {past : ℕ} (ep : past ≡ min before lesser) where
       -- The word past a limit.
-      pub past-is : (d : Defining text words lexemes names raw places nodes p at nowhere)
+      pub past-is : (d : Defining text lexemes names raw places nodes p at nowhere)
           → past ≡ limitPlace allowed nowhere (d .of .known) at (d .of .here .command)
       past-is d =
           let counted = ap (λ (n : ℕ). commandPast nowhere 32 n at) (d .of .counted .defined-are) in
@@ -42,7 +42,7 @@ module _ {text words lexemes names raw places nodes : List ℕ} {p : Progress} {
           ∙ sym (limit-is nowhere (d .of .known) at (is-definition (d .of)))
 
       -- A limit is passed.
-      pub limit-refused : past < nowhere → (d : Defining text words lexemes names raw places nodes p at nowhere)
+      pub limit-refused : past < nowhere → (d : Defining text lexemes names raw places nodes p at nowhere)
           → Defined d names rawAfter places nodes (record { number = 4; place = past; rows = 0 })
       limit-refused h d = record {
         verdict-is = says-limit allowed nowhere (d .of .known) at (d .of .here .command) (After (d .of)) (record { number = 4; place = past; rows = 0 })
@@ -57,8 +57,8 @@ module _ {text words lexemes names raw places nodes : List ℕ} {p : Progress} {
 
       module _ (passed : nowhere ≤ past) where
         -- No limit is passed.
-        abbrev pub within-limits : Defining text words lexemes names raw places nodes p at nowhere
-            → Within text words lexemes names rawAfter places nodes p (body .rows) at nowhere
+        abbrev pub within-limits : Defining text lexemes names raw places nodes p at nowhere
+            → Within text lexemes names rawAfter places nodes p (body .rows) at nowhere
         within-limits d = record {
           of = d .of;
           names-hold = d .names-hold;
@@ -73,8 +73,8 @@ module _ {text words lexemes names raw places nodes : List ℕ} {p : Progress} {
 
         -- What the rest of its tests find is what all of them do.
         pub definition-tested : {namesAfter rawLast placesAfter nodesAfter : List ℕ} {v : Verdict}
-            → ((w : Within text words lexemes names rawAfter places nodes p (body .rows) at nowhere) → Settled w namesAfter rawLast placesAfter nodesAfter v)
-            → (d : Defining text words lexemes names raw places nodes p at nowhere) → Defined d namesAfter rawLast placesAfter nodesAfter v
+            → ((w : Within text lexemes names rawAfter places nodes p (body .rows) at nowhere) → Settled w namesAfter rawLast placesAfter nodesAfter v)
+            → (d : Defining text lexemes names raw places nodes p at nowhere) → Defined d namesAfter rawLast placesAfter nodesAfter v
         definition-tested settled d =
             let s = settled (within-limits d) in
             record {

@@ -11,7 +11,7 @@ use Rattle.forest.specs.Forest.{count}
 use Rattle.forest.specs.Lists.{sameBytes}
 use Rattle.forest.proofs.Bools.{and-left, and-right, apart}
 use Rattle.reserved.specs.Reserved.{isWord}
-use Rattle.words.specs.Trees.{Lexeme, list, literal, numeral, symbol}
+use Rattle.scanning.specs.Trees.{Lexeme, list, literal, numeral, symbol}
 use Rattle.lexemes.specs.Lists.{Items, after, inside, isSymbol, item, nameOf}
 use Rattle.lexemes.specs.Standing.{Stands}
 use Rattle.lexemes.specs.Table.{nextAt}
@@ -23,7 +23,7 @@ use Rattle.sorts.specs.Written.{headerPlace, sortOf}
 use Rattle.sorts.specs.declared.Fault.the-variants.{Empty}
 use Rattle.sorts.proofs.Walked.{symbol-word}
 use Rattle.heading.specs.Heads.{allowed, headerNames, headerPast}
-use Rattle.naming.specs.Scopes.{Defined, sortsOf}
+use Rattle.naming.specs.Scopes.{Defined, namedSorts}
 use Rattle.naming.specs.Steps.{sourceOf}
 use Rattle.faults.specs.Faults.{bodyFault}
 use Rattle.script.specs.Limits.{commandPast, nodePast}
@@ -89,7 +89,7 @@ abbrev pub definedBy : Known → Items → Defined
 definedBy k c = record {
   name = nameOf (item 1 c);
   definition = record {
-    signature = record { arguments = sortsOf (argumentsOf c); result = sortOf (item 3 c) (inside 3 c) };
+    signature = record { arguments = namedSorts (argumentsOf c); result = sortOf (item 3 c) (inside 3 c) };
     body = termOf (bodyView k (argumentsOf c)) (item 4 c) (inside 4 c);
   };
 }
@@ -116,7 +116,7 @@ module _ (k : Known) {c : Items} (t : Chosen c 10) where
   unfolding knownAfter
   same-constraints = rw (t .constrains)
 
-module _ {text words lexemes : List ℕ} {p : Progress} {at nowhere : ℕ} (d : CommandOf "define-fun" text words lexemes p at nowhere) where
+module _ {text lexemes : List ℕ} {p : Progress} {at nowhere : ℕ} (d : CommandOf "define-fun" text lexemes p at nowhere) where
   -- It is the command of that word.
   pub is-definition : Chosen (d .here .command) 10
   unfolding codeFor
@@ -148,10 +148,10 @@ module _ {text words lexemes : List ℕ} {p : Progress} {at nowhere : ℕ} (d : 
       {i : ℕ} (ei : i ≡ nextAt lexemes result) where
     -- Where its items stand.
     record Standing : Type 0 where
-      name : Stands (sourceOf text words lexemes) (at + 2) (after 1 (d .here .command)) (d .here .close)
-      arguments-there : Stands (sourceOf text words lexemes) arguments (after 2 (d .here .command)) (d .here .close)
-      result-there : Stands (sourceOf text words lexemes) result (after 3 (d .here .command)) (d .here .close)
-      body-there : Stands (sourceOf text words lexemes) i (after 4 (d .here .command)) (d .here .close)
+      name : Stands (sourceOf text lexemes) (at + 2) (after 1 (d .here .command)) (d .here .close)
+      arguments-there : Stands (sourceOf text lexemes) arguments (after 2 (d .here .command)) (d .here .close)
+      result-there : Stands (sourceOf text lexemes) result (after 3 (d .here .command)) (d .here .close)
+      body-there : Stands (sourceOf text lexemes) i (after 4 (d .here .command)) (d .here .close)
 
     -- They stand there.
     standing : Standing
@@ -164,7 +164,7 @@ module _ {text words lexemes : List ℕ} {p : Progress} {at nowhere : ℕ} (d : 
         record { name = name; arguments-there = arguments; result-there = result; body-there = next-stands 3 c (omega arith) result ei }
 
     -- Its body stands behind the sort of its result.
-    pub body-here : BodyAt text words lexemes i nowhere (d .here .close) (item 4 (d .here .command)) (inside 4 (d .here .command))
+    pub body-here : BodyAt text lexemes i nowhere (d .here .close) (item 4 (d .here .command)) (inside 4 (d .here .command))
     body-here = record {
       more = after 5 (d .here .command);
       stands = item-stands 4 (d .here .command) (omega (arith, its-parts .five)) (standing .body-there);

@@ -11,7 +11,7 @@ use Rattle.forest.specs.Forest.{Forest, Node, nodesOf, none, size, tree}
 use Rattle.forest.proofs.Nodes.{length-nodes}
 use Rattle.forest.proofs.Rows.{length-rows}
 use Rattle.grammar.specs.Tables.{formTable, itemRow}
-use Rattle.words.specs.Trees.{Lexeme}
+use Rattle.scanning.specs.Trees.{Lexeme}
 use Rattle.lexemes.specs.Lists.{Items}
 use Rattle.lexemes.specs.Standing.{Source, Stands, bracketed, word}
 use Rattle.lexemes.specs.Table.{nextAt}
@@ -21,7 +21,7 @@ use Rattle.gathering.specs.Steps.{AllSay}
 use Rattle.gathering.specs.Table.{rawRow, rawTable, uncounted, uncountedTable}
 use Rattle.gathering.specs.Terms.{Raw, rawTerm}
 use Rattle.gathering.proofs.Saying.{say-terms}
-use Rattle.naming.specs.Scopes.{View, formOf}
+use Rattle.naming.specs.Scopes.{View, formsOf}
 use Rattle.naming.specs.Steps.{sourceOf}
 use Rattle.naming.specs.Unknown.{unknownIn}
 use Rattle.naming.specs.declared.Seen.{Seen}
@@ -44,9 +44,9 @@ item-ends {i = i} lawful (word {l = l} w rest) = omega (arith, w .followed, lawf
 item-ends lawful (bracketed {c = c} b inner rest) = omega (arith, b .followed, lawful .ends c (omega (arith, b .closed)))
 
 -- There is a form for each node.
-pub forms-long : (view : View) (F : Forest Raw) → length (formTable (formOf view F)) ≡ 4 * size F
+pub forms-long : (view : View) (F : Forest Raw) → length (formTable (formsOf view F)) ≡ 4 * size F
 unfolding formTable
-forms-long view F = length-rows itemRow 4 (λ n. refl) (nodesOf (formOf view F)) ∙ ap (λ (n : ℕ). 4 * n) (length-nodes (formOf view F) ∙ forms-size view F)
+forms-long view F = length-rows itemRow 4 (λ n. refl) (nodesOf (formsOf view F)) ∙ ap (λ (n : ℕ). 4 * n) (length-nodes (formsOf view F) ∙ forms-size view F)
 
 -- The table of nodes is as long before they are counted.
 counted-long : (F : Forest Raw) (rest : List ℕ) → length (rawTable F ++ rest) ≡ length (uncountedTable F ++ rest)
@@ -67,14 +67,14 @@ written-there vs l i h =
     ∙ subst (λ (n : ℕ). drop n (take i l ++ (vs ++ drop (i + length vs) l)) ≡ vs ++ drop (i + length vs) l) front
     (drop-append-seam (take i l) (vs ++ drop (i + length vs) l))
 
-module _ {text words lexemes names raw nodes : List ℕ} {seen : Seen} {count base nowhere : ℕ}
-    (n : Naming text words lexemes names raw nodes seen count base nowhere) where
+module _ {text lexemes names raw nodes : List ℕ} {seen : Seen} {count base nowhere : ℕ}
+    (n : Naming text lexemes names raw nodes seen count base nowhere) where
   -- The term by itself.
-  alone : Stands (sourceOf text words lexemes) (n .i) (tree (n .label) (n .operands) none) (nextAt lexemes (n .i))
+  alone : Stands (sourceOf text lexemes) (n .i) (tree (n .label) (n .operands) none) (nextAt lexemes (n .i))
   alone = by-itself refl (n .stands)
 
   -- The words say what its nodes are.
-  pub term-says : AllSay (sourceOf text words lexemes) (rawTerm (n .label) (n .operands))
+  pub term-says : AllSay (sourceOf text lexemes) (rawTerm (n .label) (n .operands))
   term-says = say-terms false alone (n .shaped)
 
   -- Their first words rise.
@@ -82,39 +82,39 @@ module _ {text words lexemes names raw nodes : List ℕ} {seen : Seen} {count ba
   term-rises = rising-wider (rawTerm (n .label) (n .operands)) (terms-rise alone (n .shaped)) (omega arith) (item-ends (n .lawful) (n .stands))
 
   -- Its forms stand from row `base` on.
-  pub forms-there : {nodesAfter : List ℕ} → nodesAfter ≡ sets nodes (4 * base) (formTable (formOf (n .view) (rawTerm (n .label) (n .operands))))
-      → drop (4 * base) nodesAfter ≡ formTable (formOf (n .view) (rawTerm (n .label) (n .operands)))
-      ++ drop (4 * base + length (formTable (formOf (n .view) (rawTerm (n .label) (n .operands))))) nodes
+  pub forms-there : {nodesAfter : List ℕ} → nodesAfter ≡ sets nodes (4 * base) (formTable (formsOf (n .view) (rawTerm (n .label) (n .operands))))
+      → drop (4 * base) nodesAfter ≡ formTable (formsOf (n .view) (rawTerm (n .label) (n .operands)))
+      ++ drop (4 * base + length (formTable (formsOf (n .view) (rawTerm (n .label) (n .operands))))) nodes
   forms-there e =
       let F = rawTerm (n .label) (n .operands) in
-      ap (drop (4 * base)) e ∙ written-there (formTable (formOf (n .view) F)) nodes (4 * base)
+      ap (drop (4 * base)) e ∙ written-there (formTable (formsOf (n .view) F)) nodes (4 * base)
       (omega (arith, forms-long (n .view) F, n .room, n .counted))
 
-module _ {text words lexemes names raw places nodes : List ℕ} {seen : Seen} {sort count base nowhere : ℕ} {rawAfter nodesAfter : List ℕ} {unknown : ℕ}
-    (known : (q : Naming text words lexemes names raw nodes seen count base nowhere) → Named q rawAfter nodesAfter unknown)
+module _ {text lexemes names raw places nodes : List ℕ} {seen : Seen} {sort count base nowhere : ℕ} {rawAfter nodesAfter : List ℕ} {unknown : ℕ}
+    (known : (q : Naming text lexemes names raw nodes seen count base nowhere) → Named q rawAfter nodesAfter unknown)
     (named : ℕ) {name : ℕ} (en : name ≡ min named unknown) where
   -- The table of nodes is as long as it was.
-  raw-kept : (p : Judging text words lexemes names raw places nodes seen sort count base nowhere) → length rawAfter ≡ length raw
+  raw-kept : (p : Judging text lexemes names raw places nodes seen sort count base nowhere) → length rawAfter ≡ length raw
   raw-kept p =
       let n = p .naming in
       ap length (known n .raw-is) ∙ counted-long (rawTerm (n .label) (n .operands)) (n .rest) ∙ sym (ap length (n .raw-is))
 
   -- A name is at fault.
-  pub name-refused : (empty : ℕ) → name < nowhere → (p : Judging text words lexemes names raw places nodes seen sort count base nowhere)
+  pub name-refused : (empty : ℕ) → name < nowhere → (p : Judging text lexemes names raw places nodes seen sort count base nowhere)
       → Judged p named empty rawAfter nodesAfter (record { number = 7; place = name; rows = 0 })
   name-refused empty h p =
       let n = known (p .naming) in
       record { verdict-is = rw (← n .unknown-is, ← en, lt-ltb name nowhere h); nodes-are = n .nodes-are; raw-long = raw-kept p }
 
   -- No name is at fault: its sort may be looked for.
-  abbrev pub sort-sought : nowhere ≤ name → Judging text words lexemes names raw places nodes seen sort count base nowhere
+  abbrev pub sort-sought : nowhere ≤ name → Judging text lexemes names raw places nodes seen sort count base nowhere
       → BodySought rawAfter (drop (4 * base) nodesAfter) places noSorts count sort nowhere
   sort-sought h p =
       let n = p .naming in
       let found = known n in
       record {
         sought = record {
-          source = sourceOf text words lexemes;
+          source = sourceOf text lexemes;
           lawful = n .lawful;
           F = rawTerm (n .label) (n .operands);
           rest = n .rest;
@@ -124,7 +124,7 @@ module _ {text words lexemes names raw places nodes : List ℕ} {seen : Seen} {s
           rising = term-rises n;
           view = n .view;
           known = omega (arith, found .unknown-is, unknown-low nowhere (n .view) (nodesOf (rawTerm (n .label) (n .operands))));
-          more = drop (4 * base + length (formTable (formOf (n .view) (rawTerm (n .label) (n .operands))))) nodes;
+          more = drop (4 * base + length (formTable (formsOf (n .view) (rawTerm (n .label) (n .operands))))) nodes;
           is-forms = forms-there n (found .nodes-are);
           signed = p .signed;
           room = rw length-replicate (p .few);
@@ -138,7 +138,7 @@ module _ {text words lexemes names raw places nodes : List ℕ} {seen : Seen} {s
   module _ {misfit : ℕ} (found : (q : BodySought rawAfter (drop (4 * base) nodesAfter) places noSorts count sort nowhere) → BodyFound q misfit)
       (empty : ℕ) {fault : ℕ} (ef : fault ≡ min empty misfit) (passed : nowhere ≤ name) where
     -- A sort is at fault.
-    pub sort-refused : fault < nowhere → (p : Judging text words lexemes names raw places nodes seen sort count base nowhere)
+    pub sort-refused : fault < nowhere → (p : Judging text lexemes names raw places nodes seen sort count base nowhere)
         → Judged p named empty rawAfter nodesAfter (record { number = 8; place = fault; rows = 0 })
     sort-refused h p =
         let n = known (p .naming) in
@@ -149,7 +149,7 @@ module _ {text words lexemes names raw places nodes : List ℕ} {seen : Seen} {s
         }
 
     -- Nothing is at fault.
-    pub body-passed : nowhere ≤ fault → (p : Judging text words lexemes names raw places nodes seen sort count base nowhere)
+    pub body-passed : nowhere ≤ fault → (p : Judging text lexemes names raw places nodes seen sort count base nowhere)
         → Judged p named empty rawAfter nodesAfter (record { number = 0; place = 0; rows = count })
     body-passed h p =
         let n = known (p .naming) in

@@ -16,7 +16,7 @@ use Rattle.sorts.specs.Steps.{HeaderAt, SortAt}
 use Rattle.sorts.specs.Written.{headerPlace, sortOf}
 use Rattle.sorts.specs.declared.Fault.the-variants.{Empty, Unknown}
 use Rattle.sorts.proofs.Commands.{header-sort}
-use Rattle.naming.specs.Scopes.{definedNames, inOrder, isNamed, sortsOf}
+use Rattle.naming.specs.Scopes.{definedNames, inOrder, isNamed, namedSorts}
 use Rattle.naming.specs.Steps.{Sees}
 use Rattle.naming.specs.Table.{definedRow, functionRow, namesFrom, ownArgumentRow, sortsFrom, variableRow}
 use Rattle.naming.specs.declared.Seen.{Seen}
@@ -57,22 +57,22 @@ behind-both {places = places} {n = n} {row = row} given written few =
     ap (drop 664) (written .put) ∙ drop-set-lt 664 signed (560 + n) row (omega arith) ∙ sym (drop-drop 104 560 signed)
     ∙ ap (drop 104) (back-kept given (written .is-signed)) ∙ drop-drop 104 560 places
 
-module _ {text words lexemes names raw places nodes : List ℕ} {p : Progress} {rows at nowhere : ℕ} where
+module _ {text lexemes names raw places nodes : List ℕ} {p : Progress} {rows at nowhere : ℕ} where
   -- Its head keeps to the limits.
-  pub its-head : (w : Within text words lexemes names raw places nodes p rows at nowhere) → Narrow (w .of .here .command)
+  pub its-head : (w : Within text lexemes names raw places nodes p rows at nowhere) → Narrow (w .of .here .command)
   its-head w =
       let is = limit-is nowhere (w .of .known) at (is-definition (w .of)) in
       head-narrow nowhere (omega (arith, command-word (w .of .here))) (w .of .here .command) (command-below (w .of .here)) (omega (arith, w .limited))
 
   -- There are fewer `define-fun`s than there may be.
-  pub definition-fits : Within text words lexemes names raw places nodes p rows at nowhere → p .defined < 32
+  pub definition-fits : Within text lexemes names raw places nodes p rows at nowhere → p .defined < 32
   definition-fits w =
       let is = limit-is nowhere (w .of .known) at (is-definition (w .of)) in
       let few = command-fits nowhere 32 (length (w .of .known .defined)) at (command-word (w .of .here)) (omega (arith, w .limited)) in
       omega (arith, w .of .counted .defined-are)
 
   -- Its head may be put into the table of names.
-  abbrev pub head-at : Within text words lexemes names raw places nodes p rows at nowhere → HeadAt text words lexemes names (scopeBefore p) false at
+  abbrev pub head-at : Within text lexemes names raw places nodes p rows at nowhere → HeadAt text lexemes names (scopeBefore p) false at
   head-at w = record {
     close = w .of .here .close;
     command = w .of .here .command;
@@ -93,7 +93,7 @@ module _ {text words lexemes names raw places nodes : List ℕ} {p : Progress} {
   }
 
   -- The signatures that its body sees.
-  pub body-signed : (w : Within text words lexemes names raw places nodes p rows at nowhere)
+  pub body-signed : (w : Within text lexemes names raw places nodes p rows at nowhere)
       → Signed places (bodyView (w .of .known) (argumentsOf (w .of .here .command)))
   unfolding RowsAre SortsAre
   body-signed w = record {
@@ -105,29 +105,29 @@ module _ {text words lexemes names raw places nodes : List ℕ} {p : Progress} {
     few-nonTerminals = omega arith;
   }
 
-  module _ {namesAfter : List ℕ} {named : ℕ} (put : (q : HeadAt text words lexemes names (scopeBefore p) false at) → HeadNamed q nowhere namesAfter named) where
+  module _ {namesAfter : List ℕ} {named : ℕ} (put : (q : HeadAt text lexemes names (scopeBefore p) false at) → HeadNamed q nowhere namesAfter named) where
     -- Rows before those of `define-fun`s, and the first of these, are what they were.
-    same-first : (r m : ℕ) → r + m ≤ definedRow + p .defined → Within text words lexemes names raw places nodes p rows at nowhere
+    same-first : (r m : ℕ) → r + m ≤ definedRow + p .defined → Within text lexemes names raw places nodes p rows at nowhere
         → SameRows namesAfter names r m
     same-first r m h w =
         let n = put (head-at w) in
         same-through (same-before (n .kept-name) r m h) (same-before (n .kept-arguments) r m (omega (arith, definition-fits w)))
 
     -- So are those of functions.
-    same-after : (m : ℕ) → m ≤ 8 → Within text words lexemes names raw places nodes p rows at nowhere → SameRows namesAfter names functionRow m
+    same-after : (m : ℕ) → m ≤ 8 → Within text lexemes names raw places nodes p rows at nowhere → SameRows namesAfter names functionRow m
     same-after m h w =
         let n = put (head-at w) in
         same-through (same-behind (n .kept-name) functionRow m (omega (arith, definition-fits w))) (same-before (n .kept-arguments) functionRow m (omega arith))
 
     -- And those of their arguments.
-    same-own : (j m : ℕ) → Within text words lexemes names raw places nodes p rows at nowhere → SameRows namesAfter names (ownArgumentRow j) m
+    same-own : (j m : ℕ) → Within text lexemes names raw places nodes p rows at nowhere → SameRows namesAfter names (ownArgumentRow j) m
     same-own j m w =
         let n = put (head-at w) in
         same-through (same-behind (n .kept-name) (ownArgumentRow j) m (omega (arith, definition-fits w)))
         (same-behind (n .kept-arguments) (ownArgumentRow j) m (omega (arith, its-head w .few)))
 
     -- The word at fault in its head is that by the names that are known.
-    named-is : (w : Within text words lexemes names raw places nodes p rows at nowhere)
+    named-is : (w : Within text lexemes names raw places nodes p rows at nowhere)
         → named ≡ headerNames nowhere (scope (w .of .known)) (w .of .here .command)
     unfolding isNamed
     named-is w =
@@ -141,7 +141,7 @@ module _ {text words lexemes names raw places nodes : List ℕ} {p : Progress} {
         (same-members nowhere (n ∷ one) (n ∷ other) (λ m. ap (_||_ (sameBytes n m)) (same m)) (inside 2 c)))
 
     -- The table has the names that are known after it.
-    pub names-after : (w : Within text words lexemes names raw places nodes p rows at nowhere) → NamesHold namesAfter (After (w .of))
+    pub names-after : (w : Within text lexemes names raw places nodes p rows at nowhere) → NamesHold namesAfter (After (w .of))
     names-after w =
         let k = w .of .known in
         let t = is-definition (w .of) in
@@ -166,22 +166,22 @@ module _ {text words lexemes names raw places nodes : List ℕ} {p : Progress} {
 
   module _ {arguments : ℕ} (ea : arguments ≡ nextAt lexemes (at + 2)) {result : ℕ} (er : result ≡ nextAt lexemes arguments) where
     -- Its arguments stand between the brackets of their list.
-    abbrev pub arguments-here : Within text words lexemes names raw places nodes p rows at nowhere → Between lexemes (arguments + 1) (result - 1)
+    abbrev pub arguments-here : Within text lexemes names raw places nodes p rows at nowhere → Between lexemes (arguments + 1) (result - 1)
     arguments-here w = items-between ea er (header-here (w .of))
 
     -- The sort of its result.
-    abbrev pub result-here : Within text words lexemes names raw places nodes p rows at nowhere → SortAt lexemes result
+    abbrev pub result-here : Within text lexemes names raw places nodes p rows at nowhere → SortAt lexemes result
     result-here w = header-sort (header-here (w .of)) ea er
 
     module _ {count : ℕ} (counts : (b : Between lexemes (arguments + 1) (result - 1)) → count ≡ treeCount (b .items))
         {sort : ℕ} (sorts : (q : SortAt lexemes result) → sort ≡ sortOf (q .here .label) (q .here .operands))
-        {namesAfter : List ℕ} {named : ℕ} (put : (q : HeadAt text words lexemes names (scopeBefore p) false at) → HeadNamed q nowhere namesAfter named) where
+        {namesAfter : List ℕ} {named : ℕ} (put : (q : HeadAt text lexemes names (scopeBefore p) false at) → HeadNamed q nowhere namesAfter named) where
       -- The sort of its result is at most 64 wide.
-      pub sort-low : Within text words lexemes names raw places nodes p rows at nowhere → sort ≤ 64
+      pub sort-low : Within text lexemes names raw places nodes p rows at nowhere → sort ≤ 64
       sort-low w = omega (arith, sorts (result-here w), its-head w .result)
 
       -- The names that its body sees.
-      pub body-sees : (w : Within text words lexemes names raw places nodes p rows at nowhere)
+      pub body-sees : (w : Within text lexemes names raw places nodes p rows at nowhere)
           → Sees namesAfter (bodySeen p count)
           (bodyView (w .of .known) (argumentsOf (w .of .here .command)))
       unfolding inOrder namesFrom
@@ -202,15 +202,15 @@ module _ {text words lexemes names raw places nodes : List ℕ} {p : Progress} {
           }
 
       -- Its body may be tested.
-      abbrev pub definition-judging : (w : Within text words lexemes names raw places nodes p rows at nowhere)
-          → Judging text words lexemes namesAfter raw places nodes
+      abbrev pub definition-judging : (w : Within text lexemes names raw places nodes p rows at nowhere)
+          → Judging text lexemes namesAfter raw places nodes
           (bodySeen p count) sort rows (p .nodes) nowhere
       definition-judging w =
           body-judging (body-here (w .of) ea er refl) (w .rest) (w .raw-is) (w .counted) (w .fits) nodes (w .nodes-room) (body-sees w) (body-signed w)
           (sort-low w)
 
       -- Its signature may be put into the table of places, and where its body begins.
-      pub putting : Within text words lexemes names raw places nodes p rows at nowhere → Putting namesAfter places (p .defined) count sort
+      pub putting : Within text lexemes names raw places nodes p rows at nowhere → Putting namesAfter places (p .defined) count sort
       putting w = record {
         signing = record {
           table = put (head-at w) .table;
@@ -224,11 +224,11 @@ module _ {text words lexemes names raw places nodes : List ℕ} {p : Progress} {
 
       module _ {empty : ℕ} (empties : (q : HeaderAt lexemes at) → empty ≡ headerPlace Empty nowhere (q .here .operands))
           {rawLast nodesAfter : List ℕ} {v : Verdict}
-          (judged : (q : Judging text words lexemes namesAfter raw places nodes
+          (judged : (q : Judging text lexemes namesAfter raw places nodes
           (bodySeen p count) sort rows (p .nodes) nowhere)
           → Judged q named empty rawLast nodesAfter v) where
         -- The verdict by the words at fault.
-        verdict-by : (w : Within text words lexemes names raw places nodes p rows at nowhere)
+        verdict-by : (w : Within text lexemes names raw places nodes p rows at nowhere)
             → v ≡ verdictOf nowhere (namePlace nowhere (w .of .known) (w .of .here .command)) (sortingPlace nowhere (w .of .known) (w .of .here .command)) rows
         verdict-by w =
             let c = w .of .here .command in
@@ -241,17 +241,17 @@ module _ {text words lexemes names raw places nodes : List ℕ} {p : Progress} {
             judged (definition-judging w) .verdict-is ∙ ap₂ (λ (a b : ℕ). verdictOf nowhere a b rows) names places
 
         -- The verdict is that of its tests.
-        its-verdict : (w : Within text words lexemes names raw places nodes p rows at nowhere) → Tested (w .of) v
+        its-verdict : (w : Within text lexemes names raw places nodes p rows at nowhere) → Tested (w .of) v
         its-verdict w =
             body-says allowed nowhere (w .of .known) at (w .of .here .command) (After (w .of)) v rows (w .limited)
             (no-grammar nowhere (w .of .known) at (is-definition (w .of))) (verdict-by w)
 
         -- The table of nodes is as long as it was.
-        nodes-kept : (w : Within text words lexemes names raw places nodes p rows at nowhere) → length nodesAfter ≡ length nodes
+        nodes-kept : (w : Within text lexemes names raw places nodes p rows at nowhere) → length nodesAfter ≡ length nodes
         nodes-kept w = ap length (judged (definition-judging w) .nodes-are) ∙ simp length-sets
 
         -- A name or a sort is at fault.
-        pub definition-refused : 0 < v .number → (w : Within text words lexemes names raw places nodes p rows at nowhere)
+        pub definition-refused : 0 < v .number → (w : Within text lexemes names raw places nodes p rows at nowhere)
             → Settled w namesAfter rawLast places nodesAfter v
         definition-refused h w = record {
           verdict-is = its-verdict w;
@@ -265,7 +265,7 @@ module _ {text words lexemes names raw places nodes : List ℕ} {p : Progress} {
 
         -- It passes, and its signature and where its body begins are put into the table of places.
         pub definition-known : v .number ≤ 0 → {placesAfter : List ℕ} → DefinitionPut namesAfter places (p .defined) count sort (p .nodes) placesAfter
-            → (w : Within text words lexemes names raw places nodes p rows at nowhere) → Settled w namesAfter rawLast placesAfter nodesAfter v
+            → (w : Within text lexemes names raw places nodes p rows at nowhere) → Settled w namesAfter rawLast placesAfter nodesAfter v
         definition-known h {placesAfter} written w =
             let c = w .of .here .command in
             let k = w .of .known in
@@ -275,13 +275,14 @@ module _ {text words lexemes names raw places nodes : List ℕ} {p : Progress} {
             let taken = passed-rows nowhere _ _ rows (verdict-by w) (omega arith) in
             let grown = body-grown (body-here (w .of) ea er refl) (w .rest) (w .raw-is) (w .counted) (w .fits) nodes (w .nodes-room)
             (bodyView k (argumentsOf c)) refl (judged (definition-judging w) .nodes-are) in
-            let arguments : sortsOf (argumentsOf c) ≡ sortsFrom namesAfter 56 count = rw (counts (arguments-here w)) (sym (put (head-at w) .sorts-are)) in
+            let arguments : namedSorts (argumentsOf c) ≡ sortsFrom namesAfter 56 count = rw (counts (arguments-here w)) (sym (put (head-at w) .sorts-are)) in
             record {
               verdict-is = its-verdict w;
               names-hold = λ e. names-after put w;
               places-hold = λ e. rw taken (definition-held (w .places-hold) grown given (written .is-signed) (counted .defined-are) (definition-fits w)
                   (omega (arith, counted .few-functions, counted .functions-are)) (omega (arith, counted .few-constraints, counted .constraints-are))
-                  (written .put) (definedBy k c) arguments (sym (sorts (result-here w))) (sort-low w) refl (one-more k t) (same-functions k t) (same-constraints k t));
+                  (written .put) (definedBy k c) arguments (sym (sorts (result-here w))) (sort-low w) refl (one-more k t) (same-functions k t)
+                  (same-constraints k t));
               within = λ e. rw taken (w .fits);
               kept = behind-both given written (definition-fits w);
               raw-long = judged (definition-judging w) .raw-long;

@@ -12,7 +12,7 @@ use Rattle.grammar.specs.Tables.{formTable}
 use Rattle.lexemes.specs.Lists.{inside, item}
 use Rattle.gathering.specs.Table.{uncountedTable}
 use Rattle.gathering.specs.Terms.{rawTerm}
-use Rattle.naming.specs.Scopes.{formOf}
+use Rattle.naming.specs.Scopes.{formsOf}
 use Rattle.naming.specs.Table.{argumentRow}
 use Rattle.naming.specs.Unknown.{unknownIn}
 use Rattle.naming.specs.declared.Seen.{Seen}
@@ -35,26 +35,26 @@ verdictOf nowhere names sorts count =
     (record { number = 0; place = 0; rows = count }))
 
 -- The nodes of a term are gathered that is to be of a sort, and the tables have the names and the signatures that it sees.
-pub record Judging (text words lexemes names raw places nodes : List ℕ) (seen : Seen) (sort count base nowhere : ℕ) : Type 0 where
-  pub naming : Naming text words lexemes names raw nodes seen count base nowhere
+pub record Judging (text lexemes names raw places nodes : List ℕ) (seen : Seen) (sort count base nowhere : ℕ) : Type 0 where
+  pub naming : Naming text lexemes names raw nodes seen count base nowhere
   pub signed : Signed places (naming .view)
   pub low : sort ≤ maxWidth
   pub few : count ≤ 4096
 
 -- The term is tested, after a word whose name and a word whose sort is at fault in its command; and its forms are written.
-pub record Judged {text words lexemes names raw places nodes : List ℕ} {seen : Seen} {sort count base nowhere : ℕ}
-    (p : Judging text words lexemes names raw places nodes seen sort count base nowhere) (named empty : ℕ) (rawAfter nodesAfter : List ℕ)
+pub record Judged {text lexemes names raw places nodes : List ℕ} {seen : Seen} {sort count base nowhere : ℕ}
+    (p : Judging text lexemes names raw places nodes seen sort count base nowhere) (named empty : ℕ) (rawAfter nodesAfter : List ℕ)
     (v : Verdict) : Type 0 where
   pub verdict-is : v ≡ verdictOf nowhere
       (min named (unknownIn nowhere (p .naming .view) (nodesOf (rawTerm (p .naming .label) (p .naming .operands)))))
       (min empty (bodyFault nowhere (p .naming .view) sort (p .naming .label) (p .naming .operands)))
       count
-  pub nodes-are : nodesAfter ≡ sets nodes (4 * base) (formTable (formOf (p .naming .view) (rawTerm (p .naming .label) (p .naming .operands))))
+  pub nodes-are : nodesAfter ≡ sets nodes (4 * base) (formTable (formsOf (p .naming .view) (rawTerm (p .naming .label) (p .naming .operands))))
   pub raw-long : length rawAfter ≡ length raw
 
 -- A `define-fun`, the tables, and a row for each word of the text.
-pub record Defining (text words lexemes names raw places nodes : List ℕ) (p : Progress) (i nowhere : ℕ) : Type 0 where
-  pub of : CommandOf "define-fun" text words lexemes p i nowhere
+pub record Defining (text lexemes names raw places nodes : List ℕ) (p : Progress) (i nowhere : ℕ) : Type 0 where
+  pub of : CommandOf "define-fun" text lexemes p i nowhere
   pub names-hold : NamesHold names (of .known)
   pub places-hold : PlacesHold places nodes (p .nodes) (of .known)
   pub raw-room : 4 * nowhere ≤ length raw
@@ -62,8 +62,8 @@ pub record Defining (text words lexemes names raw places nodes : List ℕ) (p : 
   pub within : p .nodes ≤ i
 
 -- The command is tested, and where it passes, its function is known; the numbers of synthesized functions are what they were.
-pub record Defined {text words lexemes names raw places nodes : List ℕ} {p : Progress} {i nowhere : ℕ}
-    (d : Defining text words lexemes names raw places nodes p i nowhere) (namesAfter rawAfter placesAfter nodesAfter : List ℕ) (v : Verdict) : Type 0 where
+pub record Defined {text lexemes names raw places nodes : List ℕ} {p : Progress} {i nowhere : ℕ}
+    (d : Defining text lexemes names raw places nodes p i nowhere) (namesAfter rawAfter placesAfter nodesAfter : List ℕ) (v : Verdict) : Type 0 where
   pub verdict-is : Tested (d .of) v
   pub names-hold : v .number ≡ 0 → NamesHold namesAfter (After (d .of))
   pub places-hold : v .number ≡ 0 → PlacesHold placesAfter nodesAfter (p .nodes + v .rows) (After (d .of))
@@ -77,8 +77,8 @@ abbrev pub scopeBefore : Progress → Scope
 scopeBefore p = record { variables = p .variables; defined = p .defined; functions = p .functions; first = argumentRow; arguments = 0 }
 
 -- A `define-fun` that is not past a limit, the tables, and the nodes of its body.
-pub record Within (text words lexemes names raw places nodes : List ℕ) (p : Progress) (rows i nowhere : ℕ) : Type 0 where
-  pub of : CommandOf "define-fun" text words lexemes p i nowhere
+pub record Within (text lexemes names raw places nodes : List ℕ) (p : Progress) (rows i nowhere : ℕ) : Type 0 where
+  pub of : CommandOf "define-fun" text lexemes p i nowhere
   pub names-hold : NamesHold names (of .known)
   pub places-hold : PlacesHold places nodes (p .nodes) (of .known)
   pub limited : nowhere ≤ limitPlace allowed nowhere (of .known) i (of .here .command)
@@ -89,8 +89,8 @@ pub record Within (text words lexemes names raw places nodes : List ℕ) (p : Pr
   pub fits : p .nodes + rows ≤ of .here .close
 
 -- It is tested, and where it passes, its function is known.
-pub record Settled {text words lexemes names raw places nodes : List ℕ} {p : Progress} {rows i nowhere : ℕ}
-    (w : Within text words lexemes names raw places nodes p rows i nowhere) (namesAfter rawAfter placesAfter nodesAfter : List ℕ) (v : Verdict) : Type 0 where
+pub record Settled {text lexemes names raw places nodes : List ℕ} {p : Progress} {rows i nowhere : ℕ}
+    (w : Within text lexemes names raw places nodes p rows i nowhere) (namesAfter rawAfter placesAfter nodesAfter : List ℕ) (v : Verdict) : Type 0 where
   pub verdict-is : Tested (w .of) v
   pub names-hold : v .number ≡ 0 → NamesHold namesAfter (After (w .of))
   pub places-hold : v .number ≡ 0 → PlacesHold placesAfter nodesAfter (p .nodes + v .rows) (After (w .of))
@@ -111,8 +111,8 @@ pub record DefinitionPut (names places : List ℕ) (n arguments sort row : ℕ) 
   pub put : placesAfter ≡ set signed (bodiesPlace + n) row
 
 -- A `constraint`, the tables, and a row for each word of the text.
-pub record Constraining (text words lexemes names raw places nodes : List ℕ) (p : Progress) (i nowhere : ℕ) : Type 0 where
-  pub of : CommandOf "constraint" text words lexemes p i nowhere
+pub record Constraining (text lexemes names raw places nodes : List ℕ) (p : Progress) (i nowhere : ℕ) : Type 0 where
+  pub of : CommandOf "constraint" text lexemes p i nowhere
   pub names-hold : NamesHold names (of .known)
   pub places-hold : PlacesHold places nodes (p .nodes) (of .known)
   pub raw-room : 4 * nowhere ≤ length raw
@@ -120,8 +120,8 @@ pub record Constraining (text words lexemes names raw places nodes : List ℕ) (
   pub within : p .nodes ≤ i
 
 -- The command is tested, and where it passes, its term is known; the numbers of synthesized functions are what they were.
-pub record Constrained {text words lexemes names raw places nodes : List ℕ} {p : Progress} {i nowhere : ℕ}
-    (d : Constraining text words lexemes names raw places nodes p i nowhere) (rawAfter placesAfter nodesAfter : List ℕ) (v : Verdict) : Type 0 where
+pub record Constrained {text lexemes names raw places nodes : List ℕ} {p : Progress} {i nowhere : ℕ}
+    (d : Constraining text lexemes names raw places nodes p i nowhere) (rawAfter placesAfter nodesAfter : List ℕ) (v : Verdict) : Type 0 where
   pub verdict-is : Tested (d .of) v
   pub places-hold : v .number ≡ 0 → PlacesHold placesAfter nodesAfter (p .nodes + v .rows) (After (d .of))
   pub within : v .number ≡ 0 → p .nodes + v .rows ≤ d .of .here .close

@@ -40,7 +40,6 @@ fn command_past(before: usize, most: usize, at: usize, nowhere: usize) -> usize
 // Tests the names of a term, then its sort, each after the word at fault of its kind in the head of its command; writes its forms from row `base` on.
 fn judge_body(
     text: &[u8],
-    words: &[u32],
     lexemes: &[u64],
     names: &[u8],
     raw: &mut [u64],
@@ -54,21 +53,10 @@ fn judge_body(
     empty: usize,
     nowhere: usize,
 ) -> Verdict
-    requires { ⌜ Judging (now text) (now words) (now lexemes) (now names) (now raw) (now places) (now nodes) seen sort count base nowhere ⌝ }
-    ensures { λ r. ⌜ ((p : Judging (now (text .entry)) (now (words .entry)) (now (lexemes .entry)) (now (names .entry)) (now (raw .entry)) (now (places .entry)) (now (nodes .entry)) seen sort count base nowhere) → Judged p named empty (now (raw .exit)) (now (nodes .exit)) r) ⌝ }
+    requires { ⌜ Judging (now text) (now lexemes) (now names) (now raw) (now places) (now nodes) seen sort count base nowhere ⌝ }
+    ensures { λ r. ⌜ ((p : Judging (now (text .entry)) (now (lexemes .entry)) (now (names .entry)) (now (raw .entry)) (now (places .entry)) (now (nodes .entry)) seen sort count base nowhere) → Judged p named empty (now (raw .exit)) (now (nodes .exit)) r) ⌝ }
 {
-    let unknown = body_names(
-        text,
-        words,
-        lexemes,
-        names,
-        raw,
-        nodes,
-        seen,
-        count,
-        base,
-        nowhere,
-    );
+    let unknown = body_names(text, lexemes, names, raw, nodes, seen, count, base, nowhere);
     let name = least(named, unknown);
     if name < nowhere {
         return Verdict {
@@ -120,15 +108,14 @@ fn put_definition(
 // Puts the name and the arguments of the `define-fun` at a word into their rows; returns the least word at fault in its head, by its names.
 fn define_names(
     text: &[u8],
-    words: &[u32],
     lexemes: &[u64],
     names: &mut [u8],
     progress: Progress,
     at: usize,
     nowhere: usize,
 ) -> usize
-    requires { ⌜ HeadAt (now text) (now words) (now lexemes) (now names) (scopeBefore progress) false at ⌝ }
-    ensures { λ r. ⌜ ((p : HeadAt (now (text .entry)) (now (words .entry)) (now (lexemes .entry)) (now (names .entry)) (scopeBefore progress) false at) → HeadNamed p nowhere (now (names .exit)) r) ⌝ }
+    requires { ⌜ HeadAt (now text) (now lexemes) (now names) (scopeBefore progress) false at ⌝ }
+    ensures { λ r. ⌜ ((p : HeadAt (now (text .entry)) (now (lexemes .entry)) (now (names .entry)) (scopeBefore progress) false at) → HeadNamed p nowhere (now (names .exit)) r) ⌝ }
 {
     let scope = Scope {
         variables: progress.variables,
@@ -137,13 +124,12 @@ fn define_names(
         first: ARGUMENTS,
         arguments: 0,
     };
-    head_names(text, words, lexemes, names, scope, false, at, nowhere)
+    head_names(text, lexemes, names, scope, false, at, nowhere)
 }
 
 // Tests the names and the sorts of the `define-fun` at a word, whose body has so many nodes; its name, signature and body stand in the tables where it passes.
 fn define_within(
     text: &[u8],
-    words: &[u32],
     lexemes: &[u64],
     names: &mut [u8],
     raw: &mut [u64],
@@ -154,15 +140,15 @@ fn define_within(
     at: usize,
     nowhere: usize,
 ) -> Verdict
-    requires { ⌜ Within (now text) (now words) (now lexemes) (now names) (now raw) (now places) (now nodes) progress rows at nowhere ⌝ }
-    ensures { λ r. ⌜ ((w : Within (now (text .entry)) (now (words .entry)) (now (lexemes .entry)) (now (names .entry)) (now (raw .entry)) (now (places .entry)) (now (nodes .entry)) progress rows at nowhere) → Settled w (now (names .exit)) (now (raw .exit)) (now (places .exit)) (now (nodes .exit)) r) ⌝ }
+    requires { ⌜ Within (now text) (now lexemes) (now names) (now raw) (now places) (now nodes) progress rows at nowhere ⌝ }
+    ensures { λ r. ⌜ ((w : Within (now (text .entry)) (now (lexemes .entry)) (now (names .entry)) (now (raw .entry)) (now (places .entry)) (now (nodes .entry)) progress rows at nowhere) → Settled w (now (names .exit)) (now (raw .exit)) (now (places .exit)) (now (nodes .exit)) r) ⌝ }
 {
     let arguments = next_at(lexemes, at + 2);
     let result = next_at(lexemes, arguments);
     let count = count_items(lexemes, arguments + 1, result - 1);
     let sort = sort_of(lexemes, result);
     let empty = header_place(lexemes, at, Fault::Empty, nowhere);
-    let named = define_names(text, words, lexemes, names, progress, at, nowhere);
+    let named = define_names(text, lexemes, names, progress, at, nowhere);
     let seen = Seen {
         first: ARGUMENTS,
         names: count,
@@ -172,7 +158,6 @@ fn define_within(
     };
     let verdict = judge_body(
         text,
-        words,
         lexemes,
         names,
         raw,
@@ -196,7 +181,6 @@ fn define_within(
 // The `define-fun` at a word: its name, signature and body stand in the tables where it passes.
 pub fn define_fun(
     text: &[u8],
-    words: &[u32],
     lexemes: &[u64],
     names: &mut [u8],
     raw: &mut [u64],
@@ -206,8 +190,8 @@ pub fn define_fun(
     at: usize,
     nowhere: usize,
 ) -> Verdict
-    requires { ⌜ Defining (now text) (now words) (now lexemes) (now names) (now raw) (now places) (now nodes) progress at nowhere ⌝ }
-    ensures { λ r. ⌜ ((d : Defining (now (text .entry)) (now (words .entry)) (now (lexemes .entry)) (now (names .entry)) (now (raw .entry)) (now (places .entry)) (now (nodes .entry)) progress at nowhere) → Defined d (now (names .exit)) (now (raw .exit)) (now (places .exit)) (now (nodes .exit)) r) ⌝ }
+    requires { ⌜ Defining (now text) (now lexemes) (now names) (now raw) (now places) (now nodes) progress at nowhere ⌝ }
+    ensures { λ r. ⌜ ((d : Defining (now (text .entry)) (now (lexemes .entry)) (now (names .entry)) (now (raw .entry)) (now (places .entry)) (now (nodes .entry)) progress at nowhere) → Defined d (now (names .exit)) (now (raw .exit)) (now (places .exit)) (now (nodes .exit)) r) ⌝ }
 {
     let result = next_at(lexemes, next_at(lexemes, at + 2));
     let body = body_limit(lexemes, next_at(lexemes, result), raw, 256, nowhere);
@@ -223,7 +207,6 @@ pub fn define_fun(
     }
     define_within(
         text,
-        words,
         lexemes,
         names,
         raw,
@@ -239,7 +222,6 @@ pub fn define_fun(
 // The `constraint` at a word: its term stands in the tables where it passes.
 pub fn constrain(
     text: &[u8],
-    words: &[u32],
     lexemes: &[u64],
     names: &[u8],
     raw: &mut [u64],
@@ -249,8 +231,8 @@ pub fn constrain(
     at: usize,
     nowhere: usize,
 ) -> Verdict
-    requires { ⌜ Constraining (now text) (now words) (now lexemes) (now names) (now raw) (now places) (now nodes) progress at nowhere ⌝ }
-    ensures { λ r. ⌜ ((d : Constraining (now (text .entry)) (now (words .entry)) (now (lexemes .entry)) (now (names .entry)) (now (raw .entry)) (now (places .entry)) (now (nodes .entry)) progress at nowhere) → Constrained d (now (raw .exit)) (now (places .exit)) (now (nodes .exit)) r) ⌝ }
+    requires { ⌜ Constraining (now text) (now lexemes) (now names) (now raw) (now places) (now nodes) progress at nowhere ⌝ }
+    ensures { λ r. ⌜ ((d : Constraining (now (text .entry)) (now (lexemes .entry)) (now (names .entry)) (now (raw .entry)) (now (places .entry)) (now (nodes .entry)) progress at nowhere) → Constrained d (now (raw .exit)) (now (places .exit)) (now (nodes .exit)) r) ⌝ }
 {
     let body = body_limit(lexemes, at + 2, raw, 256, nowhere);
     let past = least(
@@ -273,7 +255,6 @@ pub fn constrain(
     };
     let verdict = judge_body(
         text,
-        words,
         lexemes,
         names,
         raw,

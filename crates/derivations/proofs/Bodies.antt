@@ -1,11 +1,11 @@
 -- A body in a table of nodes: the rows of the term that begins at a node.
-use Prim.Native.Nat.{ℕ, zero, suc, _+_, _*_, _≤_}
+use Prim.Native.Nat.{ℕ, suc, _+_, _*_, _≤_}
 use native.Mathlib.Omega.{arith}
 use mathlib.Core.Path.{_≡_, refl, sym, ap, _∙_, subst}
 use mathlib.Core.List.{List, _++_, append-assoc}
 use lib.ListN.{drop, length, length-append, take, take-append-drop}
 use lib.Seq.{drop-at, length-take-le, take-at}
-use Rattle.forest.specs.Forest.{count, from, join, nodesOf, none, size, tree}
+use Rattle.forest.specs.Forest.{count, join, nodesOf, none, size, tree}
 use Rattle.forest.specs.Rows.{rows}
 use Rattle.forest.proofs.Laws.{size-from}
 use Rattle.forest.proofs.Nodes.{length-nodes, nodes-from, nodes-join}
@@ -13,7 +13,7 @@ use Rattle.forest.proofs.Rows.{length-rows, rows-append}
 use Rattle.terms.specs.Labels.{Label, Terms}
 use Rattle.terms.specs.Nodes.{AllPlain, nodeRow, nodeTable, sizeAt}
 use Rattle.terms.proofs.Bodies.{plain-from, says}
-use Rattle.meaning.specs.Tables.{Stands}
+use Rattle.meaning.specs.Tables.{TermStands}
 use Rattle.script.proofs.Nodes.{length-table}
 
 -- A table past its first i rows.
@@ -35,7 +35,7 @@ size-alone : (l : Label) (ops : Terms) → size (tree l ops none) ≡ suc (size 
 unfolding size
 size-alone l ops = omega arith
 
-module _ {all : Terms} {i : ℕ} {t : Terms} (s : Stands all i t) where
+module _ {all : Terms} {i : ℕ} {t : Terms} (s : TermStands all i t) where
   -- It is one term.
   pub body-one : count t ≡ 1
   unfolding count

@@ -16,14 +16,14 @@ use Rattle.faults.specs.Faults.{scopeOf}
 use Rattle.promises.specs.Sorted.{AllRulesSorted, RulesSorted}
 use Rattle.script.specs.declared.Progress.{Progress}
 use Rattle.response.specs.Response.{Body, inScriptOrder, responseView}
-use Rattle.response.proofs.Picked.{At, grammar-at, order-length, place}
+use Rattle.response.proofs.Picked.{At, BodyAt, body-at, each, grammar-at, order-length, place}
 use Rattle.assured.specs.Assured.{AllAdmitted}
-use Rattle.outcome.specs.Derived.{FirstUnderived, Shown, listsOf, shownArea, termsOf}
+use Rattle.outcome.specs.Derived.{FirstUnderived, ListsShown, listsOf, shownArea, termsOf}
 use Rattle.outcome.specs.Derived.FirstUnderived.{here, later}
-use Rattle.outcome.specs.Derived.Shown.{also, no-more}
+use Rattle.outcome.specs.Derived.ListsShown.{also, no-more}
 use Rattle.derivations.specs.Steps.{Derivable, Judged, OneDerivable, OneJudged}
 use Rattle.derivations.proofs.Areas.{area-blank, area-more, lists-more}
-use Rattle.derivations.proofs.Numbered.{Both, BodyAt, as-many, body-at, both, each}
+use Rattle.derivations.proofs.Numbered.{Both, as-many, both}
 
 module _ {places nodes forms area₀ : List ℕ} {p : Progress} (q : Derivable places nodes forms p area₀) where
   -- The functions, in script order.
@@ -38,8 +38,8 @@ module _ {places nodes forms area₀ : List ℕ} {p : Progress} (q : Derivable p
     pub room : length (listsOf lists) ≡ listSize * j
     pub long : length area ≡ length area₀
     pub low : j ≤ p .functions
-    pub shown-all : (more : List (List ℕ)) → Shown (drop j ordered) (termsOf (drop j (q .bodies))) more
-        → Shown ordered (termsOf (q .bodies)) (lists ++ more)
+    pub shown-all : (more : List (List ℕ)) → ListsShown (drop j ordered) (termsOf (drop j (q .bodies))) more
+        → ListsShown ordered (termsOf (q .bodies)) (lists ++ more)
     pub first-all : (n : ℕ) (b : Body) → FirstUnderived (drop j ordered) (drop j (q .bodies)) n b → FirstUnderived ordered (q .bodies) (j + n) b
 
   -- Before the first function none is derived.

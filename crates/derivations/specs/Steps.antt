@@ -7,7 +7,7 @@ use lib.ListN.{drop, getD, length}
 use Rattle.forest.specs.Forest.{size}
 use Rattle.terms.specs.Labels.{Terms}
 use Rattle.terms.specs.Nodes.{AllPlain, nodeTable}
-use Rattle.meaning.specs.Tables.{Stands, mostDefined, mostFunctions}
+use Rattle.meaning.specs.Tables.{TermStands, mostDefined, mostFunctions}
 use Rattle.grammar.specs.Answer.{NotDerived, Shown as ShownIn, areaSize}
 use Rattle.grammar.specs.Derivation.{Admitted, LeavesFit}
 use Rattle.naming.specs.Scopes.{Function}
@@ -16,7 +16,7 @@ use Rattle.script.specs.Tables.{GrammarHeld, bodiesPlace, firstsPlace, function
 use Rattle.script.specs.declared.Progress.{Progress}
 use Rattle.response.specs.Response.{Body, inScriptOrder}
 use Rattle.assured.specs.Held.{Held}
-use Rattle.outcome.specs.Derived.{FirstUnderived, Shown, blankArea, shownArea, termsOf}
+use Rattle.outcome.specs.Derived.{FirstUnderived, ListsShown, blankArea, shownArea, termsOf}
 
 -- The tables hold a script and a response that pass, and the area shows nothing.
 pub record Derivable (places nodes forms : List ℕ) (p : Progress) (area : List ℕ) : Type 0 where
@@ -29,7 +29,7 @@ pub record Derivable (places nodes forms : List ℕ) (p : Progress) (area : List
 -- Every body is derived, and the area shows how.
 pub record AllShown {places nodes forms area : List ℕ} {p : Progress} (q : Derivable places nodes forms p area) (areaAfter : List ℕ) : Type 0 where
   pub lists : List (List ℕ)
-  pub shown : Shown (inScriptOrder (q .known .functions)) (termsOf (q .bodies)) lists
+  pub shown : ListsShown (inScriptOrder (q .known .functions)) (termsOf (q .bodies)) lists
   pub area-is : areaAfter ≡ shownArea lists
 
 -- Function j is the first without a derivation; its body's first word stands in the table.
@@ -58,7 +58,7 @@ pub record OneDerivable (places nodes forms : List ℕ) (j : ℕ) (area : List �
   pub rest : List ℕ
   pub nodes-are : nodes ≡ nodeTable all ++ rest
   pub plain : AllPlain all
-  pub stands : Stands all (getD places (bodiesPlace + mostDefined + j) 0) body
+  pub stands : TermStands all (getD places (bodiesPlace + mostDefined + j) 0) body
   pub few : size body ≤ 256
   pub leaves : LeavesFit (function .grammar .arguments) body
   pub sized : length area ≡ areaSize

@@ -1,9 +1,9 @@
 -- The constraints of a script and a response that pass can be run over a list that is points.
 use Prim.Native.Nat.{ℕ, _+_, _-_, _*_, _≤_, _<_}
 use native.Mathlib.Omega.{arith}
-use mathlib.Core.Path.{_≡_, _∙_}
+use mathlib.Core.Path.{_≡_, ap, _∙_}
 use mathlib.Core.List.{List, [], _∷_}
-use lib.ListN.{drop, length, length-drop, take}
+use lib.ListN.{drop, length, length-drop, length-take, take}
 use lib.Seq.{take-all}
 use Rattle.forest.proofs.Lists.{drop-next}
 use Rattle.bits.specs.Sorts.{AllFit}
@@ -13,9 +13,10 @@ use Rattle.terms.specs.Values.{numbersIn}
 use Rattle.terms.specs.declared.Value.{Value}
 use Rattle.terms.proofs.Sound.{Fits, one-value, pointScope}
 use Rattle.meaning.specs.Budget.{Priced}
-use Rattle.meaning.specs.Points.{pointAt, pointCount}
-use Rattle.meaning.specs.Steps.{AllValued, PointsRan, PointsRunnable, Pricing, TermsAt}
-use Rattle.meaning.specs.declared.Ran.{Ran}
+use Rattle.meaning.specs.Steps.{Pricing}
+use Rattle.running.specs.Points.{pointAt, pointCount}
+use Rattle.running.specs.Steps.{AllValued, PointsRan, PointsRunnable, TermsAt, mostConstraints}
+use Rattle.running.specs.declared.Ran.{Ran}
 use Rattle.script.specs.Tables.{ConstraintsAt, bodiesPlace, constraintsPlace, definitionsOf}
 use Rattle.script.specs.declared.Progress.{Progress}
 use Rattle.promises.specs.Sorted.{AllBool}
@@ -25,8 +26,8 @@ use Rattle.outcome.specs.Evaluated.{functionsWith, ranWith}
 use Rattle.assured.proofs.Bodies.{bodies-sorted, functions-sorted}
 use Rattle.outcome.proofs.Sorts.{terms-point-scope}
 use Rattle.evaluation.specs.Steps.{Constrained}
-use Rattle.meaning.proofs.GoodPoints.{GoodList, good-list, point-fits, whole}
-use Rattle.meaning.proofs.PointRuns.{sorts-by}
+use Rattle.running.proofs.GoodPoints.{GoodList, good-list, point-fits, whole}
+use Rattle.running.proofs.PointRuns.{sorts-by}
 use Rattle.evaluation.proofs.Tables.{defined-are, functions-are, tables-hold}
 
 -- What stands in a list from an index on, by its length.
@@ -105,6 +106,11 @@ module _ {places nodes : List ℕ} {p : Progress} {sorts points : List ℕ} (q :
           let room : constraintsPlace + 0 + length ts ≤ length places = omega (arith, placed .long, counted .constraints-are, counted .few-constraints) in
           rw (constraints-are, counted .constraints-are) (constraints-there (placed .all) places 0 ts room (placed .constraints-at))
 
+      -- They are few.
+      pub constraints-few : length constraints ≤ mostConstraints
+      constraints-few =
+          omega (arith, ap length constraints-are, length-take (p .constraints) (drop constraintsPlace places), q .tables .held .counted .few-constraints)
+
       -- They can be run at every point.
       abbrev pub runnable : PointsRunnable nodes bodies costs constraints sorts points
       runnable =
@@ -113,6 +119,7 @@ module _ {places nodes : List ℕ} {p : Progress} {sorts points : List ℕ} (q :
             funs = functionsWith (q .tables .known) (termsOf (q .tables .bodies));
             holds = tables-hold (q .tables .held) bodies-are;
             priced = priced;
+            few = constraints-few;
             terms = q .tables .known .constraints;
             terms-at = constraints-at;
             whole = list-whole;

@@ -3,14 +3,14 @@ use Prim.Native.Nat.{ℕ, _-_, _≤_}
 use mathlib.Core.Path.{_≡_, ap, sym, _∙_}
 use mathlib.Core.List.{List}
 use lib.ListN.{length}
-use Rattle.meaning.specs.Points.{pointsOf}
-use Rattle.meaning.specs.Running.{leftOf}
-use Rattle.meaning.specs.Steps.{SortsSmall}
-use Rattle.meaning.specs.declared.PointList.{PointList}
-use Rattle.meaning.specs.declared.PointList.the-variants.{Good}
-use Rattle.meaning.specs.declared.Ran.{Ran}
-use Rattle.meaning.specs.declared.Ran.the-variants.{Passed, False, Ended}
-use Rattle.naming.specs.Scopes.{sortsOf}
+use Rattle.running.specs.Points.{pointsOf}
+use Rattle.running.specs.Running.{leftOf}
+use Rattle.running.specs.Steps.{SortsSmall}
+use Rattle.running.specs.declared.PointList.{PointList}
+use Rattle.running.specs.declared.PointList.the-variants.{Good}
+use Rattle.running.specs.declared.Ran.{Ran}
+use Rattle.running.specs.declared.Ran.the-variants.{Passed, False, Ended}
+use Rattle.naming.specs.Scopes.{namedSorts}
 use Rattle.naming.specs.Table.{sortsFrom, variableRow}
 use Rattle.script.specs.declared.Progress.{Progress}
 use Rattle.script.specs.Tables.{definitionsOf}
@@ -19,7 +19,7 @@ use Rattle.outcome.specs.Derived.{termsOf}
 use Rattle.outcome.specs.Evaluated.{functionsWith, ranOutcome}
 use Rattle.outcome.specs.declared.Outcome.{Outcome}
 use Rattle.evaluation.specs.Steps.{Constrained, ConstraintsRan, Evaluable, pointsGive, pointsOutcome}
-use Rattle.meaning.proofs.Left.{points-left}
+use Rattle.running.proofs.Left.{points-left}
 
 -- An answer with so many units.
 abbrev pub withUnits : (units : ℕ) → Outcome → Outcome
@@ -39,7 +39,7 @@ module _ {names places nodes : List ℕ} {p : Progress} (q : Evaluable names pla
   sorts-long = sym (ap length read ∙ length-sorts names variableRow (p .variables))
 
   -- The sorts are those of the script's variables.
-  pub sorts-read : sorts ≡ sortsOf (q .known .variables)
+  pub sorts-read : sorts ≡ namedSorts (q .known .variables)
   sorts-read =
       let named = q .held .names-hold .variable-sorts in
       read ∙ ap (sortsFrom names variableRow) (q .held .counted .variables-are) ∙ named
@@ -66,7 +66,7 @@ module _ {names places nodes : List ℕ} {p : Progress} (q : Evaluable names pla
         budget-left =
             let k = q .known in
             let funs = functionsWith k (termsOf (q .bodies)) in
-            rw (got constrained) (points-left (definitionsOf (k .defined)) funs (sortsOf (k .variables)) points (k .constraints) n 0 budget)
+            rw (got constrained) (points-left (definitionsOf (k .defined)) funs (namedSorts (k .variables)) points (k .constraints) n 0 budget)
 
         -- Its answer is what the points give.
         pub run-evaluated : {r : Outcome} → r ≡ ranOutcome n budget ran → r ≡ pointsGive (q .known) (termsOf (q .bodies)) points budget

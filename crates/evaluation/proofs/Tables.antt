@@ -8,8 +8,8 @@ use lib.ListN.{drop, getD, length, length-map}
 use lib.Seq.{getD-drop}
 use Rattle.terms.specs.Labels.{Terms}
 use Rattle.terms.specs.Sorts.{Definition, signatures}
-use Rattle.meaning.specs.Tables.{BodiesAt, CallsDefined, CallsEarlier, FewArguments, Stands, TablesHold, mostDefined, mostFunctions}
-use Rattle.sorting.specs.Tables.{RowsAre, functionRow}
+use Rattle.meaning.specs.Tables.{BodiesAt, CallsDefined, CallsEarlier, FewArguments, TermStands, BodiesHold, mostDefined, mostFunctions}
+use Rattle.sorting.specs.Tables.{RowsAre, functionSignature}
 use Rattle.naming.specs.Scopes.{Defined, Function, signatureOf}
 use Rattle.script.specs.Script.{Known}
 use Rattle.script.specs.Tables.{bodiesPlace, definitionsOf}
@@ -39,7 +39,7 @@ module _ (all : Terms) (places : List ℕ) where
       let n = length earlier in
       let place : bodiesPlace + mostDefined + n ≡ bodiesPlace + (mostDefined + n) = omega arith in
       let node = ap (λ (i : ℕ). getD places i 0) place ∙ sym (getD-drop bodiesPlace places (mostDefined + n) 0) in
-      let here = subst (λ (i : ℕ). Stands all i (b .term)) node (more .0) in
+      let here = subst (λ (i : ℕ). TermStands all i (b .term)) node (more .0) in
       completed-at fs bs (record { signature = signatureOf f; body = b .term } ∷ earlier) (rw add-one at (more .2)) (here, before)
 
 module _ {names places nodes forms : List ℕ} {p : Progress} {k : Known} {bs : List Body} (h : Held names places nodes forms p k bs) where
@@ -61,7 +61,7 @@ module _ {names places nodes forms : List ℕ} {p : Progress} {k : Known} {bs : 
   -- So have synthesized functions.
   pub few-functions : FewArguments (functionsWith k (termsOf bs))
   few-functions =
-      few-arguments places functionRow (functionsWith k (termsOf bs))
+      few-arguments places functionSignature (functionsWith k (termsOf bs))
       (rw (signatures-same k bs (h .response)) (h .bodies-held .places-hold .function-rows))
 
   -- The body of each `define-fun` applies only those before it.
@@ -91,7 +91,7 @@ module _ {names places nodes forms : List ℕ} {p : Progress} {k : Known} {bs : 
     functions-at = rw bodies-are (completed-at (h .bodies-held .places-hold .all) places (inScriptOrder (k .functions)) bs [] (h .bodies-held .bodies-at) tt)
 
     -- The tables hold all of them.
-    abbrev pub tables-hold : TablesHold nodes bodies (definitionsOf (k .defined)) (functionsWith k (termsOf bs))
+    abbrev pub tables-hold : BodiesHold nodes bodies (definitionsOf (k .defined)) (functionsWith k (termsOf bs))
     tables-hold =
         record {
           all = h .bodies-held .places-hold .all;

@@ -3,11 +3,11 @@ use Prim.Native.Nat.{ℕ}
 use mathlib.Core.List.{List}
 use mathlib.Core.Path.{_≡_}
 use Rattle.terms.specs.Labels.{Terms}
-use Rattle.meaning.specs.Points.{pointsOf}
-use Rattle.meaning.specs.declared.PointList.{PointList}
-use Rattle.meaning.specs.declared.PointList.the-variants.{Good, Bad}
-use Rattle.meaning.specs.declared.Ran.{Ran}
-use Rattle.naming.specs.Scopes.{sortsOf}
+use Rattle.running.specs.Points.{pointsOf}
+use Rattle.running.specs.declared.PointList.{PointList}
+use Rattle.running.specs.declared.PointList.the-variants.{Good, Bad}
+use Rattle.running.specs.declared.Ran.{Ran}
+use Rattle.naming.specs.Scopes.{namedSorts}
 use Rattle.script.specs.Script.{Known}
 use Rattle.script.specs.declared.Progress.{Progress}
 use Rattle.response.specs.Response.{Body}
@@ -23,7 +23,7 @@ pointsOutcome k ts points budget (Good n) = ranOutcome n budget (ranWith k ts po
 
 -- What the points give.
 abbrev pub pointsGive : Known → List Terms → (points : List ℕ) → (budget : ℕ) → Outcome
-pointsGive k ts points budget = pointsOutcome k ts points budget (pointsOf (sortsOf (k .variables)) points)
+pointsGive k ts points budget = pointsOutcome k ts points budget (pointsOf (namedSorts (k .variables)) points)
 
 -- The tables hold a script and a response that pass.
 pub record Evaluable (names places nodes : List ℕ) (p : Progress) : Type 0 where
@@ -41,7 +41,7 @@ Evaluates names places nodes p points budget r =
 pub record Constrained (places nodes : List ℕ) (p : Progress) (sorts points : List ℕ) : Type 0 where
   pub names : List ℕ
   pub tables : Evaluable names places nodes p
-  pub sorts-are : sorts ≡ sortsOf (tables .known .variables)
+  pub sorts-are : sorts ≡ namedSorts (tables .known .variables)
   pub count : ℕ
   pub good : pointsOf sorts points ≡ Good count
 

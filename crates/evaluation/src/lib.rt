@@ -1,18 +1,18 @@
 //! The points and the run, of a script and a response whose tables are given.
-use meaning::PointList;
-use meaning::Ran;
 use meaning::costs::body_costs;
-use meaning::points::points_of;
-use meaning::running::left_of;
-use meaning::running::run_points;
 use naming::table::VARIABLES;
 use naming::table::sort_in;
 use outcome::Outcome;
+use running::PointList;
+use running::Ran;
+use running::points::points_of;
+use running::running::left_of;
+use running::running::run_points;
 use script::Progress;
 ghost use mathlib.Core.Path.{_≡_};
 ghost use Prim.Native.Nat.{_≤_};
 ghost use lib.ListN.{take};
-ghost use Rattle.meaning.specs.Running.{leftOf};
+ghost use Rattle.running.specs.Running.{leftOf};
 ghost use Rattle.naming.specs.Steps.{Names};
 ghost use Rattle.naming.specs.Table.{sortsFrom, variableRow};
 ghost use Rattle.outcome.specs.Evaluated.{ranOutcome};

@@ -15,7 +15,7 @@ use Rattle.terms.specs.Sorts.{withSort}
 use Rattle.sorting.specs.Forms.{faultFrom, formSorts, sorted, treeSort}
 use Rattle.gathering.specs.Table.{firstAt, rawRow, rawTable}
 use Rattle.gathering.specs.Terms.{Raw, firstWord}
-use Rattle.naming.specs.Scopes.{View, formOf, itemOr, means}
+use Rattle.naming.specs.Scopes.{View, formsOf, itemOr, means}
 use Rattle.faults.specs.Faults.{scopeOf, termFault}
 use Rattle.faults.specs.Steps.{Rising}
 use Rattle.faults.proofs.Forms.{size-form}
@@ -67,8 +67,8 @@ module _ (wordAt : ℕ → ℕ) (count nowhere : ℕ) where
 module _ (view : View) (count nowhere : ℕ) (whole : Forest Raw) (rest : List ℕ) {raw : List ℕ} (is : raw ≡ rawTable whole ++ rest) where
   -- The first fault of the terms from a node on, by nodes and by words.
   pub faults-agree : (k : ℕ) (F later : Forest Raw) (low high : ℕ) → from whole k ≡ join F later → k + size F ≤ count → high ≤ nowhere → Rising low high F
-      → Agree (firstAt raw) count nowhere k (k + size F) low high (faultFrom (scopeOf view) count k (formOf view F)) (termFault nowhere view F)
-  unfolding Rising faultFrom formOf formSorts join size termFault
+      → Agree (firstAt raw) count nowhere k (k + size F) low high (faultFrom (scopeOf view) count k (formsOf view F)) (termFault nowhere view F)
+  unfolding Rising faultFrom formsOf formSorts join size termFault
   faults-agree k none later low high here room below rising = clear refl refl
   faults-agree k (tree r ops others) later low high here room below rising =
       let mid = rising .0 in
@@ -81,7 +81,7 @@ module _ (view : View) (count nowhere : ℕ) (whole : Forest Raw) (rest : List �
       let behind = faults-agree (k + suc (size ops)) others later mid high (from-over whole k r ops (join others later) here) (omega arith) below (rising .5) in
       let word = first-word whole rest is k r ops (join others later) here in
       let words = firstAt raw in
-      let test = sorted (treeSort (scopeOf view) (itemOr (means view r)) (formSorts (scopeOf view) (formOf view ops))) in
+      let test = sorted (treeSort (scopeOf view) (itemOr (means view r)) (formSorts (scopeOf view) (formsOf view ops))) in
       let root : Agree words count nowhere k (k + suc (size ops)) low mid (cond test count k) (cond test nowhere (firstWord r)) =
       at-node words count nowhere test word (omega arith) least before
       in

@@ -6,11 +6,11 @@ use mathlib.Core.List.{List}
 use borrow.Author.Tests.{le-ltb, lt-ltb}
 use lib.ListN.{drop, length}
 use Rattle.forest.specs.Forest.{none, tree}
-use Rattle.words.specs.Trees.{Lexeme, list, literal, numeral, symbol, wordOf}
+use Rattle.scanning.specs.Trees.{Lexeme, list, literal, numeral, symbol, wordOf}
 use Rattle.lexemes.specs.Lists.{Items, inside, is, item}
 use Rattle.sorting.specs.Forms.{sortColumn}
 use Rattle.gathering.specs.Terms.{cutBy, firstWord, headedBy, operandsOf, rawOf, rawTerm, rawTerms, word}
-use Rattle.naming.specs.Scopes.{formOf}
+use Rattle.naming.specs.Scopes.{formsOf}
 use Rattle.faults.specs.Faults.{scopeOf, termFault}
 use Rattle.faults.specs.Steps.{BodyFound, BodySought, Found, RootAt, RootFits, Sought}
 use Rattle.faults.proofs.Forms.{from-first}
@@ -47,7 +47,7 @@ module _ {raw forms signatures column : List ℕ} {count sort nowhere : ℕ} {af
     rest = p .sought .rest;
     is-raw = p .sought .is-raw;
     view = p .sought .view;
-    more = drop (length (sortColumn (scopeOf (p .sought .view)) (formOf (p .sought .view) (p .sought .F)))) column;
+    more = drop (length (sortColumn (scopeOf (p .sought .view)) (formsOf (p .sought .view) (p .sought .F)))) column;
     is-column = found (p .sought) .column-is;
     root = rawOf (p .label) (p .operands);
     operands = operandsOf (p .operands);

@@ -10,7 +10,7 @@ use lib.Seq.{drop-drop, getD-drop}
 use Rattle.forest.specs.Forest.{Forest, from, join, none, size, tree}
 use Rattle.forest.proofs.Laws.{from-over}
 use Rattle.gathering.specs.Terms.{Raw, firstWord}
-use Rattle.naming.specs.Scopes.{Named, View, sortsOf}
+use Rattle.naming.specs.Scopes.{Named, View, namedSorts}
 use Rattle.rules.specs.Rules.{Ruled, sides, startTable}
 use Rattle.faults.specs.Faults.{oneSort, rawSorts, ruleMisfit}
 use Rattle.faults.specs.Steps.{AllSingle, HeadSort, Heads, RootAt, RootFits, RulesFound, RulesSought}
@@ -30,7 +30,7 @@ misfit-low nowhere view (r ∷ more) = omega (arith, misfit-low nowhere view mor
 -- The sorts of the non-terminals are in the table.
 abbrev pub heads : {raw rules signatures column : List ℕ} {count listed : ℕ} → RulesSought raw rules signatures column count listed → Heads signatures listed
 heads p = record {
-  sorts = sortsOf (p .view .nonTerminals);
+  sorts = namedSorts (p .view .nonTerminals);
   are = p .sorts-are;
   counted = p .listed-are ∙ sym (length-map (p .view .nonTerminals) (λ (n : Named). n .sort));
   few = p .few;
@@ -184,10 +184,10 @@ module _ {raw rules signatures column : List ℕ} {count listed nowhere : ℕ} w
           unfolding root-of ruleMisfit
           owed-behind p =
               let o = first-of p in
-              let sort-is : sort ≡ getD (sortsOf (p .view .nonTerminals)) (o .first .head) 0 =
-              sorts (heads p) .is ∙ ap (λ (k : ℕ). getD (sortsOf (p .view .nonTerminals)) k 0) (head-is ∙ o .head-is)
+              let sort-is : sort ≡ getD (namedSorts (p .view .nonTerminals)) (o .first .head) 0 =
+              sorts (heads p) .is ∙ ap (λ (k : ℕ). getD (namedSorts (p .view .nonTerminals)) k 0) (head-is ∙ o .head-is)
               in
-              let same = oneSort (rawSorts (p .view) (o .first .side)) (getD (sortsOf (p .view .nonTerminals)) (o .first .head) 0) in
+              let same = oneSort (rawSorts (p .view) (o .first .side)) (getD (namedSorts (p .view .nonTerminals)) (o .first .head) 0) in
               let found-is : found ≡ cond same nowhere (o .first .first) = rw (o .side-is, ← sort-is, ← o .first-is) (fits (root-of p)) in
               omega (arith, o .owed)
 

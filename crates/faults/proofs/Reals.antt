@@ -17,13 +17,13 @@ use Rattle.grammar.specs.Derivation.{nonTerminal, the}
 use Rattle.terms.specs.Labels.{defined, function, literal, name, operator}
 use Rattle.reserved.specs.Reserved.{isWord}
 use Rattle.sorting.specs.Tables.{AllReal, Real}
-use Rattle.words.specs.Table.{widthAt}
 use Rattle.lexemes.specs.Standing.{Source}
-use Rattle.lexemes.specs.Table.{codeAt, literalCode, valueAt}
+use Rattle.lexemes.specs.Table.{codeAt, literalCode, valueAt, widthAt}
 use Rattle.gathering.specs.Steps.{AllSay, Says}
 use Rattle.gathering.specs.Terms.{Raw, constant, cut, number, pattern, word}
-use Rattle.naming.specs.Scopes.{Defined, Function, Named, View, definedNames, formOf, functionNames, inOrder, isNamed, itemOr, means, namesOf}
-use Rattle.naming.specs.Scopes.{placeIn, signatureOf, sortsOf, symbolMeans}
+use Rattle.lookup.specs.Search.{placeIn}
+use Rattle.naming.specs.Scopes.{Defined, Function, Named, View, definedNames, formsOf, functionNames, inOrder, isNamed, itemOr, means, namesOf}
+use Rattle.naming.specs.Scopes.{signatureOf, namedSorts, symbolMeans}
 use Rattle.faults.specs.Faults.{scopeOf}
 
 -- A name that is one of the names has a place among them.
@@ -98,7 +98,7 @@ module _ (view : View) where
           cond t (some (the (literal 0 1 0)))
           (cond f (some (the (literal 0 0 0)))
           (cond o (cond x nothing (some (the (operator (operatorOf n) 0 0))))
-          (cond a (some (the (name (getD (sortsOf (view .names)) k 0) k)))
+          (cond a (some (the (name (getD (namedSorts (view .names)) k 0) k)))
           (cond d (some (the (defined (placeIn (inOrder (definedNames (view .defined))) 0 n))))
           (cond s (some (the (function (placeIn (inOrder (functionNames (view .functions))) 0 n))))
           (cond u (some (nonTerminal (placeIn (namesOf (view .nonTerminals)) 0 n)))
@@ -115,7 +115,7 @@ module _ (view : View) where
           listed-low (view .nonTerminals) (λ (m : Named). m .name) (λ (m : Named). m .sort) n eu
       go false false false x false ea false ed false es false eu = omega arith
 
-  module _ (s : Source) (fit : (i : ℕ) → codeAt (s .lexemes) i ≡ literalCode → Fit (widthAt (s .words) i) (valueAt (s .lexemes) i)) where
+  module _ (s : Source) (fit : (i : ℕ) → codeAt (s .lexemes) i ≡ literalCode → Fit (widthAt (s .lexemes) i) (valueAt (s .lexemes) i)) where
     -- What a node stands for.
     node-real : (r : Raw) → Says s r → Real (scopeOf view) (itemOr (means view r))
     node-real (word at head n) says = symbol-real n
@@ -134,7 +134,7 @@ module _ (view : View) where
     node-real (pattern at false sort held) says = tt
 
     -- What all nodes stand for.
-    pub all-real : (F : Forest Raw) → AllSay s F → AllReal (scopeOf view) (formOf view F)
-    unfolding AllReal AllSay formOf
+    pub all-real : (F : Forest Raw) → AllSay s F → AllReal (scopeOf view) (formsOf view F)
+    unfolding AllReal AllSay formsOf
     all-real none say = tt
     all-real (tree r ops rest) say = (node-real r (say .0), all-real ops (say .1), all-real rest (say .2))

@@ -16,7 +16,7 @@ use Rattle.terms.specs.Sorts.{withSort}
 use Rattle.sorting.specs.Forms.{formSorts, sortColumn, sortNumber, treeSort}
 use Rattle.sorting.proofs.Columns.{column-at, column-length}
 use Rattle.gathering.specs.Table.{firstAt}
-use Rattle.naming.specs.Scopes.{formOf, itemOr, means}
+use Rattle.naming.specs.Scopes.{formsOf, itemOr, means}
 use Rattle.faults.specs.Faults.{oneSort, rawSorts, scopeOf}
 use Rattle.faults.specs.Steps.{RootAt, RootFits}
 use Rattle.faults.proofs.Agreeing.{first-word}
@@ -41,22 +41,22 @@ module _ {raw column : List ℕ} {node sort : ℕ} where
   pub root-within : RootAt raw column node sort → node < length column
   root-within p =
       let low = inside (p .F) node (record { l = p .root; ops = p .operands; rest = p .later; is = p .here }) in
-      let long = ap length (p .is-column) ∙ length-append (sortColumn (scopeOf (p .view)) (formOf (p .view) (p .F))) (p .more) in
-      omega (arith, column-length (scopeOf (p .view)) (formOf (p .view) (p .F)), size-form (p .view) (p .F))
+      let long = ap length (p .is-column) ∙ length-append (sortColumn (scopeOf (p .view)) (formsOf (p .view) (p .F))) (p .more) in
+      omega (arith, column-length (scopeOf (p .view)) (formsOf (p .view) (p .F)), size-form (p .view) (p .F))
 
   -- It is the number of the sort of the node's tree.
   root-number : (p : RootAt raw column node sort)
       → getD column node 0 ≡ sortNumber (treeSort (scopeOf (p .view)) (itemOr (means (p .view) (p .root))) (rawSorts (p .view) (p .operands)))
   root-number p =
-      let front = sortColumn (scopeOf (p .view)) (formOf (p .view) (p .F)) in
+      let front = sortColumn (scopeOf (p .view)) (formsOf (p .view) (p .F)) in
       let written : over front (front ++ p .more) ≡ front ++ p .more = ap (λ (l : List ℕ). front ++ l) (drop-append-seam front (p .more)) in
       ap (λ (l : List ℕ). getD l node 0) (p .is-column ∙ sym written)
-      ∙ column-at (scopeOf (p .view)) (formOf (p .view) (p .F)) (front ++ p .more) node _ _ _
+      ∙ column-at (scopeOf (p .view)) (formsOf (p .view) (p .F)) (front ++ p .more) node _ _ _
       (form-at (p .view) (p .F) node (p .root) (p .operands) (p .later) (p .here))
 
   -- So it tells whether the tree has the sort.
   root-test : (p : RootAt raw column node sort) → oneSort (rawSorts (p .view) (tree (p .root) (p .operands) none)) sort ≡ eqb (getD column node 0) (sort + 1)
-  unfolding formOf formSorts
+  unfolding formsOf formSorts
   root-test p = one-sort _ sort ∙ ap (λ (n : ℕ). eqb n (sort + 1)) (sym (root-number p))
 
   -- The tree has the sort.

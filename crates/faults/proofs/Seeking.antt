@@ -8,7 +8,7 @@ use Rattle.forest.specs.Forest.{none, size}
 use Rattle.forest.proofs.Laws.{join-none}
 use Rattle.sorting.specs.Steps.{SortsFilled, SortsFilling}
 use Rattle.gathering.specs.Table.{firstAt}
-use Rattle.naming.specs.Scopes.{formOf}
+use Rattle.naming.specs.Scopes.{formsOf}
 use Rattle.faults.specs.Faults.{scopeOf, termFault}
 use Rattle.faults.specs.Steps.{Found, Sought}
 use Rattle.faults.proofs.Agreeing.{Agree, clear, faulty, faults-agree}
@@ -20,11 +20,11 @@ module _ {raw forms signatures column : List ℕ} {count nowhere : ℕ} where
   abbrev pub filling : Sought raw forms signatures column count nowhere → SortsFilling forms signatures count column
   filling p = record {
     given = record {
-      F = formOf (p .view) (p .F);
+      F = formsOf (p .view) (p .F);
       scope = scopeOf (p .view);
       rest = p .more;
       is-forms = p .is-forms;
-      real = all-real (p .view) (p .source) (p .lawful .fit) (p .F) (p .say);
+      real = all-real (p .view) (p .source) (p .lawful .bounded .fit) (p .F) (p .say);
       defined-are = p .signed .defined-are;
       functions-are = p .signed .functions-are;
       nonTerminals-are = p .signed .nonTerminals-are;

@@ -1,15 +1,15 @@
 -- 8, "sort fault", in terms whose names are known, and 9 in rules: the least word at fault; nowhere, a number past every word, where there is none.
 use Prim.Native.Nat.{ℕ, min}
-use mathlib.Core.Bool.{Bool, true, false, cond}
+use mathlib.Core.Bool.{Bool, false, cond}
 use mathlib.Core.List.{List, [], _∷_, map}
 use mathlib.Core.Option.{Option, none as nothing, some}
 use lib.Dec.{eqb, ltb}
 use lib.ListN.{getD}
 use Rattle.forest.specs.Forest.{Forest, none, tree}
 use Rattle.sorting.specs.Forms.{FormScope, formSorts, sorted}
-use Rattle.words.specs.Trees.{Lexeme, wordOf}
+use Rattle.scanning.specs.Trees.{Lexeme, wordOf}
 use Rattle.lexemes.specs.Lists.{Items}
-use Rattle.naming.specs.Scopes.{Defined, View, formOf, signatureOf, sortsOf}
+use Rattle.naming.specs.Scopes.{Defined, View, formsOf, signatureOf, namedSorts}
 use Rattle.gathering.specs.Terms.{Raw, firstWord, rawTerm}
 use Rattle.rules.specs.Rules.{Ruled}
 
@@ -17,16 +17,16 @@ use Rattle.rules.specs.Rules.{Ruled}
 abbrev pub scopeOf : View → FormScope
 scopeOf view = record {
   terms = record {
-    names = sortsOf (view .names);
+    names = namedSorts (view .names);
     defined = map (λ (d : Defined). d .definition .signature) (view .defined);
     functions = map signatureOf (view .functions);
   };
-  nonTerminals = sortsOf (view .nonTerminals);
+  nonTerminals = namedSorts (view .nonTerminals);
 }
 
 -- The sorts of terms; none where one has a fault.
 abbrev pub rawSorts : View → Forest Raw → Option (List ℕ)
-rawSorts view F = formSorts (scopeOf view) (formOf view F)
+rawSorts view F = formSorts (scopeOf view) (formsOf view F)
 
 -- "first word .. of a faulty term whose operands have none". The code finds the node by its number (`sorting/specs/Forms: faultFrom`, the same by nodes).
 unfoldable pub termFault : (nowhere : ℕ) → View → Forest Raw → ℕ
@@ -54,5 +54,5 @@ bodyFault nowhere view s l ops =
 unfoldable pub ruleMisfit : (nowhere : ℕ) → View → List Ruled → ℕ
 ruleMisfit nowhere view [] = nowhere
 ruleMisfit nowhere view (r ∷ more) =
-    let same = oneSort (rawSorts view (r .side)) (getD (sortsOf (view .nonTerminals)) (r .head) 0) in
+    let same = oneSort (rawSorts view (r .side)) (getD (namedSorts (view .nonTerminals)) (r .head) 0) in
     min (cond same nowhere (r .first)) (ruleMisfit nowhere view more)

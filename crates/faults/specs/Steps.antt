@@ -7,18 +7,17 @@ use lib.ListN.{getD, length}
 use Rattle.forest.specs.Forest.{Forest, from, nodesOf, none, size, tree}
 use Rattle.forest.specs.Rows.{over}
 use Rattle.bits.specs.Sorts.{Fit, maxWidth}
-use Rattle.words.specs.Table.{widthAt}
-use Rattle.words.specs.Trees.{Lexeme}
+use Rattle.scanning.specs.Trees.{Lexeme}
 use Rattle.grammar.specs.Tables.{formTable}
 use Rattle.sorting.specs.Forms.{sortColumn}
-use Rattle.sorting.specs.Tables.{RowsAre, SortsAre, functionRow, nonTerminalRow}
+use Rattle.sorting.specs.Tables.{RowsAre, SortsAre, functionSignature, nonTerminalSignature}
 use Rattle.lexemes.specs.Lists.{Items}
 use Rattle.lexemes.specs.Standing.{Source}
-use Rattle.lexemes.specs.Table.{codeAt, literalCode, valueAt}
+use Rattle.lexemes.specs.Table.{codeAt, literalCode, valueAt, widthAt}
 use Rattle.gathering.specs.Steps.{AllSay}
 use Rattle.gathering.specs.Table.{rawTable}
 use Rattle.gathering.specs.Terms.{Raw, firstWord, rawTerm}
-use Rattle.naming.specs.Scopes.{View, formOf, sortsOf}
+use Rattle.naming.specs.Scopes.{View, formsOf, namedSorts}
 use Rattle.naming.specs.Steps.{Bounded, ShortNames}
 use Rattle.naming.specs.Unknown.{unknownIn}
 use Rattle.rules.specs.Rules.{Ruled, sides, startTable}
@@ -28,7 +27,6 @@ use Rattle.faults.specs.Faults.{bodyFault, oneSort, rawSorts, ruleMisfit
 pub record Lawful (s : Source) (nowhere : ℕ) : Type 0 where
   pub bounded : Bounded s
   pub short : ShortNames s
-  pub fit : (i : ℕ) → codeAt (s .lexemes) i ≡ literalCode → Fit (widthAt (s .words) i) (valueAt (s .lexemes) i)
   pub ends : (i : ℕ) → 0 < codeAt (s .lexemes) i → i < nowhere
 
 -- The first words of the nodes rise from `low` on, in the order of the text, and stand before `high`.
@@ -40,8 +38,8 @@ Rising low high (tree r ops rest) =
 -- The rows of a table hold the signatures of what a view has.
 pub record Signed (signatures : List ℕ) (view : View) : Type 0 where
   pub defined-are : RowsAre signatures 0 (scopeOf view .terms .defined)
-  pub functions-are : RowsAre signatures functionRow (scopeOf view .terms .functions)
-  pub nonTerminals-are : SortsAre signatures nonTerminalRow (scopeOf view .nonTerminals)
+  pub functions-are : RowsAre signatures functionSignature (scopeOf view .terms .functions)
+  pub nonTerminals-are : SortsAre signatures nonTerminalSignature (scopeOf view .nonTerminals)
   pub few-defined : length (view .defined) ≤ 32
   pub few-functions : length (view .functions) ≤ 8
   pub few-nonTerminals : length (view .nonTerminals) ≤ 16
@@ -59,7 +57,7 @@ pub record Sought (raw forms signatures column : List ℕ) (count nowhere : ℕ)
   pub view : View
   pub known : unknownIn nowhere view (nodesOf F) ≡ nowhere
   pub more : List ℕ
-  pub is-forms : forms ≡ formTable (formOf view F) ++ more
+  pub is-forms : forms ≡ formTable (formsOf view F) ++ more
   pub signed : Signed signatures view
   pub room : count ≤ length column
 
@@ -67,7 +65,7 @@ pub record Sought (raw forms signatures column : List ℕ) (count nowhere : ℕ)
 pub record Found {raw forms signatures column : List ℕ} {count nowhere : ℕ} (p : Sought raw forms signatures column count nowhere)
     (columnAfter : List ℕ) (r : ℕ) : Type 0 where
   pub place-is : r ≡ termFault nowhere (p .view) (p .F)
-  pub column-is : columnAfter ≡ over (sortColumn (scopeOf (p .view)) (formOf (p .view) (p .F))) column
+  pub column-is : columnAfter ≡ over (sortColumn (scopeOf (p .view)) (formsOf (p .view) (p .F))) column
 
 -- The term that an item is, and a sort.
 pub record BodySought (raw forms signatures column : List ℕ) (count sort nowhere : ℕ) : Type 0 where
@@ -98,7 +96,7 @@ pub record RootAt (raw column : List ℕ) (node sort : ℕ) : Type 0 where
   pub is-raw : raw ≡ rawTable F ++ rest
   pub view : View
   pub more : List ℕ
-  pub is-column : column ≡ sortColumn (scopeOf view) (formOf view F) ++ more
+  pub is-column : column ≡ sortColumn (scopeOf view) (formsOf view F) ++ more
   pub root : Raw
   pub operands : Forest Raw
   pub later : Forest Raw
@@ -112,7 +110,7 @@ RootFits {sort = sort} p nowhere r = r ≡ cond (oneSort (rawSorts (p .view) (tr
 -- The sorts of so many non-terminals, in the table of signatures.
 pub record Heads (signatures : List ℕ) (listed : ℕ) : Type 0 where
   pub sorts : List ℕ
-  pub are : SortsAre signatures nonTerminalRow sorts
+  pub are : SortsAre signatures nonTerminalSignature sorts
   pub counted : listed ≡ length sorts
   pub few : listed ≤ 16
 
@@ -132,8 +130,8 @@ pub record RulesSought (raw rules signatures column : List ℕ) (count listed : 
   pub counted : count ≡ length ruled
   pub view : View
   pub more : List ℕ
-  pub is-column : column ≡ sortColumn (scopeOf view) (formOf view (sides ruled)) ++ more
-  pub sorts-are : SortsAre signatures nonTerminalRow (sortsOf (view .nonTerminals))
+  pub is-column : column ≡ sortColumn (scopeOf view) (formsOf view (sides ruled)) ++ more
+  pub sorts-are : SortsAre signatures nonTerminalSignature (namedSorts (view .nonTerminals))
   pub listed-are : listed ≡ length (view .nonTerminals)
   pub few : listed ≤ 16
 

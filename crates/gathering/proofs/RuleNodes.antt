@@ -11,7 +11,7 @@ use Rattle.forest.specs.Forest.{Node, count, nodesOf, none, size, tree}
 use Rattle.forest.specs.Rows.{rows}
 use Rattle.forest.proofs.Laws.{size-join}
 use Rattle.forest.proofs.Nodes.{length-nodes, nodes-join}
-use Rattle.words.specs.Trees.{wordOf}
+use Rattle.scanning.specs.Trees.{wordOf}
 use Rattle.lexemes.specs.Lists.{inside, is, item}
 use Rattle.lexemes.specs.Standing.{ItemAt, Source, Stands, ends, word}
 use Rattle.lexemes.specs.Table.{nextAt}
@@ -43,7 +43,7 @@ module _ {lexemes : List ℕ} {at : ℕ} {raw : List ℕ} {node : ℕ} where
   rule-end : (p : GatheringRule lexemes at raw node) → nextAt lexemes at ≡ p .end
   rule-end p = none-ends (here (p .same) (p .stands) .rest)
 
-  pub rule-room : (p : GatheringRule lexemes at raw node) → 3 * at < length lexemes
+  pub rule-room : (p : GatheringRule lexemes at raw node) → 6 * at < length lexemes
   rule-room p = here (p .same) (p .stands) .room
 
   pub row-room : (p : GatheringRule lexemes at raw node) → 4 * node + 4 ≤ length raw

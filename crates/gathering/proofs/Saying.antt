@@ -10,7 +10,7 @@ use borrow.Author.Tests.{eqb-true}
 use Rattle.forest.specs.Forest.{count, none, tree}
 use Rattle.forest.specs.Lists.{sameBytes, spelling}
 use Rattle.forest.proofs.Bools.{and-left, and-right, apart}
-use Rattle.words.specs.Trees.{Lexeme, list, literal, numeral, symbol}
+use Rattle.scanning.specs.Trees.{Lexeme, list, literal, numeral, symbol}
 use Rattle.reserved.specs.Reserved.{isOneOf, isWord, wordNumber}
 use Rattle.reserved.proofs.Numbers.{by-number, isKnown, numberOf}
 use Rattle.lexemes.specs.Lists.{Items, inside, is, isAmong, isList, item}

@@ -7,9 +7,9 @@ use mathlib.Core.List.{List}
 use lib.Dec.{eqb}
 use Rattle.forest.specs.Forest.{count, none, tree}
 use Rattle.forest.proofs.Bools.{and-left, and-right, apart}
-use Rattle.words.specs.Trees.{Lexeme, list, literal, numeral, symbol, wordOf}
+use Rattle.scanning.specs.Trees.{Lexeme, list, literal, numeral, symbol, wordOf}
 use Rattle.forest.specs.Lists.{sameBytes}
-use Rattle.lexemes.specs.Lists.{Items, after, allNumerals, indexed, inside, is, isNumeral, item, numberOf}
+use Rattle.lexemes.specs.Lists.{Items, after, allNumerals, indexed, inside, is, isNumeral, item, numeralOf}
 use Rattle.lexemes.specs.Standing.{ListIs, Source, Stands, WordIs, bracketed, ends, word}
 use Rattle.lexemes.specs.Table.{codeAt, numeralCode, valueAt}
 use Rattle.shapes.specs.Shapes.{applicationShape, headShape, termShapes}
@@ -18,8 +18,8 @@ use Rattle.shapes.specs.Shapes.{applicationShape, headShape, termShapes}
 pub record CutAt (s : Source) (i : ℕ) (F : Items) : Type 0 where
   pub placed : wordOf (item 2 F) ≡ i + 2
   pub coded : codeAt (s .lexemes) (i + 2) ≡ numeralCode
-  pub high : valueAt (s .lexemes) (i + 2) ≡ numberOf (item 2 F)
-  pub low : valueAt (s .lexemes) (i + 3) ≡ numberOf (item 3 F)
+  pub high : valueAt (s .lexemes) (i + 2) ≡ numeralOf (item 2 F)
+  pub low : valueAt (s .lexemes) (i + 3) ≡ numeralOf (item 3 F)
 
 -- What a list that is a term holds, where its items stand behind word `at`: what `(_ extract i j)` holds; or a head, which is a symbol or `(_ extract i j)`,
 -- and operands.
@@ -34,7 +34,7 @@ pub data ListTerm (s : Source) (at : ℕ) : Items → Type 0 where
 pub record NumeralAt (s : Source) (i : ℕ) (l : Lexeme) : Type 0 where
   pub placed : wordOf l ≡ i
   pub coded : codeAt (s .lexemes) i ≡ numeralCode
-  pub valued : valueAt (s .lexemes) i ≡ numberOf l
+  pub valued : valueAt (s .lexemes) i ≡ numeralOf l
 
 -- Two numerals stand at word i.
 pub record TwoNumerals (s : Source) (i : ℕ) (F : Items) : Type 0 where

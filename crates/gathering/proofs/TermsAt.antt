@@ -10,7 +10,7 @@ use lib.ListN.{length}
 use Rattle.forest.specs.Forest.{count, none, tree}
 use Rattle.forest.proofs.Bools.{and-left, and-right, apart}
 use Rattle.forest.proofs.Laws.{Tree}
-use Rattle.words.specs.Trees.{Lexeme, list, literal, numeral, symbol, wordOf}
+use Rattle.scanning.specs.Trees.{Lexeme, list, literal, numeral, symbol, wordOf}
 use Rattle.forest.specs.Lists.{sameBytes}
 use Rattle.lexemes.specs.Lists.{Items, after, inside, is, isList, item}
 use Rattle.lexemes.specs.Standing.{Between, ItemAt, Source, Stands}
@@ -101,7 +101,7 @@ module _ {lexemes : List ℕ} {at : ℕ} (x : TermAt lexemes at) where
     stands = x .stands;
   }
 
-  pub term-room : 3 * at < length lexemes
+  pub term-room : 6 * at < length lexemes
   term-room = item-room term-item
 
   pub opened : isList (x .label) ≡ true → Opened x

@@ -12,7 +12,7 @@ use Rattle.forest.specs.Rows.{rows}
 use Rattle.forest.proofs.Bools.{and-left, apart}
 use Rattle.forest.proofs.Laws.{Tree}
 use Rattle.forest.proofs.Nodes.{length-nodes, nodes-join}
-use Rattle.words.specs.Trees.{Lexeme, list, literal, numeral, symbol, wordOf}
+use Rattle.scanning.specs.Trees.{Lexeme, list, literal, numeral, symbol, wordOf}
 use Rattle.forest.specs.Lists.{sameBytes}
 use Rattle.lexemes.specs.Lists.{Items, inside, is, isList, item}
 use Rattle.lexemes.specs.Standing.{Source, Stands}

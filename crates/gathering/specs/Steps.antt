@@ -7,11 +7,10 @@ use lib.ListN.{length}
 use Rattle.forest.specs.Forest.{Forest, Node, from, join, nodesOf, none, size, tree}
 use Rattle.forest.specs.Rows.{rows}
 use Rattle.forest.specs.Lists.{spelling}
-use Rattle.words.specs.Table.{widthAt}
-use Rattle.words.specs.Trees.{Lexeme}
+use Rattle.scanning.specs.Trees.{Lexeme}
 use Rattle.lexemes.specs.Lists.{Items, is, isList, item}
 use Rattle.lexemes.specs.Standing.{Source, Stands, spelt}
-use Rattle.lexemes.specs.Table.{codeAt, literalCode, nextAt, numeralCode, symbolCode, valueAt}
+use Rattle.lexemes.specs.Table.{codeAt, literalCode, nextAt, numeralCode, symbolCode, valueAt, widthAt}
 use Rattle.shapes.specs.Shapes.{ruleShape, sortShape, termShapes}
 use Rattle.gathering.specs.Terms.{Raw, constant, cut, nodeWord, number, pattern, rawRule, rawTerms, word, writtenOf}
 use Rattle.gathering.specs.Table.{rawRow, rawTable, uncounted, uncountedTable}
@@ -115,7 +114,7 @@ pub record SaysWord (s : Source) (head : ℕ) (name : List ℕ) : Type 0 where
 pub record SaysConstant (s : Source) (at width v written : ℕ) : Type 0 where
   pub coded : codeAt (s .lexemes) at ≡ literalCode
   pub valued : valueAt (s .lexemes) at ≡ v
-  pub wide : widthAt (s .words) at ≡ width
+  pub wide : widthAt (s .lexemes) at ≡ width
   pub cased : writtenOf (spelt s at) ≡ written
 
 -- What the words say of `(_ extract i j)`.

@@ -6,8 +6,8 @@ use mathlib.Core.List.{List, [], _∷_}
 use lib.Dec.{eqb, leb}
 use lib.ListN.{drop, getD}
 use Rattle.forest.specs.Forest.{Forest, Node, none, tree}
-use Rattle.words.specs.Trees.{Lexeme, list, literal, numeral, symbol, wordOf}
-use Rattle.lexemes.specs.Lists.{Items, inside, is, item, numberOf}
+use Rattle.scanning.specs.Trees.{Lexeme, list, literal, numeral, symbol, wordOf}
+use Rattle.lexemes.specs.Lists.{Items, inside, is, item, numeralOf}
 use Rattle.shapes.specs.Shapes.{isPattern}
 
 -- A node of a term, with its first word.
@@ -59,7 +59,7 @@ writtenOf bytes = cond (eqb (getD bytes 1 0) (code "x")) (cases 1 (drop 2 bytes)
 
 -- The node of `(_ extract i j)`, by its first word and the items of the list.
 abbrev pub cutBy : (at : ℕ) → Items → Raw
-cutBy at items = cut at (wordOf (item 2 items)) (numberOf (item 2 items)) (numberOf (item 3 items))
+cutBy at items = cut at (wordOf (item 2 items)) (numeralOf (item 2 items)) (numeralOf (item 3 items))
 
 -- The node that a list is, by its first word, its head and what the head holds; the shape admits no other heads than a symbol and `(_ extract i j)`.
 abbrev pub headedBy : (at : ℕ) → Lexeme → (held ops : Items) → Raw

@@ -6,20 +6,20 @@ use mathlib.Core.Bool.{Bool, true}
 use mathlib.Core.List.{List}
 use Rattle.forest.proofs.Bools.{and-left, and-right}
 use Rattle.forest.specs.Forest.{tree}
-use Rattle.words.specs.Trees.{Lexeme, list}
+use Rattle.scanning.specs.Trees.{Lexeme, list}
 use Rattle.lexemes.specs.Lists.{Items, closeOf, isList, isSymbol, item}
 use Rattle.lexemes.specs.Standing.{Between, ListAt, Source, Stands}
 use Rattle.lexemes.specs.Table.{nextAt}
 use Rattle.lexemes.proofs.Listed.{at-item, held, list-from}
 use Rattle.lexemes.proofs.Standing.{forward}
-use Rattle.shapes.specs.Shapes.{all, groupShape, listOf, pairShape, synthFunShape}
+use Rattle.shapes.specs.Shapes.{all, groupShape, isListOf, pairShape, synthFunShape}
 use Rattle.sorts.specs.Steps.{ShapedAt, SortAt, SynthFunAt}
 use Rattle.sorts.proofs.Commands.{come-declared, grammar-groups, grammar-pairs, header, header-sort, synth-fun-parts}
 use Rattle.sorts.proofs.Walked.{come-next, item-come}
 use Rattle.grammars.specs.Steps.{groupsWord, nonTerminalsWord, resultWord}
 use Rattle.grammars.proofs.Within.{amid}
 
-module _ (shape : Lexeme → Items → Bool) {lexemes : List ℕ} {at : ℕ} (p : ShapedAt (listOf shape) lexemes at) where
+module _ (shape : Lexeme → Items → Bool) {lexemes : List ℕ} {at : ℕ} (p : ShapedAt (isListOf shape) lexemes at) where
   -- a list of items of a shape is a list
   pub is-list : isList (p .here .label) ≡ true
   is-list = and-left (isList (p .here .label)) (all shape (p .here .operands)) (p .shaped)
@@ -67,7 +67,7 @@ module _ {lexemes : List ℕ} {at : ℕ} (p : SynthFunAt lexemes at) where
   result-sort er = header-sort (header p) refl er
 
   -- the non-terminals
-  abbrev pub pairs : {list : ℕ} → list ≡ nonTerminalsWord lexemes at → ShapedAt (listOf pairShape) lexemes list
+  abbrev pub pairs : {list : ℕ} → list ≡ nonTerminalsWord lexemes at → ShapedAt (isListOf pairShape) lexemes list
   pairs el = grammar-pairs refl refl el p
 
   -- which stand in their list
@@ -76,7 +76,7 @@ module _ {lexemes : List ℕ} {at : ℕ} (p : SynthFunAt lexemes at) where
 
   module _ {list : ℕ} (el : list ≡ groupsWord lexemes at) where
     -- what is listed of each
-    abbrev pub groups : ShapedAt (listOf groupShape) lexemes list
+    abbrev pub groups : ShapedAt (isListOf groupShape) lexemes list
     groups = grammar-groups refl refl refl el p
 
     -- which ends before the command does

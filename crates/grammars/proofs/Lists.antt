@@ -9,7 +9,7 @@ use Rattle.listing.specs.Steps.{GroupsAt, ListingTested, PairsAt, StartTested}
 use Rattle.grammars.specs.Steps.{Declared, ListsTested, groupsWord, nonTerminalsWord, resultWord}
 use Rattle.grammars.proofs.Commands.{as-list, closes, command-at, groups, items-shaped, pairs, result-sort}
 
-module _ {text words lexemes names : List ℕ} {at listed : ℕ} (p : Declared text words lexemes names at listed) where
+module _ {text lexemes names : List ℕ} {at listed : ℕ} (p : Declared text lexemes names at listed) where
   -- the command
   abbrev pub command-of : SynthFunAt lexemes at
   command-of = command-at (p .stands) (p .named) (p .shaped)
@@ -23,7 +23,7 @@ module _ {text words lexemes names : List ℕ} {at listed : ℕ} (p : Declared t
   pairs-of el = record { here = as-list pairShape (pairs command-of el); shaped = items-shaped pairShape (pairs command-of el) }
 
   -- the list that has them again
-  abbrev pub groups-of : {list : ℕ} → list ≡ groupsWord lexemes at → GroupsAt text words lexemes names list listed
+  abbrev pub groups-of : {list : ℕ} → list ≡ groupsWord lexemes at → GroupsAt text lexemes names list listed
   groups-of el =
       let x = as-list groupShape (groups command-of el) in
       record {
@@ -41,12 +41,12 @@ module _ {text words lexemes names : List ℕ} {at listed : ℕ} (p : Declared t
       }
 
 -- the word is found
-pub lists-tested : {text words lexemes names : List ℕ} {at listed : ℕ} {nonTerminals : ℕ} → nonTerminals ≡ nonTerminalsWord lexemes at
+pub lists-tested : {text lexemes names : List ℕ} {at listed : ℕ} {nonTerminals : ℕ} → nonTerminals ≡ nonTerminalsWord lexemes at
     → {list : ℕ} → list ≡ groupsWord lexemes at → {result : ℕ} → result ≡ resultWord lexemes at
     → {sort : ℕ} → ((q : SortAt lexemes result) → sort ≡ sortOf (q .here .label) (q .here .operands))
     → (nowhere : ℕ) {start : ℕ} → ((q : PairsAt lexemes nonTerminals) → StartTested q sort nowhere start)
-    → {again : ℕ} → ((q : GroupsAt text words lexemes names list listed) → ListingTested q nowhere again)
-    → {r : ℕ} → r ≡ min start again → (p : Declared text words lexemes names at listed) → ListsTested p nowhere r
+    → {again : ℕ} → ((q : GroupsAt text lexemes names list listed) → ListingTested q nowhere again)
+    → {r : ℕ} → r ≡ min start again → (p : Declared text lexemes names at listed) → ListsTested p nowhere r
 lists-tested en el er by-sort nowhere by-start by-groups e p =
     rw (closes pairShape (pairs (command-of p) en), closes groupShape (groups (command-of p) el), ← by-sort (sort-of p er))
     (e ∙ ap₂ min (by-start (pairs-of p en)) (by-groups (groups-of p el)))

@@ -29,8 +29,8 @@ abbrev pub seenIn : Scope → (listed : ℕ) → Seen
 seenIn scope listed =
     record { first = scope .first; names = scope .arguments; defined = scope .defined; functions = 0; «non_terminals» = listed }
 
-module _ {text words lexemes names raw forms : List ℕ} {scope : Scope} {at nodes base nowhere : ℕ}
-    (p : Naming text words lexemes names raw forms scope at nodes base nowhere) where
+module _ {text lexemes names raw forms : List ℕ} {scope : Scope} {at nodes base nowhere : ℕ}
+    (p : Naming text lexemes names raw forms scope at nodes base nowhere) where
   -- the command
   abbrev pub command-of : SynthFunAt lexemes at
   command-of = command-at (p .stands) (p .named) (p .shaped)
@@ -45,7 +45,7 @@ module _ {text words lexemes names raw forms : List ℕ} {scope : Scope} {at nod
     pairs-in = pairs-between command-of el ec
 
     -- and are new names
-    abbrev pub new-in : NewPairs text words lexemes names scope nonTerminalRow (list + 1) close
+    abbrev pub new-in : NewPairs text lexemes names scope nonTerminalRow (list + 1) close
     new-in = record {
       items = inside 4 (p .command);
       stands = pairs-in .stands;
@@ -61,7 +61,7 @@ module _ {text words lexemes names raw forms : List ℕ} {scope : Scope} {at nod
 
     module _ {listed : ℕ} (known : (b : Between lexemes (list + 1) close) → listed ≡ count (b .items))
         {namesAfter : List ℕ} {new : ℕ}
-        (by-new : (q : NewPairs text words lexemes names scope nonTerminalRow (list + 1) close) → PairsNamed q nowhere namesAfter new) where
+        (by-new : (q : NewPairs text lexemes names scope nonTerminalRow (list + 1) close) → PairsNamed q nowhere namesAfter new) where
       -- the rows hold what its rules see
       pub sees : Sees namesAfter (seenIn scope listed) (viewIn p)
       unfolding inOrder namesFrom
@@ -84,7 +84,7 @@ module _ {text words lexemes names raw forms : List ℕ} {scope : Scope} {at nod
 
       module _ {rawAfter : List ℕ} (by-nodes : (q : Counting raw nodes) → Counted q rawAfter) where
         -- its rules are to be looked up
-        abbrev pub rules-of : Resolving namesAfter text words lexemes rawAfter forms (seenIn scope listed) nodes base
+        abbrev pub rules-of : Resolving namesAfter text lexemes rawAfter forms (seenIn scope listed) nodes base
         rules-of =
             let shaped = groups command-of refl in
             let b = items-between (as-list groupShape shaped) refl in
@@ -104,7 +104,7 @@ module _ {text words lexemes names raw forms : List ℕ} {scope : Scope} {at nod
         -- the names are known and the word is found
         pub grammar-named : {sorts : ℕ} → ((q : SynthFunAt lexemes at) → sorts ≡ grammarSorts Unknown nowhere (q .here .operands))
             → {formsAfter : List ℕ} {unknown : ℕ}
-            → ((q : Resolving namesAfter text words lexemes rawAfter forms (seenIn scope listed) nodes base) → Resolved q nowhere formsAfter unknown)
+            → ((q : Resolving namesAfter text lexemes rawAfter forms (seenIn scope listed) nodes base) → Resolved q nowhere formsAfter unknown)
             → {later : ℕ} → later ≡ min sorts unknown → {r : ℕ} → r ≡ min new later → GrammarNamed p namesAfter rawAfter formsAfter r
         grammar-named by-sorts by-forms e-later e =
             let after = by-new new-in in

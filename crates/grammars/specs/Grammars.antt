@@ -6,7 +6,7 @@ use Rattle.forest.specs.Forest.{nodesOf}
 use Rattle.grammar.specs.Derivation.{Rule, rule}
 use Rattle.lexemes.specs.Lists.{Items, closeOf, inside, item}
 use Rattle.declaring.specs.New.{newPairs}
-use Rattle.naming.specs.Scopes.{View, formOf}
+use Rattle.naming.specs.Scopes.{View, formsOf}
 use Rattle.naming.specs.Unknown.{unknownIn}
 use Rattle.faults.specs.Faults.{ruleMisfit, termFault}
 use Rattle.heading.specs.Heads.{Counts}
@@ -46,4 +46,4 @@ grammarMisfit nowhere view c = min (listMisfit nowhere view c) (ruleMisfit nowhe
 
 -- The rules that a grammar says.
 abbrev pub grammarOf : View → (groups : Items) → List Rule
-grammarOf view groups = map (λ (r : Ruled). rule (r .head) (formOf view (r .side))) (rulesIn 0 groups)
+grammarOf view groups = map (λ (r : Ruled). rule (r .head) (formsOf view (r .side))) (rulesIn 0 groups)

@@ -7,7 +7,7 @@ use lib.ListN.{length}
 use lib.Seq.{sets}
 use Rattle.forest.specs.Forest.{count, size, tree}
 use Rattle.forest.specs.Rows.{over}
-use Rattle.words.specs.Trees.{list}
+use Rattle.scanning.specs.Trees.{list}
 use Rattle.grammar.specs.Tables.{formTable}
 use Rattle.sorting.specs.Forms.{sortColumn}
 use Rattle.lexemes.specs.Lists.{Items, inside, isSymbol, item}
@@ -16,7 +16,7 @@ use Rattle.lexemes.specs.Table.{nextAt}
 use Rattle.shapes.specs.Shapes.{synthFunShape}
 use Rattle.sorts.specs.Steps.{SynthFunAt}
 use Rattle.gathering.specs.Table.{rawTable, uncountedTable}
-use Rattle.naming.specs.Scopes.{Defined, Named, View, definedNames, formOf, inOrder, namesOf, sortsOf}
+use Rattle.naming.specs.Scopes.{Defined, Named, View, definedNames, formsOf, inOrder, namesOf, namedSorts}
 use Rattle.naming.specs.Steps.{Kept, Names, sourceOf}
 use Rattle.naming.specs.Table.{definedRow, namesFrom, nonTerminalRow, ownArgumentRow, sortsFrom}
 use Rattle.declaring.specs.New.{namedBy}
@@ -63,15 +63,15 @@ pub record Limited {lexemes raw rules : List ℕ} {i : ℕ} (p : GrammarAt lexem
 
 -- A `synth-fun` stands at word i of a lawful text, whose non-terminals are at most 16, of sorts at most 64 wide; its rules are gathered, not counted yet; the
 -- table has the names in scope, its arguments among them, and the `define-fun`s; and there is room for the forms from row `base` on.
-pub record Naming (text words lexemes names raw forms : List ℕ) (scope : Scope) (i nodes base nowhere : ℕ) : Type 0 where
+pub record Naming (text lexemes names raw forms : List ℕ) (scope : Scope) (i nodes base nowhere : ℕ) : Type 0 where
   pub close : ℕ
   pub command : Items
   pub more : Items
   pub end : ℕ
-  pub stands : Stands (sourceOf text words lexemes) i (tree (list i close) command more) end
+  pub stands : Stands (sourceOf text lexemes) i (tree (list i close) command more) end
   pub named : isSymbol (item 0 command) ≡ true
   pub shaped : synthFunShape command ≡ true
-  pub lawful : Lawful (sourceOf text words lexemes) nowhere
+  pub lawful : Lawful (sourceOf text lexemes) nowhere
   pub narrow : AllNarrow (inside 4 command)
   pub few-listed : count (inside 4 command) ≤ 16
   pub rest : List ℕ
@@ -82,25 +82,25 @@ pub record Naming (text words lexemes names raw forms : List ℕ) (scope : Scope
   pub behind : ownArgumentRow 0 ≤ scope .first
   pub arguments : List Named
   pub arguments-are : namesFrom names (scope .first) (scope .arguments) ≡ namesOf arguments
-  pub sorts-are : sortsFrom names (scope .first) (scope .arguments) ≡ sortsOf arguments
+  pub sorts-are : sortsFrom names (scope .first) (scope .arguments) ≡ namedSorts arguments
   pub defined : List Defined
   pub defined-are : namesFrom names definedRow (scope .defined) ≡ inOrder (definedNames defined)
   pub room : 4 * (base + nodes) ≤ length forms
 
 -- What its rules see.
-abbrev pub viewIn : {text words lexemes names raw forms : List ℕ} {scope : Scope} {i nodes base nowhere : ℕ}
-    → Naming text words lexemes names raw forms scope i nodes base nowhere → View
+abbrev pub viewIn : {text lexemes names raw forms : List ℕ} {scope : Scope} {i nodes base nowhere : ℕ}
+    → Naming text lexemes names raw forms scope i nodes base nowhere → View
 viewIn p = record { names = p .arguments; defined = p .defined; functions = []; nonTerminals = namedBy (inside 4 (p .command)) }
 
 -- The non-terminals stand in their rows, the nodes are counted, the forms are written, and the least word at fault in a name is found.
-pub record GrammarNamed {text words lexemes names raw forms : List ℕ} {scope : Scope} {i nodes base nowhere : ℕ}
-    (p : Naming text words lexemes names raw forms scope i nodes base nowhere) (namesAfter rawAfter formsAfter : List ℕ) (r : ℕ) : Type 0 where
+pub record GrammarNamed {text lexemes names raw forms : List ℕ} {scope : Scope} {i nodes base nowhere : ℕ}
+    (p : Naming text lexemes names raw forms scope i nodes base nowhere) (namesAfter rawAfter formsAfter : List ℕ) (r : ℕ) : Type 0 where
   pub table : Names namesAfter
   pub kept : Kept names nonTerminalRow (count (inside 4 (p .command))) namesAfter
   pub names-are : namesFrom namesAfter nonTerminalRow (count (inside 4 (p .command))) ≡ namesOf (namedBy (inside 4 (p .command)))
-  pub sorts-are : sortsFrom namesAfter nonTerminalRow (count (inside 4 (p .command))) ≡ sortsOf (namedBy (inside 4 (p .command)))
+  pub sorts-are : sortsFrom namesAfter nonTerminalRow (count (inside 4 (p .command))) ≡ namedSorts (namedBy (inside 4 (p .command)))
   pub raw-is : rawAfter ≡ rawTable (sides (rulesIn 0 (inside 5 (p .command)))) ++ p .rest
-  pub forms-are : formsAfter ≡ sets forms (4 * base) (formTable (formOf (viewIn p) (sides (rulesIn 0 (inside 5 (p .command))))))
+  pub forms-are : formsAfter ≡ sets forms (4 * base) (formTable (formsOf (viewIn p) (sides (rulesIn 0 (inside 5 (p .command))))))
   pub place-is : r ≡ grammarNames nowhere (namesIn names scope) (viewIn p) (p .command)
 
 -- The nodes of a grammar's rules, whose names are known, and their forms, in tables.
@@ -112,24 +112,24 @@ pub record Sorting (lexemes raw forms signatures column : List ℕ) (i nodes now
 -- The least word at fault in a sort is found, and the sorts of the nodes are filled in.
 pub record Sorted {lexemes raw forms signatures column : List ℕ} {i nodes nowhere : ℕ} (p : Sorting lexemes raw forms signatures column i nodes nowhere)
     (columnAfter : List ℕ) (r : ℕ) : Type 0 where
-  pub column-is : columnAfter ≡ over (sortColumn (scopeOf (p .sought .view)) (formOf (p .sought .view) (p .sought .F))) column
+  pub column-is : columnAfter ≡ over (sortColumn (scopeOf (p .sought .view)) (formsOf (p .sought .view) (p .sought .F))) column
   pub place-is : r ≡ grammarFault nowhere (p .sought .view) (p .command .here .operands)
 
 -- A `synth-fun` stands at word i, and the table has the non-terminals that it declares, so many of them.
-pub record Declared (text words lexemes names : List ℕ) (i listed : ℕ) : Type 0 where
+pub record Declared (text lexemes names : List ℕ) (i listed : ℕ) : Type 0 where
   pub close : ℕ
   pub command : Items
   pub more : Items
   pub end : ℕ
-  pub stands : Stands (sourceOf text words lexemes) i (tree (list i close) command more) end
+  pub stands : Stands (sourceOf text lexemes) i (tree (list i close) command more) end
   pub named : isSymbol (item 0 command) ≡ true
   pub shaped : synthFunShape command ≡ true
   pub table : Names names
   pub view : View
   pub names-are : namesFrom names nonTerminalRow listed ≡ namesOf (view .nonTerminals)
-  pub sorts-are : sortsFrom names nonTerminalRow listed ≡ sortsOf (view .nonTerminals)
+  pub sorts-are : sortsFrom names nonTerminalRow listed ≡ namedSorts (view .nonTerminals)
   pub few : listed ≤ 16
 
 -- The least word at fault in what it declares and lists is found.
-abbrev pub ListsTested : {text words lexemes names : List ℕ} {i listed : ℕ} → Declared text words lexemes names i listed → (nowhere r : ℕ) → Type 0
+abbrev pub ListsTested : {text lexemes names : List ℕ} {i listed : ℕ} → Declared text lexemes names i listed → (nowhere r : ℕ) → Type 0
 ListsTested p nowhere r = r ≡ listMisfit nowhere (p .view) (p .command)

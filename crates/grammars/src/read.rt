@@ -64,7 +64,6 @@ pub fn grammar_past(
 // the least word at fault in a name.
 pub fn grammar_names(
     text: &[u8],
-    words: &[u32],
     lexemes: &[u64],
     names: &mut [u8],
     raw: &mut [u64],
@@ -75,8 +74,8 @@ pub fn grammar_names(
     base: usize,
     nowhere: usize,
 ) -> usize
-    requires { ⌜ Naming (now text) (now words) (now lexemes) (now names) (now raw) (now forms) scope at nodes base nowhere ⌝ }
-    ensures { λ r. ⌜ ((p : Naming (now (text .entry)) (now (words .entry)) (now (lexemes .entry)) (now (names .entry)) (now (raw .entry)) (now (forms .entry)) scope at nodes base nowhere) → GrammarNamed p (now (names .exit)) (now (raw .exit)) (now (forms .exit)) r) ⌝ }
+    requires { ⌜ Naming (now text) (now lexemes) (now names) (now raw) (now forms) scope at nodes base nowhere ⌝ }
+    ensures { λ r. ⌜ ((p : Naming (now (text .entry)) (now (lexemes .entry)) (now (names .entry)) (now (raw .entry)) (now (forms .entry)) scope at nodes base nowhere) → GrammarNamed p (now (names .exit)) (now (raw .exit)) (now (forms .exit)) r) ⌝ }
 {
     let non_terminals = non_terminals_at(lexemes, at);
     let first = non_terminals + 1;
@@ -90,7 +89,6 @@ pub fn grammar_names(
     };
     let new = new_pairs(
         text,
-        words,
         lexemes,
         names,
         scope,
@@ -101,18 +99,7 @@ pub fn grammar_names(
     );
     let sorts = grammar_place(lexemes, at, Fault::Unknown, nowhere);
     count_nodes(raw, nodes);
-    let unknown = write_forms(
-        names,
-        seen,
-        text,
-        words,
-        lexemes,
-        raw,
-        nodes,
-        forms,
-        base,
-        nowhere,
-    );
+    let unknown = write_forms(names, seen, text, lexemes, raw, nodes, forms, base, nowhere);
     least(new, least(sorts, unknown))
 }
 
@@ -138,20 +125,19 @@ pub fn grammar_sorts(
 // The least word at fault in what the grammar of the `synth-fun` at a word declares, `listed` non-terminals, and lists; `nowhere` where there is none.
 pub fn lists_misfit(
     text: &[u8],
-    words: &[u32],
     lexemes: &[u64],
     names: &[u8],
     at: usize,
     listed: usize,
     nowhere: usize,
 ) -> usize
-    requires { ⌜ Declared (now text) (now words) (now lexemes) (now names) at listed ⌝ }
-    ensures { λ r. ⌜ ((p : Declared (now (text .entry)) (now (words .entry)) (now (lexemes .entry)) (now (names .entry)) at listed) → ListsTested p nowhere r) ⌝ }
+    requires { ⌜ Declared (now text) (now lexemes) (now names) at listed ⌝ }
+    ensures { λ r. ⌜ ((p : Declared (now (text .entry)) (now (lexemes .entry)) (now (names .entry)) at listed) → ListsTested p nowhere r) ⌝ }
 {
     let non_terminals = non_terminals_at(lexemes, at);
     let groups = groups_at(lexemes, at);
     let sort = sort_of(lexemes, result_at(lexemes, at));
     let start = start_misfit(lexemes, non_terminals, sort, nowhere);
-    let again = listing_misfit(text, words, lexemes, names, groups, listed, nowhere);
+    let again = listing_misfit(text, lexemes, names, groups, listed, nowhere);
     least(start, again)
 }

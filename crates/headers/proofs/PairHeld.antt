@@ -9,7 +9,7 @@ use borrow.Author.Tests.{eqb-true, not-false, not-true}
 use Rattle.forest.specs.Forest.{count, none, tree}
 use Rattle.forest.specs.Lists.{sameBytes}
 use Rattle.forest.proofs.Bools.{and-left, and-right}
-use Rattle.words.specs.Trees.{Lexeme}
+use Rattle.scanning.specs.Trees.{Lexeme}
 use Rattle.lexemes.specs.Lists.{Items, after, inside, isList, isSymbol, item, nameOf}
 use Rattle.lexemes.specs.Standing.{ItemAt, WordIs}
 use Rattle.lexemes.proofs.Listed.{at-item, list-from}
@@ -42,11 +42,11 @@ pair l ops e =
       symbol = and-right front (isSymbol (item 0 ops)) first;
     }
 
-module _ {text words lexemes names : List ℕ} {at row : ℕ} where
+module _ {text lexemes names : List ℕ} {at row : ℕ} where
   -- where it stands
-  abbrev pair-item : PairAt text words lexemes names at row → ItemAt lexemes at
+  abbrev pair-item : PairAt text lexemes names at row → ItemAt lexemes at
   pair-item p = record {
-    source = sourceOf text words lexemes;
+    source = sourceOf text lexemes;
     same = refl;
     label = p .label;
     operands = p .operands;
@@ -56,18 +56,18 @@ module _ {text words lexemes names : List ℕ} {at row : ℕ} where
   }
 
   -- its sort
-  abbrev pub sort-of-pair : PairAt text words lexemes names at row → SortAt lexemes (at + 2)
+  abbrev pub sort-of-pair : PairAt text lexemes names at row → SortAt lexemes (at + 2)
   sort-of-pair p = pair-sort (record { here = pair-item p; shaped = p .shaped })
 
   -- its name
-  name-word : (p : PairAt text words lexemes names at row) → WordIs (sourceOf text words lexemes) (at + 1) (item 0 (p .operands))
+  name-word : (p : PairAt text lexemes names at row) → WordIs (sourceOf text lexemes) (at + 1) (item 0 (p .operands))
   name-word p =
       let known = pair (p .label) (p .operands) (p .shaped) in
       let x = list-from (pair-item p) (known .listed) in
       word-is (item-come x (come-first x) (omega (arith, known .two)) .stands) (symbol-word (item 0 (p .operands)) (known .symbol))
 
   -- a pair, by its name and its sort
-  by-parts : (p : PairAt text words lexemes names at row) {r : ℕ}
+  by-parts : (p : PairAt text lexemes names at row) {r : ℕ}
       → Held (wordsIn (spread 2 0 (p .operands))) (named (nameIn names row) ∷ sortTokens (sortIn names row)) r → PairHeld p r
   unfolding after argumentTokens
   by-parts p {r} h =
@@ -77,15 +77,15 @@ module _ {text words lexemes names : List ℕ} {at row : ℕ} where
       list-held (p .operands) tokens (held .label)
       (closed (held .close) (subst (λ (F : Items). Held (wordsIn F) tokens r) (sym (one-by-one 2 0 (p .operands) (known .two))) h))
 
-  module _ {t : Bool} (et : t ≡ sameBytes (nameIn names row) (bytesAt text words (at + 1))) where
+  module _ {t : Bool} (et : t ≡ sameBytes (nameIn names row) (bytesAt text lexemes (at + 1))) where
     -- the test of the word's bytes is one of the name
-    name-test : (p : PairAt text words lexemes names at row) → sameBytes (nameIn names row) (nameOf (item 0 (p .operands))) ≡ t
+    name-test : (p : PairAt text lexemes names at row) → sameBytes (nameIn names row) (nameOf (item 0 (p .operands))) ≡ t
     name-test p =
         let known = pair (p .label) (p .operands) (p .shaped) in
         ap (sameBytes (nameIn names row)) (sym (symbol-spelt (item 0 (p .operands)) (known .symbol) (name-word p))) ∙ sym et
 
     -- its name is another
-    pub pair-other : not t ≡ true → (p : PairAt text words lexemes names at row) → PairHeld p (at + 1)
+    pub pair-other : not t ≡ true → (p : PairAt text lexemes names at row) → PairHeld p (at + 1)
     pair-other e p =
         let known = pair (p .label) (p .operands) (p .shaped) in
         let place = name-word p .placed in
@@ -97,7 +97,7 @@ module _ {text words lexemes names : List ℕ} {at row : ℕ} where
     -- its name is the same
     pub pair-sorted : not t ≡ false → {sort : ℕ} → sort ≡ sortIn names row → {r : ℕ}
         → ((q : SortAt lexemes (at + 2)) → Held (wordsIn (tree (q .here .label) (q .here .operands) none)) (sortTokens sort) r)
-        → (p : PairAt text words lexemes names at row) → PairHeld p r
+        → (p : PairAt text lexemes names at row) → PairHeld p r
     pair-sorted e {sort} es {r} by-sort p =
         let known = pair (p .label) (p .operands) (p .shaped) in
         by-parts p

@@ -7,7 +7,7 @@ use mathlib.Core.Bool.{true}
 use mathlib.Core.List.{List, [], _∷_, _++_, append-assoc}
 use Rattle.forest.specs.Forest.{none, tree}
 use Rattle.forest.proofs.Bools.{and-left, and-right, apart}
-use Rattle.words.specs.Trees.{Lexeme, list, literal, numeral, symbol, wordOf}
+use Rattle.scanning.specs.Trees.{Lexeme, list, literal, numeral, symbol, wordOf}
 use Rattle.lexemes.specs.Lists.{Items, isList}
 use Rattle.lexemes.specs.Standing.{Between, ItemAt, Source, Stands}
 use Rattle.lexemes.specs.Table.{nextAt}
@@ -15,7 +15,7 @@ use Rattle.lexemes.proofs.Along.{Along, along-ahead, along-end, along-here, alo
 use Rattle.lexemes.proofs.Standing.{forward}
 use Rattle.shapes.specs.Shapes.{all, pairShape}
 use Rattle.sorts.proofs.Walked.{placed}
-use Rattle.naming.specs.Scopes.{Named, namesOf, sortsOf}
+use Rattle.naming.specs.Scopes.{Named, namesOf, namedSorts}
 use Rattle.naming.specs.Steps.{sourceOf}
 use Rattle.naming.specs.Table.{namesFrom, rowCount, sortsFrom}
 use Rattle.headers.specs.Steps.{Held, PairAt, PairHeld, PairsAt, PairsHeld, ended, other, same}
@@ -72,29 +72,29 @@ module _ {lexemes : List ℕ} {at : ℕ} (i : ItemAt lexemes at) (shaped : all p
   unfolding all
   rest-shaped = and-right (pairShape (i .label) (i .operands)) (all pairShape (i .more)) shaped
 
-module _ {text words lexemes names : List ℕ} {first close row arguments : ℕ} where
+module _ {text lexemes names : List ℕ} {first close row arguments : ℕ} where
   -- where the pairs stand
-  abbrev pub pairs-between : PairsAt text words lexemes names first close row arguments → Between lexemes first close
-  pairs-between p = record { source = sourceOf text words lexemes; same = refl; items = p .items; stands = p .stands }
+  abbrev pub pairs-between : PairsAt text lexemes names first close row arguments → Between lexemes first close
+  pairs-between p = record { source = sourceOf text lexemes; same = refl; items = p .items; stands = p .stands }
 
   -- The pairs that are left have their shape, and what they and the bracket are, held to the arguments that are left, is what all are.
-  pub record PairsLeft (passed : ℕ) (p : PairsAt text words lexemes names first close row arguments) (left : Items) : Type 0 where
+  pub record PairsLeft (passed : ℕ) (p : PairsAt text lexemes names first close row arguments) (left : Items) : Type 0 where
     pub shaped : all pairShape left ≡ true
     pub declared : List Named
     pub names-are : namesFrom names (row + passed) (arguments - passed) ≡ namesOf declared
-    pub sorts-are : sortsFrom names (row + passed) (arguments - passed) ≡ sortsOf declared
+    pub sorts-are : sortsFrom names (row + passed) (arguments - passed) ≡ namedSorts declared
     pub back : {r : ℕ} → Held (wordsIn left ++ bracket close) (argumentTokens declared ++ closing ∷ []) r → PairsHeld p r
 
 -- Of the pairs so many were passed, which are the same as the arguments in so many rows, and the loop has come to word `at`.
-pub record Passing (text words lexemes names : List ℕ) (first close row arguments passed at : ℕ) : Type 0 where
-  pub walk : Along (λ (p : PairsAt text words lexemes names first close row arguments). pairs-between p) at (PairsLeft passed)
+pub record Passing (text lexemes names : List ℕ) (first close row arguments passed at : ℕ) : Type 0 where
+  pub walk : Along (λ (p : PairsAt text lexemes names first close row arguments). pairs-between p) at (PairsLeft passed)
   pub within : passed ≤ arguments
   pub later : 0 < at
   pub fits : row + arguments ≤ rowCount
 
-module _ {text words lexemes names : List ℕ} {first close row arguments : ℕ} where
+module _ {text lexemes names : List ℕ} {first close row arguments : ℕ} where
   -- before the first pair
-  pub pass-start : PairsAt text words lexemes names first close row arguments → Passing text words lexemes names first close row arguments 0 first
+  pub pass-start : PairsAt text lexemes names first close row arguments → Passing text lexemes names first close row arguments 0 first
   pass-start given = record {
     walk = along-start pairs-between given (λ p. record {
       shaped = p .shaped;
@@ -108,7 +108,7 @@ module _ {text words lexemes names : List ℕ} {first close row arguments : ℕ}
     fits = given .fits;
   }
 
-  module _ {passed : ℕ} {p : PairsAt text words lexemes names first close row arguments} {left : Items} (x : PairsLeft passed p left) where
+  module _ {passed : ℕ} {p : PairsAt text lexemes names first close row arguments} {left : Items} (x : PairsLeft passed p left) where
     -- an argument is left
     argument-left : passed < arguments → FirstRow names (row + passed) (arguments - (passed + 1)) (x .declared)
     argument-left h =
@@ -121,10 +121,10 @@ module _ {text words lexemes names : List ℕ} {first close row arguments : ℕ}
         let over : arguments - passed ≡ 0 = omega arith in
         no-row names (row + passed) (x .declared) (rw over at (x .names-are))
 
-  module _ {passed at : ℕ} (s : Passing text words lexemes names first close row arguments passed at) where
+  module _ {passed at : ℕ} (s : Passing text lexemes names first close row arguments passed at) where
     module _ (h : close ≤ at) where
       -- the list is closed where an argument is declared
-      pub pass-few : passed < arguments → (p : PairsAt text words lexemes names first close row arguments) → PairsHeld p close
+      pub pass-few : passed < arguments → (p : PairsAt text lexemes names first close row arguments) → PairsHeld p close
       pass-few m p =
           let x = along-end (s .walk) h p in
           let a = argument-left x m in
@@ -132,7 +132,7 @@ module _ {text words lexemes names : List ℕ} {first close row arguments : ℕ}
           (rw (a .is) (bracket-for-pair _ (a .more) close (omega (arith, p .later, forward (p .stands))) (closing ∷ [])))
 
       -- the list is closed as declared
-      pub pass-end : arguments ≤ passed → (p : PairsAt text words lexemes names first close row arguments) → PairsHeld p 0
+      pub pass-end : arguments ≤ passed → (p : PairsAt text lexemes names first close row arguments) → PairsHeld p 0
       unfolding argumentTokens wordsIn
       pass-end m p =
           let x = along-end (s .walk) h p in
@@ -140,7 +140,7 @@ module _ {text words lexemes names : List ℕ} {first close row arguments : ℕ}
 
     module _ (h : at < close) where
       -- a pair stands where the list of arguments is closed
-      pub pass-many : passed ≡ arguments → (p : PairsAt text words lexemes names first close row arguments) → PairsHeld p at
+      pub pass-many : passed ≡ arguments → (p : PairsAt text lexemes names first close row arguments) → PairsHeld p at
       unfolding argumentTokens
       pass-many e p =
           let i = item-of (s .walk) h p in
@@ -154,8 +154,8 @@ module _ {text words lexemes names : List ℕ} {first close row arguments : ℕ}
 
       module _ (m : passed ≡ arguments → ⊥) where
         -- a pair that stands at the word
-        abbrev pair-from : (p : PairsAt text words lexemes names first close row arguments) (i : ItemAt lexemes at) → i .source ≡ sourceOf text words lexemes
-            → pairShape (i .label) (i .operands) ≡ true → PairAt text words lexemes names at (row + passed)
+        abbrev pair-from : (p : PairsAt text lexemes names first close row arguments) (i : ItemAt lexemes at) → i .source ≡ sourceOf text lexemes
+            → pairShape (i .label) (i .operands) ≡ true → PairAt text lexemes names at (row + passed)
         pair-from p i source shape = record {
           label = i .label;
           operands = i .operands;
@@ -168,14 +168,14 @@ module _ {text words lexemes names : List ℕ} {first close row arguments : ℕ}
         }
 
         -- the first of the pairs that are left
-        pub pass-pair : PairsAt text words lexemes names first close row arguments → PairAt text words lexemes names at (row + passed)
+        pub pass-pair : PairsAt text lexemes names first close row arguments → PairAt text lexemes names at (row + passed)
         pass-pair p =
             let i = item-of (s .walk) h p in
             pair-from p i refl (first-shaped i (along-here (s .walk) h p .shaped))
 
-        module _ {found : ℕ} (known : (q : PairAt text words lexemes names at (row + passed)) → PairHeld q found) where
+        module _ {found : ℕ} (known : (q : PairAt text lexemes names at (row + passed)) → PairHeld q found) where
           -- what the pairs that are left are, by the first of them
-          go-on : (p : PairsAt text words lexemes names first close row arguments) (i : ItemAt lexemes at) → i .source ≡ sourceOf text words lexemes
+          go-on : (p : PairsAt text lexemes names first close row arguments) (i : ItemAt lexemes at) → i .source ≡ sourceOf text lexemes
               → (x : PairsLeft passed p (tree (i .label) (i .operands) (i .more)))
               → (a : FirstRow names (row + passed) (arguments - (passed + 1)) (x .declared)) {r : ℕ}
               → (found ≡ 0 → Held (wordsIn (i .more) ++ bracket close) (argumentTokens (a .more) ++ closing ∷ []) r)
@@ -186,13 +186,13 @@ module _ {text words lexemes names : List ℕ} {first close row arguments : ℕ}
               (pair-then (i .label) (i .operands) (i .more) _ (a .more) close (known (pair-from p i source (first-shaped i (x .shaped)))) follow stop))
 
           -- a word of the pair differs
-          pub pass-other : (found ≡ 0 → ⊥) → (p : PairsAt text words lexemes names first close row arguments) → PairsHeld p found
+          pub pass-other : (found ≡ 0 → ⊥) → (p : PairsAt text lexemes names first close row arguments) → PairsHeld p found
           pass-other ne p =
               let x = along-here (s .walk) h p in
               go-on p (item-of (s .walk) h p) refl x (argument-left x (omega (arith, s .within))) (λ z. absurd (ne z)) (λ _. refl)
 
           -- a turn
-          pub pass-turn : found ≡ 0 → {next : ℕ} → next ≡ nextAt lexemes at → Passing text words lexemes names first close row arguments (passed + 1) next
+          pub pass-turn : found ≡ 0 → {next : ℕ} → next ≡ nextAt lexemes at → Passing text lexemes names first close row arguments (passed + 1) next
           pass-turn z e = record {
             walk = along-turn (s .walk) h e (λ p i source x.
                 let a = argument-left x (omega (arith, s .within)) in

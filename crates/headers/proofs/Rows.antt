@@ -6,7 +6,8 @@ use mathlib.Core.Bool.{Bool, true, false, cond}
 use mathlib.Core.List.{List, [], _∷_}
 use lib.Dec.{eqb}
 use Rattle.forest.specs.Lists.{sameBytes}
-use Rattle.naming.specs.Scopes.{Named, namesOf, placeIn, sortsOf}
+use Rattle.lookup.specs.Search.{placeIn}
+use Rattle.naming.specs.Scopes.{Named, namesOf, namedSorts}
 use Rattle.naming.specs.Table.{nameIn, namesFrom, sortIn, sortsFrom}
 
 -- a word that is looked for in one row is there just when it is the name in it
@@ -24,11 +25,11 @@ pub record FirstRow (names : List ℕ) (row n : ℕ) (declared : List Named) : T
   pub more : List Named
   pub is : declared ≡ record { name = nameIn names row; sort = sortIn names row } ∷ more
   pub names-are : namesFrom names (row + 1) n ≡ namesOf more
-  pub sorts-are : sortsFrom names (row + 1) n ≡ sortsOf more
+  pub sorts-are : sortsFrom names (row + 1) n ≡ namedSorts more
 
 module _ (names : List ℕ) (row : ℕ) where
   -- some rows hold the first of the arguments
-  pub first-row : (n : ℕ) (declared : List Named) → namesFrom names row (suc n) ≡ namesOf declared → sortsFrom names row (suc n) ≡ sortsOf declared
+  pub first-row : (n : ℕ) (declared : List Named) → namesFrom names row (suc n) ≡ namesOf declared → sortsFrom names row (suc n) ≡ namedSorts declared
       → FirstRow names row n declared
   unfolding namesFrom sortsFrom
   first-row n [] en es = let z : _≡_ {A = ℕ} 0 1 = cc in absurd (omega arith)

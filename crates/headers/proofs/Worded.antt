@@ -9,9 +9,9 @@ use borrow.Author.Tests.{eq-eqb, ne-eqb}
 use Rattle.forest.specs.Forest.{count, none, tree}
 use Rattle.forest.specs.Lists.{sameBytes, spelling}
 use Rattle.forest.proofs.Bools.{apart}
-use Rattle.words.specs.Trees.{Lexeme, list, literal, numeral, symbol, wordOf}
+use Rattle.scanning.specs.Trees.{Lexeme, list, literal, numeral, symbol, wordOf}
 use Rattle.reserved.specs.Reserved.{isWord}
-use Rattle.lexemes.specs.Lists.{Items, after, inside, is, isNumeral, isSymbol, item, nameOf, numberOf}
+use Rattle.lexemes.specs.Lists.{Items, after, inside, is, isNumeral, isSymbol, item, nameOf, numeralOf}
 use Rattle.lexemes.specs.Standing.{Source, WordIs, spelt}
 use Rattle.lexemes.proofs.Listed.{from-item}
 use Rattle.headers.specs.Steps.{Held, ended, other, same}
@@ -84,7 +84,7 @@ name-other (numeral at v) name e t h ops more ts = apart e
 name-other (literal at width v written) name e t h ops more ts = apart e
 
 -- a numeral that is the declared number
-pub number-same : (l : Lexeme) (n : ℕ) → isNumeral l ≡ true → numberOf l ≡ n → (ops : Items) → Held (wordsIn (tree l ops none)) (numbered n ∷ []) 0
+pub number-same : (l : Lexeme) (n : ℕ) → isNumeral l ≡ true → numeralOf l ≡ n → (ops : Items) → Held (wordsIn (tree l ops none)) (numbered n ∷ []) 0
 unfolding wordsIn
 number-same (numeral at v) n e t ops = same (eq-eqb v n t) ended
 number-same (symbol at name) n e t ops = apart e
@@ -92,7 +92,7 @@ number-same (list at close) n e t ops = apart e
 number-same (literal at width v written) n e t ops = apart e
 
 -- a numeral that is another
-pub number-other : (l : Lexeme) (n : ℕ) → isNumeral l ≡ true → (numberOf l ≡ n → ⊥) → 0 < wordOf l → (ops : Items)
+pub number-other : (l : Lexeme) (n : ℕ) → isNumeral l ≡ true → (numeralOf l ≡ n → ⊥) → 0 < wordOf l → (ops : Items)
     → Held (wordsIn (tree l ops none)) (numbered n ∷ []) (wordOf l)
 unfolding wordsIn
 number-other (numeral at v) n e t h ops = other (ne-eqb v n t) h

@@ -20,12 +20,12 @@ ghost use Rattle.headers.specs.Steps.{Compared, Differs, Held, PairAt, P
 ghost use Rattle.headers.specs.Tokens.{sortTokens, wordsIn};
 
 // Whether a word is the name in a row.
-fn is_named(text: &[u8], words: &[u32], names: &[u8], word: usize, row: usize) -> bool
+fn is_named(text: &[u8], lexemes: &[u64], names: &[u8], word: usize, row: usize) -> bool
     requires { ⌜ Names (now names) ⌝ }
     requires { ⌜ row < 144 ⌝ }
-    ensures { λ r. ⌜ r ≡ sameBytes (nameIn (now (names .entry)) row) (bytesAt (now (text .entry)) (now (words .entry)) word) ⌝ }
+    ensures { λ r. ⌜ r ≡ sameBytes (nameIn (now (names .entry)) row) (bytesAt (now (text .entry)) (now (lexemes .entry)) word) ⌝ }
 {
-    find_name(names, row, 1, bytes_at(text, words, word)) == 0
+    find_name(names, row, 1, bytes_at(text, lexemes, word)) == 0
 }
 
 // The first word of the sort at a word that differs from those of a declared sort; 0 where none does.
@@ -49,18 +49,11 @@ fn sort_differs(lexemes: &[u64], at: usize, sort: u64) -> usize
 }
 
 // The first word of the pair at a word that differs from those of the argument in a row; 0 where none does.
-fn pair_differs(
-    text: &[u8],
-    words: &[u32],
-    lexemes: &[u64],
-    names: &[u8],
-    at: usize,
-    row: usize,
-) -> usize
-    requires { ⌜ PairAt (now text) (now words) (now lexemes) (now names) at row ⌝ }
-    ensures { λ r. ⌜ ((p : PairAt (now (text .entry)) (now (words .entry)) (now (lexemes .entry)) (now (names .entry)) at row) → PairHeld p r) ⌝ }
+fn pair_differs(text: &[u8], lexemes: &[u64], names: &[u8], at: usize, row: usize) -> usize
+    requires { ⌜ PairAt (now text) (now lexemes) (now names) at row ⌝ }
+    ensures { λ r. ⌜ ((p : PairAt (now (text .entry)) (now (lexemes .entry)) (now (names .entry)) at row) → PairHeld p r) ⌝ }
 {
-    if !is_named(text, words, names, at + 1, row) {
+    if !is_named(text, lexemes, names, at + 1, row) {
         return at + 1;
     }
     sort_differs(lexemes, at + 2, sort_in(names, row))
@@ -70,7 +63,6 @@ fn pair_differs(
 // where none does.
 fn pairs_differ(
     text: &[u8],
-    words: &[u32],
     lexemes: &[u64],
     names: &[u8],
     first: usize,
@@ -78,8 +70,8 @@ fn pairs_differ(
     row: usize,
     arguments: usize,
 ) -> usize
-    requires { ⌜ PairsAt (now text) (now words) (now lexemes) (now names) first close row arguments ⌝ }
-    ensures { λ r. ⌜ ((p : PairsAt (now (text .entry)) (now (words .entry)) (now (lexemes .entry)) (now (names .entry)) first close row arguments) → PairsHeld p r) ⌝ }
+    requires { ⌜ PairsAt (now text) (now lexemes) (now names) first close row arguments ⌝ }
+    ensures { λ r. ⌜ ((p : PairsAt (now (text .entry)) (now (lexemes .entry)) (now (names .entry)) first close row arguments) → PairsHeld p r) ⌝ }
 {
     let mut passed = 0;
     let mut at = first;
@@ -87,7 +79,7 @@ fn pairs_differ(
         if passed == arguments {
             return at;
         }
-        let found = pair_differs(text, words, lexemes, names, at, row + passed);
+        let found = pair_differs(text, lexemes, names, at, row + passed);
         if found != 0 {
             return found;
         }
@@ -103,7 +95,6 @@ fn pairs_differ(
 // The first word of the name, arguments and sort of the `define-fun` at a word that differs from those of a synthesized function; `nowhere` where none does.
 pub fn header_differs(
     text: &[u8],
-    words: &[u32],
     lexemes: &[u64],
     names: &[u8],
     at: usize,
@@ -112,25 +103,16 @@ pub fn header_differs(
     result: u64,
     nowhere: usize,
 ) -> usize
-    requires { ⌜ Compared (now text) (now words) (now lexemes) (now names) at function arguments result ⌝ }
-    ensures { λ r. ⌜ ((p : Compared (now (text .entry)) (now (words .entry)) (now (lexemes .entry)) (now (names .entry)) at function arguments result) → Differs p nowhere r) ⌝ }
+    requires { ⌜ Compared (now text) (now lexemes) (now names) at function arguments result ⌝ }
+    ensures { λ r. ⌜ ((p : Compared (now (text .entry)) (now (lexemes .entry)) (now (names .entry)) at function arguments result) → Differs p nowhere r) ⌝ }
 {
-    if !is_named(text, words, names, at + 2, FUNCTIONS + function) {
+    if !is_named(text, lexemes, names, at + 2, FUNCTIONS + function) {
         return at + 2;
     }
     let list = next_at(lexemes, at + 2);
     let sort = next_at(lexemes, list);
     let row = OWN_ARGUMENTS + 8 * function;
-    let within = pairs_differ(
-        text,
-        words,
-        lexemes,
-        names,
-        list + 1,
-        sort - 1,
-        row,
-        arguments,
-    );
+    let within = pairs_differ(text, lexemes, names, list + 1, sort - 1, row, arguments);
     if within != 0 {
         return within;
     }

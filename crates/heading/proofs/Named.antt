@@ -21,12 +21,12 @@ use Rattle.heading.specs.Steps.{HeadAt, HeadNamed, OwnNamed, firstRow, g
 use Rattle.heading.proofs.Parts.{a-symbol, arguments-between, bytes-are, header-here, name-fits, name-item}
 use Rattle.heading.proofs.Grown.{Rows, few-grown, rows, same-names}
 
-module _ {text words lexemes names : List ℕ} {scope : Scope} {synthesized : Bool} {at : ℕ} where
+module _ {text lexemes names : List ℕ} {scope : Scope} {synthesized : Bool} {at : ℕ} where
   -- The rows of the name and of the arguments.
-  pub own-rows : HeadAt text words lexemes names scope synthesized at → Rows synthesized scope
+  pub own-rows : HeadAt text lexemes names scope synthesized at → Rows synthesized scope
   own-rows p = rows (p .few) synthesized (p .one-more)
 
-  module _ (p : HeadAt text words lexemes names scope synthesized at) {arguments : ℕ} (ea : arguments ≡ nextAt lexemes (at + 2))
+  module _ (p : HeadAt text lexemes names scope synthesized at) {arguments : ℕ} (ea : arguments ≡ nextAt lexemes (at + 2))
       {result : ℕ} (er : result ≡ nextAt lexemes arguments) where
     -- the sort of the result stands behind the arguments
     abbrev pub result-sort : SortAt lexemes result
@@ -38,11 +38,11 @@ module _ {text words lexemes names : List ℕ} {scope : Scope} {synthesized : Bo
 
   module _ {row : ℕ} (eo : row ≡ ownRow synthesized scope) where
     -- the row of its own name is one of the table
-    pub own-fits : HeadAt text words lexemes names scope synthesized at → row < rowCount
+    pub own-fits : HeadAt text lexemes names scope synthesized at → row < rowCount
     own-fits p = omega (arith, own-rows p)
 
     -- its name is a new one
-    abbrev pub name-here : HeadAt text words lexemes names scope synthesized at → NewName text words lexemes names scope row 0 (at + 2)
+    abbrev pub name-here : HeadAt text lexemes names scope synthesized at → NewName text lexemes names scope row 0 (at + 2)
     name-here p = record {
       label = name-item p .label;
       operands = name-item p .operands;
@@ -58,9 +58,9 @@ module _ {text words lexemes names : List ℕ} {scope : Scope} {synthesized : Bo
     -- it is tested and put into its row
     pub own-named : {arguments : ℕ} → arguments ≡ nextAt lexemes (at + 2) → {result : ℕ} → result ≡ nextAt lexemes arguments
         → {sort : ℕ} → ((q : SortAt lexemes result) → sort ≡ sortOf (q .here .label) (q .here .operands))
-        → (nowhere : ℕ) {place : ℕ} → ((q : NewName text words lexemes names scope row 0 (at + 2)) → NameTested q nowhere place)
-        → {bytes : List ℕ} → bytes ≡ bytesAt text words (at + 2) → {after : List ℕ} → after ≡ sets names (66 * row) (nameRow sort bytes)
-        → (p : HeadAt text words lexemes names scope synthesized at) → OwnNamed p nowhere after place
+        → (nowhere : ℕ) {place : ℕ} → ((q : NewName text lexemes names scope row 0 (at + 2)) → NameTested q nowhere place)
+        → {bytes : List ℕ} → bytes ≡ bytesAt text lexemes (at + 2) → {after : List ℕ} → after ≡ sets names (66 * row) (nameRow sort bytes)
+        → (p : HeadAt text lexemes names scope synthesized at) → OwnNamed p nowhere after place
     unfolding namesFrom
     own-named ea er es nowhere tested eb e p = record {
       place-is = tested (name-here p);
@@ -68,17 +68,17 @@ module _ {text words lexemes names : List ℕ} {scope : Scope} {synthesized : Bo
     }
 
   -- The own name stands in its row, and the other rows are what they were.
-  pub put-own : (p : HeadAt text words lexemes names scope synthesized at) {nowhere place : ℕ} {between : List ℕ} → OwnNamed p nowhere between place
+  pub put-own : (p : HeadAt text lexemes names scope synthesized at) {nowhere place : ℕ} {between : List ℕ} → OwnNamed p nowhere between place
       → Put names (ownRow synthesized scope) (sortOf (item 3 (p .command)) (inside 3 (p .command))) (nameOf (item 1 (p .command))) between
   put-own p o = put-row (p .table) (omega (arith, own-rows p)) _ _ (name-fits p) (o .is-put)
 
   module _ {arguments : ℕ} (ea : arguments ≡ nextAt lexemes (at + 2)) {result : ℕ} (er : result ≡ nextAt lexemes arguments)
       {later : Scope} (el : later ≡ grownBy synthesized scope) {first : ℕ} (ef : first ≡ firstRow synthesized scope)
       (nowhere : ℕ) {own : ℕ} {between : List ℕ}
-      (known : (q : HeadAt text words lexemes names scope synthesized at) → OwnNamed q nowhere between own) where
+      (known : (q : HeadAt text lexemes names scope synthesized at) → OwnNamed q nowhere between own) where
     -- its arguments are new names
-    abbrev pub pairs-here : HeadAt text words lexemes names scope synthesized at
-        → NewPairs text words lexemes between later first (arguments + 1) (result - 1)
+    abbrev pub pairs-here : HeadAt text lexemes names scope synthesized at
+        → NewPairs text lexemes between later first (arguments + 1) (result - 1)
     pairs-here p =
         let pairs = arguments-between (header-here p) ea er in
         record {
@@ -96,10 +96,10 @@ module _ {text words lexemes names : List ℕ} {scope : Scope} {synthesized : Bo
 
     -- all of the names are tested and put into their rows
     pub head-named : {within : ℕ} {after : List ℕ}
-        → ((q : NewPairs text words lexemes between later first (arguments + 1) (result - 1)) → PairsNamed q nowhere after within)
+        → ((q : NewPairs text lexemes between later first (arguments + 1) (result - 1)) → PairsNamed q nowhere after within)
         → {sorts : ℕ} → ((q : HeaderAt lexemes at) → sorts ≡ headerPlace Unknown nowhere (q .here .operands))
         → {lesser : ℕ} → lesser ≡ min within sorts → {r : ℕ} → r ≡ min own lesser
-        → (p : HeadAt text words lexemes names scope synthesized at) → HeadNamed p nowhere after r
+        → (p : HeadAt text lexemes names scope synthesized at) → HeadNamed p nowhere after r
     unfolding namesFrom
     head-named {after = after} named by-sorts one-less less p =
         let o = known p in

@@ -10,7 +10,7 @@ use Rattle.lexemes.specs.Lists.{Items, inside, isSymbol, item, nameOf}
 use Rattle.lexemes.specs.Table.{nextAt}
 use Rattle.lexemes.specs.Standing.{Between, ItemAt}
 use Rattle.lexemes.proofs.Listed.{item-ahead, item-room, list-room}
-use Rattle.shapes.specs.Shapes.{headerShape, listOf, pairShape, sortShape}
+use Rattle.shapes.specs.Shapes.{headerShape, isListOf, pairShape, sortShape}
 use Rattle.rules.specs.Rules.{itemPast}
 use Rattle.sorts.specs.Steps.{AllBetween, HeaderAt}
 use Rattle.sorts.specs.Written.{headerPlace}
@@ -29,13 +29,13 @@ use Rattle.heading.specs.Steps.{HeadAt, HeadLimited}
 name-symbol : (c : Items) → headerShape c ≡ true → isSymbol (item 1 c) ≡ true
 name-symbol c e =
     let name = isSymbol (item 1 c) in
-    let arguments = listOf pairShape (item 2 c) (inside 2 c) in
+    let arguments = isListOf pairShape (item 2 c) (inside 2 c) in
     and-left name arguments (and-left (name && arguments) (sortShape (item 3 c) (inside 3 c)) e)
 
 module _ {lexemes : List ℕ} {at : ℕ} where
   module _ (p : HeaderAt lexemes at) {arguments : ℕ} (ea : arguments ≡ nextAt lexemes (at + 2)) where
     -- the list of arguments stands within the table of lexemes
-    pub arguments-room : 3 * arguments < length lexemes
+    pub arguments-room : 6 * arguments < length lexemes
     arguments-room = item-room (header-arguments p ea .here)
 
     module _ {result : ℕ} (er : result ≡ nextAt lexemes arguments) where
@@ -58,13 +58,13 @@ module _ {lexemes : List ℕ} {at : ℕ} where
         → {r : ℕ} → r ≡ min ninth wide → (p : HeaderAt lexemes at) → HeadLimited p allowed nowhere r
     head-limited nowhere by-items by-sorts e p = e ∙ ap₂ min (by-items (items-between p)) (by-sorts p)
 
-module _ {text words lexemes names : List ℕ} {scope : Scope} {synthesized : Bool} {at : ℕ}
-    (p : HeadAt text words lexemes names scope synthesized at) where
+module _ {text lexemes names : List ℕ} {scope : Scope} {synthesized : Bool} {at : ℕ}
+    (p : HeadAt text lexemes names scope synthesized at) where
   -- a command with a header stands there
   abbrev pub header-here : HeaderAt lexemes at
   header-here = record {
     here = record {
-      source = sourceOf text words lexemes;
+      source = sourceOf text lexemes;
       same = refl;
       close = p .close;
       operands = p .command;
@@ -78,7 +78,7 @@ module _ {text words lexemes names : List ℕ} {scope : Scope} {synthesized : Bo
   }
 
   -- within the table of lexemes
-  pub head-room : 3 * at < length lexemes
+  pub head-room : 6 * at < length lexemes
   head-room = list-room (header-here .here)
 
   -- its name stands two words on
@@ -93,14 +93,14 @@ module _ {text words lexemes names : List ℕ} {scope : Scope} {synthesized : Bo
   a-symbol = name-symbol (p .command) (p .shaped)
 
   -- told by its code and its bytes
-  symbol-here : SymbolAt text words lexemes (at + 2) (item 1 (p .command))
+  symbol-here : SymbolAt text lexemes (at + 2) (item 1 (p .command))
   symbol-here = symbol-at (name-item .stands) a-symbol
 
   -- not too long for a row
   pub name-fits : length (nameOf (item 1 (p .command))) ≤ longest
   name-fits = rw (← symbol-here .spelled) (p .short (at + 2) (omega (arith, symbol-here .coded)))
 
-  module _ {bytes : List ℕ} (eb : bytes ≡ bytesAt text words (at + 2)) where
+  module _ {bytes : List ℕ} (eb : bytes ≡ bytesAt text lexemes (at + 2)) where
     -- the bytes of its word are the name
     pub bytes-are : bytes ≡ nameOf (item 1 (p .command))
     bytes-are = eb ∙ symbol-here .spelled

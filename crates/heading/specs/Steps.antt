@@ -6,13 +6,13 @@ use mathlib.Core.Path.{_≡_}
 use lib.Seq.{sets}
 use Rattle.forest.specs.Forest.{count, tree}
 use Rattle.bits.specs.Sorts.{maxWidth}
-use Rattle.words.specs.Trees.{list}
+use Rattle.scanning.specs.Trees.{list}
 use Rattle.lexemes.specs.Lists.{Items, inside, isSymbol, item, nameOf}
 use Rattle.lexemes.specs.Standing.{Stands}
 use Rattle.shapes.specs.Shapes.{headerShape}
 use Rattle.sorts.specs.Steps.{HeaderAt}
 use Rattle.sorts.specs.Written.{sortOf}
-use Rattle.naming.specs.Scopes.{namesOf, sortsOf}
+use Rattle.naming.specs.Scopes.{namesOf, namedSorts}
 use Rattle.naming.specs.Steps.{Kept, Names, ShortNames, sourceOf}
 use Rattle.naming.specs.Table.{argumentRow, definedRow, functionRow, nameIn, nameRow, namesFrom, ownArgumentRow, rowWidth, sortsFrom}
 use Rattle.declaring.specs.New.{namedBy, newName}
@@ -34,19 +34,19 @@ firstRow synthesized scope = cond synthesized (ownArgumentRow (scope .functions)
 
 -- A command with a function's header stands at word i of a text whose names are short; the sorts that it says are at most 64 wide and its arguments at most 8;
 -- and the table has the names in scope, with a row for one more.
-pub record HeadAt (text words lexemes names : List ℕ) (scope : Scope) (synthesized : Bool) (i : ℕ) : Type 0 where
+pub record HeadAt (text lexemes names : List ℕ) (scope : Scope) (synthesized : Bool) (i : ℕ) : Type 0 where
   pub close : ℕ
   pub command : Items
   pub more : Items
   pub end : ℕ
-  pub stands : Stands (sourceOf text words lexemes) i (tree (list i close) command more) end
+  pub stands : Stands (sourceOf text lexemes) i (tree (list i close) command more) end
   pub named : isSymbol (item 0 command) ≡ true
   pub long : 4 ≤ count command
   pub shaped : headerShape command ≡ true
   pub narrow : AllNarrow (inside 2 command)
   pub result : sortOf (item 3 command) (inside 3 command) ≤ maxWidth
   pub few-arguments : count (inside 2 command) ≤ 8
-  pub short : ShortNames (sourceOf text words lexemes)
+  pub short : ShortNames (sourceOf text lexemes)
   pub table : Names names
   pub few : Few scope
   pub no-arguments : scope .arguments ≡ 0
@@ -63,20 +63,20 @@ grownBy synthesized scope = record {
 }
 
 -- The word of the command's own name is found where it is at fault, and the name and the sort of the result are put into its row.
-pub record OwnNamed {text words lexemes names : List ℕ} {scope : Scope} {synthesized : Bool} {i : ℕ}
-    (p : HeadAt text words lexemes names scope synthesized i) (nowhere : ℕ) (namesAfter : List ℕ) (r : ℕ) : Type 0 where
+pub record OwnNamed {text lexemes names : List ℕ} {scope : Scope} {synthesized : Bool} {i : ℕ}
+    (p : HeadAt text lexemes names scope synthesized i) (nowhere : ℕ) (namesAfter : List ℕ) (r : ℕ) : Type 0 where
   pub place-is : r ≡ newName nowhere (namesIn names scope) (item 1 (p .command))
   pub is-put : namesAfter
       ≡ sets names (rowWidth * ownRow synthesized scope) (nameRow (sortOf (item 3 (p .command)) (inside 3 (p .command))) (nameOf (item 1 (p .command))))
 
 -- The least word at fault is found; the command's own name and its arguments stand in their rows, and the other rows are what they were.
-pub record HeadNamed {text words lexemes names : List ℕ} {scope : Scope} {synthesized : Bool} {i : ℕ}
-    (p : HeadAt text words lexemes names scope synthesized i) (nowhere : ℕ) (namesAfter : List ℕ) (r : ℕ) : Type 0 where
+pub record HeadNamed {text lexemes names : List ℕ} {scope : Scope} {synthesized : Bool} {i : ℕ}
+    (p : HeadAt text lexemes names scope synthesized i) (nowhere : ℕ) (namesAfter : List ℕ) (r : ℕ) : Type 0 where
   pub place-is : r ≡ headerNames nowhere (namesIn names scope) (p .command)
   pub table : Names namesAfter
   pub name-is : nameIn namesAfter (ownRow synthesized scope) ≡ nameOf (item 1 (p .command))
   pub names-are : namesFrom namesAfter (firstRow synthesized scope) (count (inside 2 (p .command))) ≡ namesOf (namedBy (inside 2 (p .command)))
-  pub sorts-are : sortsFrom namesAfter (firstRow synthesized scope) (count (inside 2 (p .command))) ≡ sortsOf (namedBy (inside 2 (p .command)))
+  pub sorts-are : sortsFrom namesAfter (firstRow synthesized scope) (count (inside 2 (p .command))) ≡ namedSorts (namedBy (inside 2 (p .command)))
   pub between : List ℕ
   pub kept-name : Kept names (ownRow synthesized scope) 1 between
   pub kept-arguments : Kept between (firstRow synthesized scope) (count (inside 2 (p .command))) namesAfter

@@ -73,7 +73,6 @@ fn grown(scope: Scope, synthesized: bool) -> Scope
 // Puts the name of the command at a word into its row, with the sort of its result; returns the word of the name where it is reserved or taken, else `nowhere`.
 fn own_name(
     text: &[u8],
-    words: &[u32],
     lexemes: &[u64],
     names: &mut [u8],
     scope: Scope,
@@ -81,21 +80,20 @@ fn own_name(
     at: usize,
     nowhere: usize,
 ) -> usize
-    requires { ⌜ HeadAt (now text) (now words) (now lexemes) (now names) scope synthesized at ⌝ }
-    ensures { λ r. ⌜ ((p : HeadAt (now (text .entry)) (now (words .entry)) (now (lexemes .entry)) (now (names .entry)) scope synthesized at) → OwnNamed p nowhere (now (names .exit)) r) ⌝ }
+    requires { ⌜ HeadAt (now text) (now lexemes) (now names) scope synthesized at ⌝ }
+    ensures { λ r. ⌜ ((p : HeadAt (now (text .entry)) (now (lexemes .entry)) (now (names .entry)) scope synthesized at) → OwnNamed p nowhere (now (names .exit)) r) ⌝ }
 {
     let row = own_row(scope, synthesized);
     let result = next_at(lexemes, next_at(lexemes, at + 2));
     let sort = sort_of(lexemes, result) as u8;
-    let place = new_name(text, words, lexemes, names, scope, row, 0, at + 2, nowhere);
-    put_name(names, row, sort, bytes_at(text, words, at + 2));
+    let place = new_name(text, lexemes, names, scope, row, 0, at + 2, nowhere);
+    put_name(names, row, sort, bytes_at(text, lexemes, at + 2));
     place
 }
 
 // Puts the name and the arguments of the command at a word into their rows; returns the least word whose name is reserved, taken or no sort's; `nowhere` where there is none.
 pub fn head_names(
     text: &[u8],
-    words: &[u32],
     lexemes: &[u64],
     names: &mut [u8],
     scope: Scope,
@@ -103,17 +101,16 @@ pub fn head_names(
     at: usize,
     nowhere: usize,
 ) -> usize
-    requires { ⌜ HeadAt (now text) (now words) (now lexemes) (now names) scope synthesized at ⌝ }
-    ensures { λ r. ⌜ ((p : HeadAt (now (text .entry)) (now (words .entry)) (now (lexemes .entry)) (now (names .entry)) scope synthesized at) → HeadNamed p nowhere (now (names .exit)) r) ⌝ }
+    requires { ⌜ HeadAt (now text) (now lexemes) (now names) scope synthesized at ⌝ }
+    ensures { λ r. ⌜ ((p : HeadAt (now (text .entry)) (now (lexemes .entry)) (now (names .entry)) scope synthesized at) → HeadNamed p nowhere (now (names .exit)) r) ⌝ }
 {
     let arguments = next_at(lexemes, at + 2);
     let close = next_at(lexemes, arguments) - 1;
     let later = grown(scope, synthesized);
     let first = first_row(scope, synthesized);
-    let own = own_name(text, words, lexemes, names, scope, synthesized, at, nowhere);
+    let own = own_name(text, lexemes, names, scope, synthesized, at, nowhere);
     let within = new_pairs(
         text,
-        words,
         lexemes,
         names,
         later,

@@ -6,7 +6,7 @@ use mathlib.Core.Path.{_≡_, refl, sym, ap, _∙_, subst}
 use mathlib.Core.List.{List}
 use lib.ListN.{length}
 use Rattle.forest.specs.Forest.{count, none, tree}
-use Rattle.words.specs.Trees.{Lexeme}
+use Rattle.scanning.specs.Trees.{Lexeme}
 use lib.Dec.{ltb}
 use borrow.Author.Tests.{ltb-false, ltb-true}
 use Rattle.forest.proofs.Bools.{and-left, and-right}
@@ -57,7 +57,7 @@ module _ {lexemes : List ℕ} {first close : ℕ} {G : Type 0} where
       pub along-here : (g : G) → let x = item-of g in holds g (tree (x .label) (x .operands) (x .more))
       along-here g = subst (holds g) (some-left (a .left g .stands) h .is) (a .left g .known)
 
-      pub along-room : 3 * at < length lexemes
+      pub along-room : 6 * at < length lexemes
       along-room = let x = item-of (a .given) in here (x .same) (x .stands) .room
 
       module _ {next : ℕ} (e : next ≡ nextAt lexemes at) where

@@ -11,7 +11,7 @@ use Rattle.forest.specs.Forest.{none, tree}
 use Rattle.forest.specs.Lists.{among, sameBytes}
 use Rattle.forest.proofs.Bools.{and-left, and-right}
 use Rattle.forest.proofs.Lists.{amongAfter, one-by-one}
-use Rattle.words.specs.Trees.{Lexeme, list, literal, numeral, symbol}
+use Rattle.scanning.specs.Trees.{Lexeme, list, literal, numeral, symbol}
 use Rattle.bits.specs.Operators.{operators}
 use Rattle.reserved.specs.Reserved.{isOneOf, isWord, knownWords, placeAmong, wordNumber}
 use Rattle.reserved.proofs.Numbers.{by-number, isKnown, numberOf}

@@ -6,15 +6,15 @@ use mathlib.Core.Path.{_≡_, refl, sym, _∙_}
 use mathlib.Core.List.{List, [], _∷_, _++_}
 use lib.ListN.{drop, getD, length, set, take, length-append, length-map, length-set, List·getD-append}
 use lib.Seq.{getD-drop, length-take-le, take-all}
-use Rattle.forest.specs.Rows.{over, rows}
+use Rattle.forest.specs.Rows.{numberAt, over, rows}
 use Rattle.forest.proofs.Lists.{drop-map, stands, take-more}
 use Rattle.forest.proofs.Rows.{length-rows, over-more, rows-append}
 use Rattle.reserved.specs.Reserved.{wordNumber}
 use Rattle.spelling.specs.declared.Kind.{Kind}
 use Rattle.spelling.specs.declared.Kind.the-variants.{Open, Close, Numeral, Literal, Symbol, Faulty}
-use Rattle.words.specs.Table.{endAt, entries, kindAt, kindNumber, nextAt, startAt, valueOf, wordValues}
-use Rattle.words.specs.Words.{wordsOf}
-use Rattle.words.proofs.Chains.{entries-long}
+use Rattle.scanning.specs.Table.{Entry, endAt, entries, kindAt, kindNumber, nextAt, row, startAt, valueOf, widthAt, wordValues}
+use Rattle.scanning.specs.Words.{wordsOf}
+use Rattle.scanning.proofs.Chains.{entries-long}
 use Rattle.lexemes.specs.Standing.{Coded, Numbering, WordsOf}
 use Rattle.lexemes.specs.Table.{kindCode, lexemeRow, lexemeTable}
 use Rattle.lexemes.proofs.Said.{entryOf, entry-here, part-fits, word-says}
@@ -40,9 +40,17 @@ symbol-code Symbol bytes h = refl
 symbol-code (Faulty fault) bytes h = absurd (omega arith)
 
 module _ {text words : List ℕ} {i : ℕ} (given : WordsOf text words i) where
+  -- the word with the index past it
+  abbrev entry : Entry
+  entry = entryOf text i (given .word) (given .later) (given .here)
+
+  -- number `column` of the word's row
+  words-say : (column : ℕ) → column < 5 → numberAt 5 words i column ≡ getD (row entry) column 0
+  words-say = word-says text i (given .word) (given .later) (given .here) (given .rest) (given .is-words)
+
   -- what the word is, by its number
   kind-said : {kind : ℕ} → kind ≡ kindAt words i → kind ≡ kindNumber (given .word .kind)
-  kind-said ek = ek ∙ word-says given 0 (omega arith)
+  kind-said ek = ek ∙ words-say 0 (omega arith)
 
   -- the code of a word that is no symbol
   pub code-low : {kind : ℕ} → kind ≡ kindAt words i → kind < 5 → Coded given kind
@@ -51,10 +59,10 @@ module _ {text words : List ℕ} {i : ℕ} (given : WordsOf text words i) where
   module _ {start end : ℕ} (es : start ≡ startAt words i) (ee : end ≡ endAt words i) where
     -- where the word stands in the text
     start-said : start ≡ given .word .start
-    start-said = es ∙ word-says given 1 (omega arith)
+    start-said = es ∙ words-say 1 (omega arith)
 
     end-said : end ≡ given .word .end
-    end-said = ee ∙ word-says given 2 (omega arith)
+    end-said = ee ∙ words-say 2 (omega arith)
 
     -- which is a part of the text
     pub part-start : start ≤ end
@@ -109,30 +117,44 @@ module _ {text words values lexemes₀ : List ℕ} {count : ℕ} (numbering : Nu
       front : List ℕ
       front = rows (lexemeRow text) (take word (entries (wordsOf text) 0))
 
-      front-long : length front ≡ 3 * word
+      front-long : length front ≡ 6 * word
       unfolding front
       front-long =
           let few : word ≤ length (entries (wordsOf text) 0) = omega (arith, numbering .counted, entries-long (wordsOf text) 0) in
-          rw (length-rows (lexemeRow text) 3 (λ e. refl) (take word (entries (wordsOf text) 0)), length-take-le word _ few)
+          rw (length-rows (lexemeRow text) 6 (λ e. refl) (take word (entries (wordsOf text) 0)), length-take-le word _ few)
 
       -- one row more
-      pub filling-goes : {code : ℕ} → ((given : WordsOf text words word) → Coded given code) → {next : ℕ} → next ≡ nextAt words word
-          → Filling text lexemes₀ count (set (set (set lexemes (3 * word) code) (3 * word + 1) next) (3 * word + 2) (getD values word 0)) (word + 1)
+      pub filling-goes : {code : ℕ} → ((given : WordsOf text words word) → Coded given code) → {next start end width : ℕ} → next ≡ nextAt words word
+          → start ≡ startAt words word → end ≡ endAt words word → width ≡ widthAt words word
+          → Filling text lexemes₀ count
+          (set (set (set (set (set (set lexemes (6 * word) code) (6 * word + 1) next) (6 * word + 2) (getD values word 0)) (6 * word + 3) start)
+          (6 * word + 4)
+          end)
+          (6 * word + 5)
+          width) (word + 1)
       unfolding front rows
-      filling-goes {code} ec {next} en =
+      filling-goes {code} ec {next} {start} {end} {width} en es ee ew =
           let given = filling-asks in
           let all = entries (wordsOf text) 0 in
-          let next-is : next ≡ entryOf given .next = en ∙ word-says given 4 (omega arith) in
-          let row : code ∷ next ∷ getD values word 0 ∷ [] ≡ lexemeRow text (entryOf given) = rw (ec given, next-is, value-said given) in
-          let one : 3 * word + 1 ≡ suc (3 * word) = omega arith in
-          let two : 3 * word + 2 ≡ suc (suc (3 * word)) = omega arith in
-          let room : length front + 3 ≤ length lexemes₀ = omega (arith, front-long, numbering .room) in
-          let more : rows (lexemeRow text) (take (word + 1) all) ≡ front ++ lexemeRow text (entryOf given) =
-          rw (take-more all word _ _ (entry-here given), rows-append (lexemeRow text) 3 (λ e. refl) (take word all) (entryOf given ∷ [])) in
+          let said = words-say given in
+          let numbers : List ℕ = code ∷ next ∷ getD values word 0 ∷ start ∷ end ∷ width ∷ [] in
+          let row : numbers ≡ lexemeRow text (entry given) =
+          rw (ec given, en ∙ said 4 (omega arith), value-said given, es ∙ said 1 (omega arith), ee ∙ said 2 (omega arith), ew ∙ said 3 (omega arith)) in
+          let one : 6 * word + 1 ≡ suc (6 * word) = omega arith in
+          let two : 6 * word + 2 ≡ suc (suc (6 * word)) = omega arith in
+          let three : 6 * word + 3 ≡ suc (suc (suc (6 * word))) = omega arith in
+          let four : 6 * word + 4 ≡ suc (suc (suc (suc (6 * word)))) = omega arith in
+          let five : 6 * word + 5 ≡ suc (suc (suc (suc (suc (6 * word))))) = omega arith in
+          let room : length front + 6 ≤ length lexemes₀ = omega (arith, front-long, numbering .room) in
+          let more : rows (lexemeRow text) (take (word + 1) all) ≡ front ++ lexemeRow text (entry given) =
+          rw (
+            take-more all word _ _ (entry-here text word (given .word) (given .later) (given .here)),
+            rows-append (lexemeRow text) 6 (λ e. refl) (take word all) (entry given ∷ []),
+          ) in
           record {
             reached = omega arith;
             long = simp length-set (filling .long);
-            is = rw (one, two, filling .is, ← front-long) (over-more front (code ∷ next ∷ getD values word 0 ∷ []) lexemes₀ room ∙ rw (row, more));
+            is = rw (one, two, three, four, five, filling .is, ← front-long) (over-more front numbers lexemes₀ room ∙ rw (row, more));
           }
 
   -- all rows are written

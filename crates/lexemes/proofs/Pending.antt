@@ -7,7 +7,7 @@ use mathlib.Core.List.{List, [], _∷_}
 use borrow.Author.Tests.{eq-eqb}
 use Rattle.forest.specs.Forest.{count, none, tree}
 use Rattle.forest.proofs.Laws.{tree-of-count}
-use Rattle.words.specs.Trees.{Lexeme, list}
+use Rattle.scanning.specs.Trees.{Lexeme, list}
 use Rattle.lexemes.specs.Lists.{Items, isList}
 use Rattle.lexemes.specs.Table.{closeCode, codeAt, codeOf, nextAt, openCode}
 use Rattle.lexemes.specs.Standing.{Between, ItemAt, ListAt, Source, Stands, bracketed, ends, word}

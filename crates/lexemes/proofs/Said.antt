@@ -4,19 +4,19 @@ use native.Mathlib.Nat.{le-of-lt, zero-add}
 use native.Mathlib.Omega.{arith}
 use mathlib.Core.Path.{_≡_, refl, sym, _∙_}
 use mathlib.Core.Bool.{Bool, true, false, cond}
-use mathlib.Core.List.{List, [], _∷_, _++_, map}
+use mathlib.Core.List.{List, [], _∷_, _++_, append-nil, map}
 use lib.ListN.{drop, getD, length}
 use Rattle.forest.specs.Rows.{numberAt}
 use Rattle.forest.proofs.Lists.{drop-map, within}
 use Rattle.forest.proofs.Rows.{row-at}
-use Rattle.words.specs.Spans.{commentAfter, inRun, starts, startsFrom, wordStarts}
-use Rattle.words.specs.Table.{Entry, entries, nextOf, row, valueOf, widthAt, widthOf, wordTable}
-use Rattle.words.specs.Trees.{bytesOf}
-use Rattle.words.specs.Words.{Word, wordAt, wordsOf}
-use Rattle.words.proofs.Chains.{entries-drop, wide}
-use Rattle.words.proofs.Offsets.{end-past, end-within}
-use Rattle.lexemes.specs.Standing.{Source, WordsOf, spelt}
-use Rattle.lexemes.specs.Table.{codeAt, kindCode, lexemeRow, lexemeTable, nextAt, valueAt}
+use Rattle.scanning.specs.Spans.{commentAfter, inRun, starts, startsFrom, wordStarts}
+use Rattle.scanning.specs.Table.{Entry, entries, nextOf, row, valueOf, widthOf, wordTable}
+use Rattle.scanning.specs.Trees.{bytesOf}
+use Rattle.scanning.specs.Words.{Word, wordAt, wordsOf}
+use Rattle.scanning.proofs.Chains.{entries-drop, wide}
+use Rattle.scanning.proofs.Offsets.{end-past, end-within}
+use Rattle.lexemes.specs.Standing.{Source, allOf, spelt}
+use Rattle.lexemes.specs.Table.{codeAt, kindCode, lexemeRow, lexemeTable, nextAt, valueAt, widthAt}
 
 -- ---- a word of a text
 
@@ -59,51 +59,44 @@ part-fits text i w more e =
 
 -- ---- the rows of word i
 
-module _ {text words : List ℕ} {i : ℕ} (given : WordsOf text words i) where
+module _ (text : List ℕ) (i : ℕ) (w : Word) (later : List Word) (here : drop i (wordsOf text) ≡ w ∷ later) where
   -- the word with the index past it
   abbrev pub entryOf : Entry
-  entryOf = record { word = given .word; next = nextOf (given .word) (given .later) i }
+  entryOf = record { word = w; next = nextOf w later i }
 
   -- it stands among the entries of the text
-  pub entry-here : drop i (entries (wordsOf text) 0) ≡ entryOf ∷ entries (given .later) (i + 1)
+  pub entry-here : drop i (entries (wordsOf text) 0) ≡ entryOf ∷ entries later (i + 1)
   unfolding entries
-  entry-here = entries-drop (wordsOf text) 0 i ∙ rw (zero-add, given .here)
+  entry-here = entries-drop (wordsOf text) 0 i ∙ rw (zero-add, here)
 
   -- number `column` of the word's row in the word table
-  pub word-says : (column : ℕ) → column < 5 → numberAt 5 words i column ≡ getD (row entryOf) column 0
+  pub word-says : {words : List ℕ} (rest : List ℕ) → words ≡ wordTable (wordsOf text) ++ rest → (column : ℕ) → column < 5
+      → numberAt 5 words i column ≡ getD (row entryOf) column 0
   unfolding wordTable
-  word-says column h = rw (given .is-words) (row-at row 5 wide (entries (wordsOf text) 0) (given .rest) i column entryOf _ entry-here h)
+  word-says rest is column h = rw is (row-at row 5 wide (entries (wordsOf text) 0) rest i column entryOf _ entry-here h)
 
   -- number `column` of the word's row in the table of lexemes
-  pub lexeme-says : {lexemes : List ℕ} (rest : List ℕ) → lexemes ≡ lexemeTable text (wordsOf text) ++ rest → (column : ℕ) → column < 3
-      → numberAt 3 lexemes i column ≡ getD (lexemeRow text entryOf) column 0
+  pub lexeme-says : {lexemes : List ℕ} (rest : List ℕ) → lexemes ≡ lexemeTable text (wordsOf text) ++ rest → (column : ℕ) → column < 6
+      → numberAt 6 lexemes i column ≡ getD (lexemeRow text entryOf) column 0
   unfolding lexemeTable
-  lexeme-says rest is column h =
-      rw is (row-at (lexemeRow text) 3 (λ e. refl) (entries (wordsOf text) 0) rest i column entryOf _ entry-here h)
+  lexeme-says rest is column h = rw is (row-at (lexemeRow text) 6 (λ e. refl) (entries (wordsOf text) 0) rest i column entryOf _ entry-here h)
 
--- what both tables say of word i
+-- what the table of lexemes says of word i
 pub record Saying (source : Source) (i : ℕ) (w : Word) (later : List Word) : Type 0 where
   pub code : codeAt (source .lexemes) i ≡ kindCode (w .kind) (bytesOf (source .text) w)
   pub next : nextAt (source .lexemes) i ≡ nextOf w later i
   pub value : valueAt (source .lexemes) i ≡ valueOf (w .kind)
-  pub width : widthAt (source .words) i ≡ widthOf (w .kind)
+  pub width : widthAt (source .lexemes) i ≡ widthOf (w .kind)
   pub bytes : spelt source i ≡ bytesOf (source .text) w
 
--- the tables of a text
-pub record Tables (source : Source) : Type 0 where
-  pub rest : List ℕ
-  pub more : List ℕ
-  pub is-words : source .words ≡ wordTable (wordsOf (source .text)) ++ rest
-  pub is-lexemes : source .lexemes ≡ lexemeTable (source .text) (wordsOf (source .text)) ++ more
-
--- the tables of a text say that of each of its words
-pub say : {source : Source} → Tables source → (i : ℕ) (w : Word) (later : List Word) → drop i (wordsOf (source .text)) ≡ w ∷ later → Saying source i w later
-say {source} tables i w later here =
-    let given : WordsOf (source .text) (source .words) i = record { rest = tables .rest; is-words = tables .is-words; word = w; later = later; here = here } in
+-- the table of lexemes says that of each word of its text
+pub say : (text : List ℕ) (i : ℕ) (w : Word) (later : List Word) → drop i (wordsOf text) ≡ w ∷ later → Saying (allOf text) i w later
+say text i w later here =
+    let said = lexeme-says text i w later here [] (sym (append-nil (lexemeTable text (wordsOf text)))) in
     record {
-      code = lexeme-says given (tables .more) (tables .is-lexemes) 0 (omega arith);
-      next = lexeme-says given (tables .more) (tables .is-lexemes) 1 (omega arith);
-      value = lexeme-says given (tables .more) (tables .is-lexemes) 2 (omega arith);
-      width = word-says given 3 (omega arith);
-      bytes = rw (word-says given 1 (omega arith), word-says given 2 (omega arith));
+      code = said 0 (omega arith);
+      next = said 1 (omega arith);
+      value = said 2 (omega arith);
+      width = said 5 (omega arith);
+      bytes = rw (said 3 (omega arith), said 4 (omega arith));
     }

@@ -16,10 +16,10 @@ use Rattle.spelling.specs.declared.Fault.{Fault}
 use Rattle.spelling.specs.declared.Kind.{Kind}
 use Rattle.spelling.specs.declared.Kind.the-variants.{Open, Close, Numeral, Literal, Symbol, Faulty}
 use Rattle.readings.specs.Answers.{faultNumber}
-use Rattle.words.specs.Reading.{closeFault, faultAt, lesser, limitFault, ownFault}
-use Rattle.words.specs.Words.{Word, wordAt, wordsOf}
+use Rattle.scanning.specs.Reading.{closeFault, faultAt, lesser, limitFault, ownFault}
+use Rattle.scanning.specs.Words.{Word, wordAt, wordsOf}
 use Rattle.readings.specs.declared.Limits.{Limits}
-use Rattle.words.proofs.Turns.{lesser-none}
+use Rattle.scanning.proofs.Turns.{lesser-none}
 use Rattle.lexemes.proofs.Said.{found}
 
 -- ---- a word that is faulty has a fault

@@ -1,10 +1,10 @@
 -- A text that was read whole: its items stand in its tables.
-use Prim.Native.Nat.{ℕ, suc, _+_, _-_}
+use Prim.Native.Nat.{ℕ, suc, _+_, _-_, _≤_}
 use native.Mathlib.Numerals.{add-one}
 use native.Mathlib.Omega.{arith}
 use mathlib.Core.Path.{_≡_, refl, sym, ap, _∙_}
 use mathlib.Core.Bool.{Bool, true, false, cond}
-use mathlib.Core.List.{List, [], _∷_, _++_}
+use mathlib.Core.List.{List, [], _∷_}
 use borrow.Author.Tests.{eqb-true}
 use lib.Dec.{eqb, leb}
 use lib.ListN.{drop, length}
@@ -12,22 +12,24 @@ use lib.Seq.{take-all}
 use Rattle.forest.specs.Forest.{none, tree}
 use Rattle.forest.proofs.Bools.{apart}
 use Rattle.forest.proofs.Lists.{drop-more}
-use Rattle.words.specs.Table.{closes, opens, closeOf, nextOf, valueOf, widthOf, wordTable}
+use Rattle.scanning.specs.Table.{closes, opens, pastClose, nextOf, valueOf, widthOf}
 use Rattle.spelling.specs.declared.Fault.the-variants.{Bracket, TooLong}
 use Rattle.spelling.specs.declared.Kind.{Kind}
 use Rattle.spelling.specs.declared.Kind.the-variants.{Open, Close, Numeral, Literal, Symbol, Faulty}
 use Rattle.readings.specs.Answers.{faultNumber}
-use Rattle.words.specs.Reading.{depthAfter, ending, faultAt, judged, readingOf, wordsRead}
-use Rattle.words.specs.Trees.{Level, Lexeme, bytesOf, inner, levelsAt, levelsBefore, list, literal, numeral, outer, symbol, treesFrom, withItem, wordOf}
-use Rattle.words.specs.Words.{Word, wordsOf}
+use Rattle.scanning.specs.Reading.{depthAfter, foundAtEnd, faultAt, foundFrom, readingOf, wordsRead}
+use Rattle.scanning.specs.Trees.{Level, Lexeme, bytesOf, inner, levelsAt, levelsBefore, list, literal, numeral, outer, symbol, treesFrom, withItem, wordOf}
+use Rattle.scanning.specs.Words.{Word, wordsOf}
 use Rattle.readings.specs.declared.Limits.{Limits}
 use Rattle.readings.specs.declared.Reading.{Reading}
 use Rattle.readings.specs.declared.Reading.the-variants.{Whole, Refused}
-use Rattle.words.proofs.Chains.{close-on}
+use Rattle.scanning.proofs.Chains.{close-on}
+use Rattle.scanning.proofs.Turns.{has-room}
 use Rattle.lexemes.specs.Lists.{Items, isList, isNumeral}
-use Rattle.lexemes.specs.Standing.{ListIs, Source, Stands, WordIs, bracketed, bytesKept, ends, itemsOf, valueOf as valueKept, widthOf as widthKept, word}
-use Rattle.lexemes.specs.Table.{closeCode, codeAt, codeOf, kindCode, lexemeTable}
-use Rattle.lexemes.proofs.Said.{Saying, Tables, say}
+use Rattle.lexemes.specs.Standing.{ListIs, Source, Stands, WordIs, allOf, bracketed, bytesKept, ends, itemsOf, valueOf as valueKept, widthOf as widthKept}
+use Rattle.lexemes.specs.Standing.{word}
+use Rattle.lexemes.specs.Table.{closeCode, codeAt, codeOf, kindCode}
+use Rattle.lexemes.proofs.Said.{Saying, say}
 use Rattle.lexemes.proofs.Sound.{Sound, not-faulty, some-open, word-sound}
 
 -- ---- the lists that are open before a word
@@ -36,7 +38,7 @@ use Rattle.lexemes.proofs.Sound.{Sound, not-faulty, some-open, word-sou
 record Inside (source : Source) (ws : List Word) (i : ℕ) (level : Level) : Type 0 where
   stands : Stands source i (level .items) (level .close)
   closed : codeAt (source .lexemes) (level .close) ≡ closeCode
-  ends-at : closeOf (drop i ws) 0 i ≡ level .close + 1
+  ends-at : pastClose (drop i ws) 0 i ≡ level .close + 1
 
 -- the open lists stand one behind the other from word i on, each to its bracket, and what is behind them to the end of the text
 data Standing (source : Source) (ws : List Word) : (i depth : ℕ) → List Level → Type 0 where
@@ -46,7 +48,8 @@ data Standing (source : Source) (ws : List Word) : (i depth : ℕ) → List Leve
 
 -- one item more at the front of the innermost list
 with-item : {source : Source} {ws : List Word} {i next depth : ℕ} {levels : List Level} (l : Lexeme) (operands : Items)
-    → ((e : ℕ) (more : Items) → Stands source next more e → Stands source i (tree l operands more) e) → closeOf (drop i ws) 0 i ≡ closeOf (drop next ws) 0 next
+    → ((e : ℕ) (more : Items) → Stands source next more e → Stands source i (tree l operands more) e)
+    → pastClose (drop i ws) 0 i ≡ pastClose (drop next ws) 0 next
     → Standing source ws next depth levels → Standing source ws i depth (withItem (length ws) l operands levels)
 with-item l operands front same (outermost st) = outermost (front _ _ st)
 with-item l operands front same (within inside rest) =
@@ -54,18 +57,21 @@ with-item l operands front same (within inside rest) =
 
 -- ---- one word
 
-module _ {source : Source} (tables : Tables source) (i : ℕ) (w : Word) (later : List Word) (here : drop i (wordsOf (source .text)) ≡ w ∷ later) where
-  -- the words of the text
-  abbrev ws : List Word
-  ws = wordsOf (source .text)
+module _ (text : List ℕ) (i : ℕ) (w : Word) (later : List Word) (here : drop i (wordsOf text) ≡ w ∷ later) where
+  -- what is read of the text, and its words
+  abbrev source : Source
+  source = allOf text
 
-  -- what the tables say of it
+  abbrev ws : List Word
+  ws = wordsOf text
+
+  -- what the table says of the word
   said : Saying source i w later
-  said = say tables i w later here
+  said = say text i w later here
 
   -- a word that is no bracket stands in the table
-  word-is : (l : Lexeme) → isList l ≡ false → wordOf l ≡ i → kindCode (w .kind) (bytesOf (source .text) w) ≡ codeOf l → valueOf (w .kind) ≡ valueKept l
-      → opens (w .kind) ≡ false → widthOf (w .kind) ≡ widthKept l → (isNumeral l ≡ false → bytesOf (source .text) w ≡ bytesKept l) → WordIs source i l
+  word-is : (l : Lexeme) → isList l ≡ false → wordOf l ≡ i → kindCode (w .kind) (bytesOf text w) ≡ codeOf l → valueOf (w .kind) ≡ valueKept l
+      → opens (w .kind) ≡ false → widthOf (w .kind) ≡ widthKept l → (isNumeral l ≡ false → bytesOf text w ≡ bytesKept l) → WordIs source i l
   unfolding nextOf
   word-is l no-list placed code value apart width bytes =
       record {
@@ -87,7 +93,7 @@ module _ {source : Source} (tables : Tables source) (i : ℕ) (w : Word) (later 
   -- a bracket that closes a list
   close-stands : {depth : ℕ} {levels : List Level} → w .kind ≡ Close
       → Standing source ws (i + 1) depth levels → Standing source ws i (suc depth) (record { close = i; items = none } ∷ levels)
-  unfolding closeOf
+  unfolding pastClose
   close-stands e st =
       let inside : Inside source ws i (record { close = i; items = none }) = record { stands = ends; closed = said .code ∙ rw e; ends-at = rw (here, e) } in
       within inside st
@@ -104,7 +110,7 @@ module _ {source : Source} (tables : Tables source) (i : ℕ) (w : Word) (later 
 
   -- a word of any kind
   step : (limits : Limits) (depth : ℕ) (levels : List Level) (kind : Kind) → w .kind ≡ kind → Sound kind → faultNumber (faultAt limits kind i depth) ≡ 0
-      → Standing source ws (i + 1) (depthAfter kind depth) levels → Standing source ws i depth (levelsBefore (source .text) (length ws) i w kind levels)
+      → Standing source ws (i + 1) (depthAfter kind depth) levels → Standing source ws i depth (levelsBefore text (length ws) i w kind levels)
   unfolding levelsBefore depthAfter
   step limits depth levels Open e sound well st = open-stands e (rw (add-one depth) at st)
   step limits depth levels Close e sound well st =
@@ -123,7 +129,7 @@ module _ {source : Source} (tables : Tables source) (i : ℕ) (w : Word) (later 
 
 module _ (limits : Limits) (size : ℕ) where
   -- what a reading that is whole says of its end
-  whole-ends : (i depth n : ℕ) → ending size i depth ≡ Whole n → (depth ≡ 0) × (i ≡ n)
+  whole-ends : (i depth n : ℕ) → foundAtEnd size i depth ≡ Whole n → (depth ≡ 0) × (i ≡ n)
   whole-ends i depth n e = go (eqb depth 0) refl e
     where
       go : (t : Bool) → eqb depth 0 ≡ t → cond t (Whole i) (Refused Bracket size i) ≡ Whole n → (depth ≡ 0) × (i ≡ n)
@@ -131,45 +137,53 @@ module _ (limits : Limits) (size : ℕ) where
       go false t e = let z : _≡_ {A = ℕ} 0 1 = cc in absurd (omega arith)
 
   -- and of a word
-  whole-goes : (w : Word) (more : List Word) (i depth n : ℕ) → judged limits size (w ∷ more) i depth ≡ Whole n
-      → (faultNumber (faultAt limits (w .kind) i depth) ≡ 0) × (judged limits size more (i + 1) (depthAfter (w .kind) depth) ≡ Whole n)
-  unfolding judged
+  whole-goes : (w : Word) (more : List Word) (i depth n : ℕ) → foundFrom limits size (w ∷ more) i depth ≡ Whole n
+      → (faultNumber (faultAt limits (w .kind) i depth) ≡ 0) × (foundFrom limits size more (i + 1) (depthAfter (w .kind) depth) ≡ Whole n)
+  unfolding foundFrom
   whole-goes w more i depth n e = go (eqb (faultNumber (faultAt limits (w .kind) i depth)) 0) refl e
     where
       go : (t : Bool) → eqb (faultNumber (faultAt limits (w .kind) i depth)) 0 ≡ t
-          → cond t (judged limits size more (i + 1) (depthAfter (w .kind) depth)) (Refused (faultAt limits (w .kind) i depth) (w .start) i) ≡ Whole n
-          → (faultNumber (faultAt limits (w .kind) i depth) ≡ 0) × (judged limits size more (i + 1) (depthAfter (w .kind) depth) ≡ Whole n)
+          → cond t (foundFrom limits size more (i + 1) (depthAfter (w .kind) depth)) (Refused (faultAt limits (w .kind) i depth) (w .start) i) ≡ Whole n
+          → (faultNumber (faultAt limits (w .kind) i depth) ≡ 0) × (foundFrom limits size more (i + 1) (depthAfter (w .kind) depth) ≡ Whole n)
       go true t e = (eqb-true _ 0 t, e)
       go false t e = let z : _≡_ {A = ℕ} 0 1 = cc in absurd (omega arith)
 
   -- it passes every word
-  counted : (ws : List Word) (i depth n : ℕ) → judged limits size ws i depth ≡ Whole n → n ≡ i + length ws
-  unfolding judged
+  counted : (ws : List Word) (i depth n : ℕ) → foundFrom limits size ws i depth ≡ Whole n → n ≡ i + length ws
+  unfolding foundFrom
   counted [] i depth n e = let p = whole-ends i depth n e in omega arith
   counted (w ∷ ws) i depth n e = omega (arith, counted ws (i + 1) (depthAfter (w .kind) depth) n (whole-goes w ws i depth n e .1))
 
-  module _ {source : Source} (tables : Tables source) where
+  -- each of them is within the limit
+  within-limit : (ws : List Word) (i depth n : ℕ) → foundFrom limits size ws i depth ≡ Whole n → i ≤ limits .words → n ≤ limits .words
+  unfolding foundFrom
+  within-limit [] i depth n e h = let p = whole-ends i depth n e in omega arith
+  within-limit (w ∷ ws) i depth n e h =
+      let p = whole-goes w ws i depth n e in
+      within-limit ws (i + 1) (depthAfter (w .kind) depth) n (p .1) (omega (arith, has-room limits (w .kind) i depth _ _ refl refl (p .0)))
+
+  module _ (text : List ℕ) where
     -- the words of the text
     abbrev all : List Word
-    all = wordsOf (source .text)
+    all = wordsOf text
 
     -- the open lists stand before each word
-    stand-all : (ws : List Word) (i depth n : ℕ) → drop i all ≡ ws → i + length ws ≡ length all → judged limits size ws i depth ≡ Whole n
-        → Standing source all i depth (levelsAt (source .text) (length all) ws i)
-    unfolding judged levelsAt
+    stand-all : (ws : List Word) (i depth n : ℕ) → drop i all ≡ ws → i + length ws ≡ length all → foundFrom limits size ws i depth ≡ Whole n
+        → Standing (allOf text) all i depth (levelsAt text (length all) ws i)
+    unfolding foundFrom levelsAt
     stand-all [] i depth n here long e =
         let p = whole-ends i depth n e in
         let past : length all ≡ i = omega arith in
-        let st : Stands source i none (length all) = rw past ends in
+        let st : Stands (allOf text) i none (length all) = rw past ends in
         rw (p .0) (outermost st)
     stand-all (w ∷ ws) i depth n here long e =
         let p = whole-goes w ws i depth n e in
         let later = stand-all ws (i + 1) (depthAfter (w .kind) depth) n (drop-more all i w ws here) (omega arith) (p .1) in
-        step tables i w ws here limits depth _ (w .kind) refl (word-sound (source .text) i w ws here) (p .0) later
+        step text i w ws here limits depth _ (w .kind) refl (word-sound text i w ws here) (p .0) later
 
 module _ (limits : Limits) (text : List ℕ) (n : ℕ) (whole : readingOf limits text ≡ Whole n) where
   -- the words of a text that is read whole have no fault
-  judged-whole : judged limits (length text) (wordsOf text) 0 0 ≡ Whole n
+  judged-whole : foundFrom limits (length text) (wordsOf text) 0 0 ≡ Whole n
   unfolding readingOf
   judged-whole = go (leb (length text) (limits .bytes)) whole
     where
@@ -181,19 +195,20 @@ module _ (limits : Limits) (text : List ℕ) (n : ℕ) (whole : readingOf limits
   pub whole-count : n ≡ length (wordsOf text)
   whole-count = omega (arith, counted limits (length text) (wordsOf text) 0 0 n judged-whole)
 
+  -- and within the limit
+  pub whole-few : n ≤ limits .words
+  whole-few = within-limit limits (length text) (wordsOf text) 0 0 n judged-whole (omega arith)
+
   -- they are the words that were read
   pub whole-words : wordsRead text (Whole n) ≡ wordsOf text
   unfolding wordsRead
   whole-words = take-all n (wordsOf text) (omega (arith, whole-count))
 
   -- the items of the text stand in its tables from the first word to the last
-  pub text-stands : (words lexemes rest more : List ℕ) → words ≡ wordTable (wordsOf text) ++ rest → lexemes ≡ lexemeTable text (wordsOf text) ++ more
-      → Stands (record { text = text; words = words; lexemes = lexemes }) 0 (itemsOf text) n
+  pub text-stands : Stands (allOf text) 0 (itemsOf text) n
   unfolding itemsOf treesFrom
-  text-stands words lexemes rest more is-words is-lexemes =
-      let source : Source = record { text = text; words = words; lexemes = lexemes } in
-      let tables : Tables source = record { rest = rest; more = more; is-words = is-words; is-lexemes = is-lexemes } in
-      rw whole-count (whole-text (stand-all limits (length text) tables (wordsOf text) 0 0 n refl (omega arith) judged-whole))
+  text-stands =
+      rw whole-count (whole-text (stand-all limits (length text) text (wordsOf text) 0 0 n refl (omega arith) judged-whole))
     where
       whole-text : {source : Source} {ws : List Word} {levels : List Level} → Standing source ws 0 0 levels
           → Stands source 0 (inner (length ws) levels .items) (length ws)

@@ -5,7 +5,7 @@ use mathlib.Core.Bool.{Bool, true, false, _&&_}
 use mathlib.Core.List.{List, []}
 use lib.Dec.{eqb}
 use Rattle.forest.specs.Forest.{Forest, count, none, tree}
-use Rattle.words.specs.Trees.{Lexeme, list, literal, numeral, symbol}
+use Rattle.scanning.specs.Trees.{Lexeme, list, literal, numeral, symbol}
 use Rattle.reserved.specs.Reserved.{isOneOf, isWord}
 
 -- Words and lists one after the other; a list holds such items.
@@ -59,11 +59,11 @@ nameOf (numeral at v) = []
 nameOf (literal at width v written) = []
 
 -- The value of a numeral, 0 of another item.
-abbrev pub numberOf : Lexeme → ℕ
-numberOf (numeral at v) = v
-numberOf (list at close) = 0
-numberOf (symbol at name) = 0
-numberOf (literal at width v written) = 0
+abbrev pub numeralOf : Lexeme → ℕ
+numeralOf (numeral at v) = v
+numeralOf (list at close) = 0
+numeralOf (symbol at name) = 0
+numeralOf (literal at width v written) = 0
 
 -- The bracket that closes a list; another item is closed by itself.
 abbrev pub closeOf : Lexeme → ℕ

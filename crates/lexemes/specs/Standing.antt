@@ -5,25 +5,28 @@ use mathlib.Core.List.{List, [], _∷_, _++_}
 use mathlib.Core.Path.{_≡_}
 use lib.ListN.{drop, length, take}
 use Rattle.forest.specs.Forest.{none, tree}
-use Rattle.words.specs.Table.{endAt, startAt, widthAt, wordTable, wordValues}
-use Rattle.words.specs.Trees.{Lexeme, bytesOf, list, literal, numeral, symbol, treesFrom, wordOf}
-use Rattle.words.specs.Words.{Word, wordsOf}
+use Rattle.scanning.specs.Table.{wordTable, wordValues}
+use Rattle.scanning.specs.Trees.{Lexeme, bytesOf, list, literal, numeral, symbol, treesFrom, wordOf}
+use Rattle.scanning.specs.Words.{Word, wordsOf}
 use Rattle.lexemes.specs.Lists.{Items, after, isList, isNumeral}
-use Rattle.lexemes.specs.Table.{closeCode, codeAt, codeOf, kindCode, nextAt, openCode, valueAt}
+use Rattle.lexemes.specs.Table.{closeCode, codeAt, codeOf, endAt, kindCode, lexemeTable, nextAt, openCode, startAt, valueAt, widthAt}
 
 -- The items of a text: its words in their lists.
 unfoldable pub itemsOf : (text : List ℕ) → Items
 itemsOf text = treesFrom text (length (wordsOf text)) (wordsOf text) 0
 
--- What was read of a text: its bytes, its word table and its table of lexemes.
+-- What was read of a text: its bytes and its table of lexemes.
 pub record Source : Type 0 where
   pub text : List ℕ
-  pub words : List ℕ
   pub lexemes : List ℕ
+
+-- What is read of a text where all of its words are read.
+abbrev pub allOf : (text : List ℕ) → Source
+allOf text = record { text = text; lexemes = lexemeTable text (wordsOf text) }
 
 -- The bytes of word i.
 abbrev pub spelt : Source → ℕ → List ℕ
-spelt s i = take (endAt (s .words) i - startAt (s .words) i) (drop (startAt (s .words) i) (s .text))
+spelt s i = take (endAt (s .lexemes) i - startAt (s .lexemes) i) (drop (startAt (s .lexemes) i) (s .text))
 
 -- The bytes that a lexeme keeps.
 abbrev pub bytesKept : Lexeme → List ℕ
@@ -53,7 +56,7 @@ pub record WordIs (s : Source) (i : ℕ) (l : Lexeme) : Type 0 where
   pub coded : codeAt (s .lexemes) i ≡ codeOf l
   pub valued : valueAt (s .lexemes) i ≡ valueOf l
   pub followed : nextAt (s .lexemes) i ≡ i + 1
-  pub wide : widthAt (s .words) i ≡ widthOf l
+  pub wide : widthAt (s .lexemes) i ≡ widthOf l
   pub written : isNumeral l ≡ false → spelt s i ≡ bytesKept l
 
 -- Word i opens a list that word c closes.
@@ -107,7 +110,7 @@ pub record Numbering (text words values lexemes : List ℕ) (count : ℕ) : Type
   pub is-words : words ≡ wordTable (wordsOf text) ++ rest
   pub is-values : values ≡ wordValues (wordsOf text) ++ more
   pub counted : count ≡ length (wordsOf text)
-  pub room : 3 * count ≤ length lexemes
+  pub room : 6 * count ≤ length lexemes
 
 -- Word i of a text is among those that its word table holds.
 pub record WordsOf (text words : List ℕ) (i : ℕ) : Type 0 where

@@ -1,4 +1,4 @@
--- The table of lexemes: three numbers for each word of a text, brackets counted. The reader of scripts and responses goes by this table alone, but for the
+-- The table of lexemes: six numbers for each word of a text, brackets counted. The reader of scripts and responses goes by this table alone, but for the
 -- bytes of names and literals.
 use Prim.Native.Nat.{ℕ, _+_}
 use mathlib.Core.List.{List, [], _∷_}
@@ -6,9 +6,9 @@ use Rattle.forest.specs.Rows.{numberAt, rows}
 use Rattle.reserved.specs.Reserved.{wordNumber}
 use Rattle.spelling.specs.declared.Kind.{Kind}
 use Rattle.spelling.specs.declared.Kind.the-variants.{Open, Close, Numeral, Literal, Symbol, Faulty}
-use Rattle.words.specs.Table.{Entry, entries, valueOf}
-use Rattle.words.specs.Trees.{Lexeme, bytesOf, list, literal, numeral, symbol}
-use Rattle.words.specs.Words.{Word}
+use Rattle.scanning.specs.Table.{Entry, entries, valueOf, widthOf}
+use Rattle.scanning.specs.Trees.{Lexeme, bytesOf, list, literal, numeral, symbol}
+use Rattle.scanning.specs.Words.{Word}
 
 -- The code of `(`.
 abbrev pub openCode : ℕ
@@ -41,11 +41,12 @@ kindCode (Faulty fault) bytes = 0
 
 -- How many numbers a row has.
 abbrev pub rowWidth : ℕ
-rowWidth = 3
+rowWidth = 6
 
--- The row of a word: its code, the word past it or past the list that it begins, and its value.
+-- The row of a word: its code, the word past it or past the list that it begins, its value, where it starts and ends, and its width.
 abbrev pub lexemeRow : (text : List ℕ) → Entry → List ℕ
-lexemeRow text e = kindCode (e .word .kind) (bytesOf text (e .word)) ∷ e .next ∷ valueOf (e .word .kind) ∷ []
+lexemeRow text e =
+    kindCode (e .word .kind) (bytesOf text (e .word)) ∷ e .next ∷ valueOf (e .word .kind) ∷ e .word .start ∷ e .word .end ∷ widthOf (e .word .kind) ∷ []
 
 -- The table of a text's words.
 unfoldable pub lexemeTable : (text : List ℕ) → List Word → List ℕ
@@ -62,6 +63,18 @@ nextAt lexemes i = numberAt rowWidth lexemes i 1
 -- The value of word i, which is a numeral or a literal; 0 for another word.
 abbrev pub valueAt : List ℕ → ℕ → ℕ
 valueAt lexemes i = numberAt rowWidth lexemes i 2
+
+-- Where word i starts.
+abbrev pub startAt : List ℕ → ℕ → ℕ
+startAt lexemes i = numberAt rowWidth lexemes i 3
+
+-- Where word i ends.
+abbrev pub endAt : List ℕ → ℕ → ℕ
+endAt lexemes i = numberAt rowWidth lexemes i 4
+
+-- The width of word i, which is a literal; 0 for another word.
+abbrev pub widthAt : List ℕ → ℕ → ℕ
+widthAt lexemes i = numberAt rowWidth lexemes i 5
 
 -- The code of a lexeme's first word.
 abbrev pub codeOf : Lexeme → ℕ

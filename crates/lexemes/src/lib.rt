@@ -1,5 +1,5 @@
-//! The table of lexemes: three numbers for each word, its code, the word past it or past the list that it begins, and its value. A word past the end of a table
-//! has zeros.
+//! The table of lexemes: six numbers for each word, its code, the word past it or past the list that it begins, its value, where it starts and ends in its text,
+//! and its width. A word past the end of a table has zeros.
 pub mod codes;
 pub mod items;
 pub mod numbering;
@@ -7,10 +7,10 @@ pub mod numbering;
 ghost use mathlib.Core.Path.{_≡_};
 ghost use Prim.Native.Nat.{_<_};
 ghost use Rattle.forest.specs.Rows.{numberAt};
-ghost use Rattle.lexemes.specs.Table.{codeAt, nextAt, valueAt};
+ghost use Rattle.lexemes.specs.Table.{codeAt, endAt, nextAt, startAt, valueAt, widthAt};
 
 // How many numbers a row has.
-pub const ROW: usize = 3;
+pub const ROW: usize = 6;
 
 // The codes of words; a symbol's is SYMBOL and its number among the words that the reader tells apart.
 pub const OPEN: u64 = 1;
@@ -25,8 +25,8 @@ pub const SYMBOL: u64 = 5;
 
 // Number `column` of a word.
 fn number_at(lexemes: &[u64], word: usize, column: usize) -> u64
-    requires { ⌜ column < 3 ⌝ }
-    ensures { λ r. ⌜ r ≡ numberAt 3 (now (lexemes .entry)) word column ⌝ }
+    requires { ⌜ column < 6 ⌝ }
+    ensures { λ r. ⌜ r ≡ numberAt 6 (now (lexemes .entry)) word column ⌝ }
 {
     if word >= lexemes.len() {
         return 0;
@@ -57,4 +57,25 @@ pub fn value_at(lexemes: &[u64], word: usize) -> u64
     ensures { λ r. ⌜ r ≡ valueAt (now (lexemes .entry)) word ⌝ }
 {
     number_at(lexemes, word, 2)
+}
+
+// Where a word starts in its text.
+pub fn start_at(lexemes: &[u64], word: usize) -> usize
+    ensures { λ r. ⌜ r ≡ startAt (now (lexemes .entry)) word ⌝ }
+{
+    number_at(lexemes, word, 3) as usize
+}
+
+// Where a word ends in its text.
+pub fn end_at(lexemes: &[u64], word: usize) -> usize
+    ensures { λ r. ⌜ r ≡ endAt (now (lexemes .entry)) word ⌝ }
+{
+    number_at(lexemes, word, 4) as usize
+}
+
+// The width of a literal, 0 of another word.
+pub fn width_at(lexemes: &[u64], word: usize) -> u64
+    ensures { λ r. ⌜ r ≡ widthAt (now (lexemes .entry)) word ⌝ }
+{
+    number_at(lexemes, word, 5)
 }

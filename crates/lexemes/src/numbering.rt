@@ -5,12 +5,13 @@ use readings::table::end_at;
 use readings::table::kind_at;
 use readings::table::next_at;
 use readings::table::start_at;
+use readings::table::width_at;
 use reserved::word_number;
 ghost use mathlib.Core.Path.{_≡_};
 ghost use Rattle.forest.specs.Rows.{over};
 ghost use Rattle.lexemes.specs.Standing.{Coded, Numbering, WordsOf};
 ghost use Rattle.lexemes.specs.Table.{lexemeTable};
-ghost use Rattle.words.specs.Words.{wordsOf};
+ghost use Rattle.scanning.specs.Words.{wordsOf};
 
 // The code of a word of a text.
 fn code_of(text: &[u8], words: &[u32], word: usize) -> u64
@@ -35,6 +36,9 @@ pub fn number_words(text: &[u8], words: &[u32], values: &[u64], count: usize, le
         lexemes[at] = code_of(text, words, word);
         lexemes[at + 1] = next_at(words, word) as u64;
         lexemes[at + 2] = values[word];
+        lexemes[at + 3] = start_at(words, word) as u64;
+        lexemes[at + 4] = end_at(words, word) as u64;
+        lexemes[at + 5] = width_at(words, word) as u64;
         word += 1;
     }
 }

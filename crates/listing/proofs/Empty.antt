@@ -8,7 +8,7 @@ use lib.Dec.{eqb}
 use borrow.Author.Tests.{eq-eqb, eqb-true, ne-eqb}
 use Rattle.forest.specs.Forest.{count, none, tree}
 use Rattle.forest.proofs.Bools.{apart}
-use Rattle.words.specs.Trees.{list}
+use Rattle.scanning.specs.Trees.{list}
 use Rattle.lexemes.specs.Lists.{Items}
 use Rattle.lexemes.specs.Table.{nextAt}
 use Rattle.lexemes.specs.Standing.{ListAt, Source, Stands, bracketed, ends, word}

@@ -9,7 +9,7 @@ use borrow.Author.Tests.{eq-eqb, eqb-false, eqb-true, ne-eqb}
 use Rattle.forest.specs.Forest.{count}
 use Rattle.forest.specs.Lists.{sameBytes}
 use Rattle.forest.proofs.Bools.{and-left, and-right}
-use Rattle.words.specs.Trees.{Lexeme, list, literal, numeral, symbol}
+use Rattle.scanning.specs.Trees.{Lexeme, list, literal, numeral, symbol}
 use Rattle.lexemes.specs.Lists.{Items, closeOf, inside, isList, isSymbol, item, nameOf}
 use Rattle.lexemes.specs.Table.{nextAt}
 use Rattle.lexemes.specs.Standing.{ListAt, Source, WordIs, spelt}
@@ -19,7 +19,7 @@ use Rattle.sorts.specs.Steps.{ShapedAt, SortAt}
 use Rattle.sorts.specs.Written.{sortOf}
 use Rattle.sorts.proofs.Walked.{come-first, item-come, word-is}
 use Rattle.sorts.proofs.Parts.{Sorted, group-parts, group-rules, group-sort}
-use Rattle.naming.specs.Scopes.{placeIn}
+use Rattle.lookup.specs.Search.{placeIn}
 use Rattle.naming.specs.Steps.{bytesAt}
 use Rattle.naming.specs.Table.{nameIn, namesFrom, sortIn}
 use Rattle.listing.specs.Steps.{GroupAt, groupMisfit, nameMisfit, rulesMisfit}
@@ -67,27 +67,27 @@ group-symbol l ops e =
     and-right front name
     (and-left (front && name) sort (and-left (front && name && sort) rules (and-left (front && name && sort && rules) (all ruleShape (inside 2 ops)) e)))
 
-module _ {text words lexemes names : List ℕ} {group row : ℕ} where
+module _ {text lexemes names : List ℕ} {group row : ℕ} where
   -- a group has its shape
-  abbrev pub shaped-group : GroupAt text words lexemes names group row → ShapedAt groupShape lexemes group
+  abbrev pub shaped-group : GroupAt text lexemes names group row → ShapedAt groupShape lexemes group
   shaped-group p = record { here = p .here; shaped = p .shaped }
 
   -- the sort of a group
-  abbrev pub listed-sort : GroupAt text words lexemes names group row → SortAt lexemes (group + 2)
+  abbrev pub listed-sort : GroupAt text lexemes names group row → SortAt lexemes (group + 2)
   listed-sort p = group-sort (shaped-group p)
 
   -- its rules
-  abbrev pub listed-rules : {rules : ℕ} → rules ≡ nextAt lexemes (group + 2) → GroupAt text words lexemes names group row → ListAt lexemes rules
+  abbrev pub listed-rules : {rules : ℕ} → rules ≡ nextAt lexemes (group + 2) → GroupAt text lexemes names group row → ListAt lexemes rules
   listed-rules e p =
       let r = group-rules (shaped-group p) e in
       list-from (r .here) (and-left (isList (r .here .label)) (all ruleShape (r .here .operands)) (r .shaped))
 
   -- it is a list of a name and a sort, with a third item
-  named-of : (p : GroupAt text words lexemes names group row) → Sorted (p .here .label) (p .here .operands) 3
+  named-of : (p : GroupAt text lexemes names group row) → Sorted (p .here .label) (p .here .operands) 3
   named-of p = group-parts (p .here .label) (p .here .operands) (p .shaped) .sorted
 
   -- the bytes of its name
-  name-spelt : (p : GroupAt text words lexemes names group row) → bytesAt text words (group + 1) ≡ nameOf (item 0 (p .here .operands))
+  name-spelt : (p : GroupAt text lexemes names group row) → bytesAt text lexemes (group + 1) ≡ nameOf (item 0 (p .here .operands))
   name-spelt p =
       let s = named-of p in
       let list = list-from (p .here) (s .a-list) in
@@ -95,11 +95,11 @@ module _ {text words lexemes names : List ℕ} {group row : ℕ} where
       let is = word-is (item-come list (come-first list) (omega (arith, s .long)) .stands) (s .a-word) in
       ap (λ (x : Source). spelt x (group + 1)) (sym (p .read)) ∙ symbol-spelt name (group-symbol (p .here .label) (p .here .operands) (p .shaped)) is
 
-  module _ {bytes : List ℕ} (eb : bytes ≡ bytesAt text words (group + 1)) {found : ℕ} (ef : found ≡ placeIn (namesFrom names row 1) 0 bytes)
+  module _ {bytes : List ℕ} (eb : bytes ≡ bytesAt text lexemes (group + 1)) {found : ℕ} (ef : found ≡ placeIn (namesFrom names row 1) 0 bytes)
       {sort : ℕ} (es : (q : SortAt lexemes (group + 2)) → sort ≡ sortOf (q .here .label) (q .here .operands))
       {own : ℕ} (eo : own ≡ sortIn names row) (nowhere : ℕ) where
     -- what is tested of name and sort
-    tested : (p : GroupAt text words lexemes names group row)
+    tested : (p : GroupAt text lexemes names group row)
         → (eqb found 0 && eqb sort own)
         ≡ (sameBytes (nameOf (item 0 (p .here .operands))) (nameIn names row)
         && eqb (sortOf (item 1 (p .here .operands)) (inside 1 (p .here .operands))) (sortIn names row))
@@ -110,21 +110,21 @@ module _ {text words lexemes names : List ℕ} {group row : ℕ} where
         ap₂ _&&_ same (ap₂ eqb (es (listed-sort p)) eo)
 
     -- they are those in the row
-    pub name-fits : eqb found 0 && eqb sort own ≡ true → (p : GroupAt text words lexemes names group row)
+    pub name-fits : eqb found 0 && eqb sort own ≡ true → (p : GroupAt text lexemes names group row)
         → nowhere ≡ nameMisfit nowhere names row (p .here .operands)
     name-fits t p = rw (sym (tested p) ∙ t)
 
     -- they are not
-    pub name-differs : eqb found 0 && eqb sort own ≡ false → (p : GroupAt text words lexemes names group row)
+    pub name-differs : eqb found 0 && eqb sort own ≡ false → (p : GroupAt text lexemes names group row)
         → group + 1 ≡ nameMisfit nowhere names row (p .here .operands)
     name-differs t p = rw (sym (tested p) ∙ t) (sym (name-placed (p .here) (named-of p) (omega arith)))
 
   -- the least word at fault in a group
   pub group-least : (nowhere : ℕ)
-      → {own : ℕ} → ((p : GroupAt text words lexemes names group row) → own ≡ nameMisfit nowhere names row (p .here .operands))
+      → {own : ℕ} → ((p : GroupAt text lexemes names group row) → own ≡ nameMisfit nowhere names row (p .here .operands))
       → {rules : ℕ} → rules ≡ nextAt lexemes (group + 2)
       → {other : ℕ} → ((x : ListAt lexemes rules) → other ≡ rulesMisfit nowhere (x .close) (x .operands))
-      → {r : ℕ} → r ≡ min own other → (p : GroupAt text words lexemes names group row) → r ≡ groupMisfit nowhere names row (p .here .operands)
+      → {r : ℕ} → r ≡ min own other → (p : GroupAt text lexemes names group row) → r ≡ groupMisfit nowhere names row (p .here .operands)
   group-least nowhere by-name er by-rules e p =
       let ops = p .here .operands in
       let x = listed-rules er p in

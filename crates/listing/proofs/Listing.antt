@@ -7,7 +7,7 @@ use mathlib.Core.Bool.{true}
 use mathlib.Core.List.{List, [], _∷_}
 use Rattle.forest.specs.Forest.{none, tree}
 use Rattle.forest.proofs.Bools.{and-left, and-right}
-use Rattle.words.specs.Trees.{Lexeme, wordOf}
+use Rattle.scanning.specs.Trees.{Lexeme, wordOf}
 use Rattle.lexemes.specs.Lists.{Items, item}
 use Rattle.lexemes.specs.Table.{nextAt}
 use Rattle.lexemes.specs.Standing.{Between, ItemAt, ListAt, Source, Stands, bracketed, ends, word}
@@ -15,7 +15,7 @@ use Rattle.lexemes.proofs.Along.{Along, along-end, along-here, along-start, alo
 use Rattle.lexemes.proofs.Standing.{forward}
 use Rattle.shapes.specs.Shapes.{all, groupShape}
 use Rattle.sorts.proofs.Parts.{group-parts}
-use Rattle.naming.specs.Scopes.{Named, namesOf, sortsOf}
+use Rattle.naming.specs.Scopes.{Named, namesOf, namedSorts}
 use Rattle.naming.specs.Steps.{sourceOf}
 use Rattle.naming.specs.Table.{nameIn, namesFrom, nonTerminalRow, sortIn, sortsFrom}
 use Rattle.listing.specs.Listing.{listingMisfit}
@@ -26,7 +26,7 @@ use Rattle.listing.proofs.Start.{name-placed}
 -- So many rows from a row on hold the non-terminals.
 pub record Rows (names : List ℕ) (row n : ℕ) (declared : List Named) : Type 0 where
   pub names-are : namesFrom names row n ≡ namesOf declared
-  pub sorts-are : sortsFrom names row n ≡ sortsOf declared
+  pub sorts-are : sortsFrom names row n ≡ namedSorts declared
 
 -- The first of them is in the first row.
 record FirstRow (names : List ℕ) (row n : ℕ) (declared : List Named) : Type 0 where
@@ -78,11 +78,11 @@ module _ {s : Source} where
   listing-below nowhere close most h k (d ∷ more) m (word w rest) = omega (arith, listing-below nowhere close most h k more m rest)
   listing-below nowhere close most h k (d ∷ more) m (bracketed b inner rest) = omega (arith, listing-below nowhere close most h k more m rest)
 
-module _ {text words lexemes names : List ℕ} {at listed : ℕ} where
+module _ {text lexemes names : List ℕ} {at listed : ℕ} where
   -- the list of groups
-  abbrev pub groups-list : GroupsAt text words lexemes names at listed → ListAt lexemes at
+  abbrev pub groups-list : GroupsAt text lexemes names at listed → ListAt lexemes at
   groups-list p = record {
-    source = sourceOf text words lexemes;
+    source = sourceOf text lexemes;
     same = refl;
     close = p .close;
     operands = p .groups;
@@ -92,31 +92,31 @@ module _ {text words lexemes names : List ℕ} {at listed : ℕ} where
   }
 
   -- the groups, between its brackets
-  abbrev pub groups-between : (close : ℕ) → nextAt lexemes at ≡ close + 1 → GroupsAt text words lexemes names at listed → Between lexemes (at + 1) close
+  abbrev pub groups-between : (close : ℕ) → nextAt lexemes at ≡ close + 1 → GroupsAt text lexemes names at listed → Between lexemes (at + 1) close
   groups-between close e p = record {
-    source = sourceOf text words lexemes;
+    source = sourceOf text lexemes;
     same = refl;
     items = p .groups;
-    stands = subst (λ (c : ℕ). Stands (sourceOf text words lexemes) (at + 1) (p .groups) c) (close-is close e (groups-list p)) (within (p .stands));
+    stands = subst (λ (c : ℕ). Stands (sourceOf text lexemes) (at + 1) (p .groups) c) (close-is close e (groups-list p)) (within (p .stands));
   }
 
   -- The rows from a row on hold the non-terminals that are still to be listed by the groups that are left; of all words at fault the least is that which was
   -- found or the least in those.
-  pub record StillListed (nowhere place row : ℕ) (p : GroupsAt text words lexemes names at listed) (left : Items) : Type 0 where
+  pub record StillListed (nowhere place row : ℕ) (p : GroupsAt text lexemes names at listed) (left : Items) : Type 0 where
     pub shaped : all groupShape left ≡ true
     pub declared : List Named
     pub rows : Rows names row (nonTerminalRow + listed - row) declared
     pub least : min place (listingMisfit nowhere (p .close) declared left) ≡ listingMisfit nowhere (p .close) (p .declared) (p .groups)
 
 -- The loop has come to the group at a word and to the row of the non-terminal that it is to list.
-pub record Listing (text words lexemes names : List ℕ) (at listed close nowhere place group row : ℕ) : Type 0 where
+pub record Listing (text lexemes names : List ℕ) (at listed close nowhere place group row : ℕ) : Type 0 where
   pub followed : nextAt lexemes at ≡ close + 1
-  pub along : Along (λ (p : GroupsAt text words lexemes names at listed). groups-between close followed p) group (StillListed nowhere place row)
+  pub along : Along (λ (p : GroupsAt text lexemes names at listed). groups-between close followed p) group (StillListed nowhere place row)
 
-module _ {text words lexemes names : List ℕ} {at listed : ℕ} where
+module _ {text lexemes names : List ℕ} {at listed : ℕ} where
   -- before the first group
-  pub listing-start : GroupsAt text words lexemes names at listed → {next : ℕ} → next ≡ nextAt lexemes at → {nowhere most : ℕ} → nowhere ≤ most → next ≤ most
-      → Listing text words lexemes names at listed (next - 1) nowhere most (at + 1) nonTerminalRow
+  pub listing-start : GroupsAt text lexemes names at listed → {next : ℕ} → next ≡ nextAt lexemes at → {nowhere most : ℕ} → nowhere ≤ most → next ≤ most
+      → Listing text lexemes names at listed (next - 1) nowhere most (at + 1) nonTerminalRow
   listing-start given {next} e {nowhere} {most} h k = let followed = before-next (groups-list given) e in record {
     followed = followed;
     along =
@@ -132,12 +132,12 @@ module _ {text words lexemes names : List ℕ} {at listed : ℕ} where
         });
   }
 
-  module _ {close nowhere place group row : ℕ} (g : Listing text words lexemes names at listed close nowhere place group row) where
+  module _ {close nowhere place group row : ℕ} (g : Listing text lexemes names at listed close nowhere place group row) where
     -- past the last group
     module _ (h : close ≤ group) where
       -- a non-terminal is not listed
       pub listing-short : row < nonTerminalRow + listed → {r : ℕ} → r ≡ min place close
-          → (p : GroupsAt text words lexemes names at listed) → r ≡ listingMisfit nowhere (p .close) (p .declared) (p .groups)
+          → (p : GroupsAt text lexemes names at listed) → r ≡ listingMisfit nowhere (p .close) (p .declared) (p .groups)
       unfolding listingMisfit
       listing-short k e p =
           let x = along-end (g .along) h p in
@@ -147,7 +147,7 @@ module _ {text words lexemes names : List ℕ} {at listed : ℕ} where
 
       -- all are listed
       pub listing-whole : nonTerminalRow + listed ≤ row → {r : ℕ} → r ≡ min place nowhere
-          → (p : GroupsAt text words lexemes names at listed) → r ≡ listingMisfit nowhere (p .close) (p .declared) (p .groups)
+          → (p : GroupsAt text lexemes names at listed) → r ≡ listingMisfit nowhere (p .close) (p .declared) (p .groups)
       unfolding listingMisfit
       listing-whole k e p =
           let x = along-end (g .along) h p in
@@ -157,7 +157,7 @@ module _ {text words lexemes names : List ℕ} {at listed : ℕ} where
     module _ (h : group < close) where
       -- a group is one too many
       pub listing-long : nonTerminalRow + listed ≤ row → {r : ℕ} → r ≡ min place (group + 1)
-          → (p : GroupsAt text words lexemes names at listed) → r ≡ listingMisfit nowhere (p .close) (p .declared) (p .groups)
+          → (p : GroupsAt text lexemes names at listed) → r ≡ listingMisfit nowhere (p .close) (p .declared) (p .groups)
       unfolding all listingMisfit
       listing-long k e p =
           let y = item-of (g .along) h p in
@@ -171,8 +171,8 @@ module _ {text words lexemes names : List ℕ} {at listed : ℕ} where
 
       module _ (k : row < nonTerminalRow + listed) where
         -- a group that lists the non-terminal in the row
-        group-here : (p : GroupsAt text words lexemes names at listed) (x : ItemAt lexemes group) → x .source ≡ sourceOf text words lexemes
-            → all groupShape (tree (x .label) (x .operands) (x .more)) ≡ true → GroupAt text words lexemes names group row
+        group-here : (p : GroupsAt text lexemes names at listed) (x : ItemAt lexemes group) → x .source ≡ sourceOf text lexemes
+            → all groupShape (tree (x .label) (x .operands) (x .more)) ≡ true → GroupAt text lexemes names group row
         unfolding all
         group-here p x source shaped = record {
           here = x;
@@ -183,15 +183,15 @@ module _ {text words lexemes names : List ℕ} {at listed : ℕ} where
         }
 
         -- it stands where the loop has come to
-        pub listing-group : GroupAt text words lexemes names group row
+        pub listing-group : GroupAt text lexemes names group row
         listing-group =
             let p = g .along .given in
             group-here p (item-of (g .along) h p) refl (along-here (g .along) h p .shaped)
 
         -- a turn
-        pub listing-turn : {found : ℕ} → ((p : GroupAt text words lexemes names group row) → found ≡ groupMisfit nowhere names row (p .here .operands))
+        pub listing-turn : {found : ℕ} → ((p : GroupAt text lexemes names group row) → found ≡ groupMisfit nowhere names row (p .here .operands))
             → {lesser : ℕ} → lesser ≡ min place found → {next : ℕ} → next ≡ nextAt lexemes group
-            → Listing text words lexemes names at listed close nowhere lesser next (row + 1)
+            → Listing text lexemes names at listed close nowhere lesser next (row + 1)
         unfolding all group-here
         listing-turn {found} known {lesser} e n = record {
           followed = g .followed;

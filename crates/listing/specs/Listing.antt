@@ -5,7 +5,7 @@ use mathlib.Core.List.{List, [], _∷_}
 use lib.Dec.{eqb}
 use Rattle.forest.specs.Forest.{count, none, tree}
 use Rattle.forest.specs.Lists.{sameBytes}
-use Rattle.words.specs.Trees.{wordOf}
+use Rattle.scanning.specs.Trees.{wordOf}
 use Rattle.lexemes.specs.Lists.{Items, closeOf, inside, item, nameOf}
 use Rattle.naming.specs.Scopes.{Named}
 use Rattle.sorts.specs.Written.{sortOf}

@@ -6,12 +6,12 @@ use mathlib.Core.Path.{_≡_}
 use lib.Dec.{eqb}
 use Rattle.forest.specs.Forest.{count, tree}
 use Rattle.forest.specs.Lists.{sameBytes}
-use Rattle.words.specs.Trees.{list, wordOf}
+use Rattle.scanning.specs.Trees.{list, wordOf}
 use Rattle.lexemes.specs.Lists.{Items, closeOf, inside, item, nameOf}
 use Rattle.lexemes.specs.Standing.{ItemAt, ListAt, Stands}
 use Rattle.shapes.specs.Shapes.{all, groupShape, pairShape}
 use Rattle.sorts.specs.Written.{sortOf}
-use Rattle.naming.specs.Scopes.{Named, namesOf, sortsOf}
+use Rattle.naming.specs.Scopes.{Named, namesOf, namedSorts}
 use Rattle.naming.specs.Steps.{Names, sourceOf}
 use Rattle.naming.specs.Table.{nameIn, namesFrom, nonTerminalRow, rowCount, sortIn, sortsFrom}
 use Rattle.listing.specs.Listing.{listingMisfit, startMisfit}
@@ -26,27 +26,27 @@ abbrev pub StartTested : {lexemes : List ℕ} {i : ℕ} → PairsAt lexemes i �
 StartTested p result nowhere r = r ≡ startMisfit nowhere result (p .here .close) (p .here .operands)
 
 -- A list of groups stands at word i, and the table has the non-terminals that are declared, so many of them.
-pub record GroupsAt (text words lexemes names : List ℕ) (i listed : ℕ) : Type 0 where
+pub record GroupsAt (text lexemes names : List ℕ) (i listed : ℕ) : Type 0 where
   pub close : ℕ
   pub groups : Items
   pub more : Items
   pub end : ℕ
-  pub stands : Stands (sourceOf text words lexemes) i (tree (list i close) groups more) end
+  pub stands : Stands (sourceOf text lexemes) i (tree (list i close) groups more) end
   pub shaped : all groupShape groups ≡ true
   pub table : Names names
   pub declared : List Named
   pub names-are : namesFrom names nonTerminalRow listed ≡ namesOf declared
-  pub sorts-are : sortsFrom names nonTerminalRow listed ≡ sortsOf declared
+  pub sorts-are : sortsFrom names nonTerminalRow listed ≡ namedSorts declared
   pub few : listed ≤ 16
 
 -- The least word at fault is found.
-abbrev pub ListingTested : {text words lexemes names : List ℕ} {i listed : ℕ} → GroupsAt text words lexemes names i listed → (nowhere r : ℕ) → Type 0
+abbrev pub ListingTested : {text lexemes names : List ℕ} {i listed : ℕ} → GroupsAt text lexemes names i listed → (nowhere r : ℕ) → Type 0
 ListingTested p nowhere r = r ≡ listingMisfit nowhere (p .close) (p .declared) (p .groups)
 
 -- A group stands at word i, and the table has a row for the non-terminal that it lists.
-pub record GroupAt (text words lexemes names : List ℕ) (i row : ℕ) : Type 0 where
+pub record GroupAt (text lexemes names : List ℕ) (i row : ℕ) : Type 0 where
   pub here : ItemAt lexemes i
-  pub read : here .source ≡ sourceOf text words lexemes
+  pub read : here .source ≡ sourceOf text lexemes
   pub shaped : groupShape (here .label) (here .operands) ≡ true
   pub table : Names names
   pub within : row < rowCount

@@ -40,17 +40,16 @@ pub fn start_misfit(lexemes: &[u64], at: usize, result: u64, nowhere: usize) -> 
 // The listed name of a group whose name and sort are not those in a row; `nowhere` where they are.
 fn name_misfit(
     text: &[u8],
-    words: &[u32],
     lexemes: &[u64],
     names: &[u8],
     group: usize,
     row: usize,
     nowhere: usize,
 ) -> usize
-    requires { ⌜ GroupAt (now text) (now words) (now lexemes) (now names) group row ⌝ }
-    ensures { λ r. ⌜ ((p : GroupAt (now (text .entry)) (now (words .entry)) (now (lexemes .entry)) (now (names .entry)) group row) → r ≡ nameMisfit nowhere (now (names .entry)) row (p .here .operands)) ⌝ }
+    requires { ⌜ GroupAt (now text) (now lexemes) (now names) group row ⌝ }
+    ensures { λ r. ⌜ ((p : GroupAt (now (text .entry)) (now (lexemes .entry)) (now (names .entry)) group row) → r ≡ nameMisfit nowhere (now (names .entry)) row (p .here .operands)) ⌝ }
 {
-    let found = find_name(names, row, 1, bytes_at(text, words, group + 1));
+    let found = find_name(names, row, 1, bytes_at(text, lexemes, group + 1));
     let sort = sort_of(lexemes, group + 2);
     if (found == 0) & (sort == sort_in(names, row)) {
         return nowhere;
@@ -72,17 +71,16 @@ fn rules_misfit(lexemes: &[u64], rules: usize, nowhere: usize) -> usize
 // The least word at fault in a group that lists the non-terminal in a row.
 fn group_misfit(
     text: &[u8],
-    words: &[u32],
     lexemes: &[u64],
     names: &[u8],
     group: usize,
     row: usize,
     nowhere: usize,
 ) -> usize
-    requires { ⌜ GroupAt (now text) (now words) (now lexemes) (now names) group row ⌝ }
-    ensures { λ r. ⌜ ((p : GroupAt (now (text .entry)) (now (words .entry)) (now (lexemes .entry)) (now (names .entry)) group row) → r ≡ groupMisfit nowhere (now (names .entry)) row (p .here .operands)) ⌝ }
+    requires { ⌜ GroupAt (now text) (now lexemes) (now names) group row ⌝ }
+    ensures { λ r. ⌜ ((p : GroupAt (now (text .entry)) (now (lexemes .entry)) (now (names .entry)) group row) → r ≡ groupMisfit nowhere (now (names .entry)) row (p .here .operands)) ⌝ }
 {
-    let own = name_misfit(text, words, lexemes, names, group, row, nowhere);
+    let own = name_misfit(text, lexemes, names, group, row, nowhere);
     let rules = next_at(lexemes, group + 2);
     least(own, rules_misfit(lexemes, rules, nowhere))
 }
@@ -91,15 +89,14 @@ fn group_misfit(
 // there is none.
 pub fn listing_misfit(
     text: &[u8],
-    words: &[u32],
     lexemes: &[u64],
     names: &[u8],
     at: usize,
     listed: usize,
     nowhere: usize,
 ) -> usize
-    requires { ⌜ GroupsAt (now text) (now words) (now lexemes) (now names) at listed ⌝ }
-    ensures { λ r. ⌜ ((p : GroupsAt (now (text .entry)) (now (words .entry)) (now (lexemes .entry)) (now (names .entry)) at listed) → ListingTested p nowhere r) ⌝ }
+    requires { ⌜ GroupsAt (now text) (now lexemes) (now names) at listed ⌝ }
+    ensures { λ r. ⌜ ((p : GroupsAt (now (text .entry)) (now (lexemes .entry)) (now (names .entry)) at listed) → ListingTested p nowhere r) ⌝ }
 {
     let close = next_at(lexemes, at) - 1;
     let past = NON_TERMINALS + listed;
@@ -112,7 +109,7 @@ pub fn listing_misfit(
         }
         place = least(
             place,
-            group_misfit(text, words, lexemes, names, group, row, nowhere),
+            group_misfit(text, lexemes, names, group, row, nowhere),
         );
         group = next_at(lexemes, group);
         row += 1;

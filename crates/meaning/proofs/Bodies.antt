@@ -13,7 +13,7 @@ use Rattle.terms.specs.Labels.{Terms}
 use Rattle.terms.specs.Sorts.{Definition}
 use Rattle.terms.specs.Values.{called, definedValue, functionValue}
 use Rattle.terms.specs.declared.Value.{Value}
-use Rattle.meaning.specs.Tables.{BodiesAt, CallsDefined, CallsEarlier, CallsKnown, FewArguments, TablesHold, Stands, mostArguments, mostDefined}
+use Rattle.meaning.specs.Tables.{BodiesAt, CallsDefined, CallsEarlier, CallsKnown, FewArguments, BodiesHold, TermStands, mostArguments, mostDefined}
 
 -- `define-fun`s that a body sees stand in the tables.
 pub record Seen (all : Terms) (bodies : List ℕ) (defs : List Definition) : Type 0 where
@@ -27,7 +27,7 @@ pub record Body (all : Terms) (bodies : List ℕ) (place cost : ℕ) (give : Lis
   pub d : Definition
   pub sees : List Definition
   pub seen : Seen all bodies sees
-  pub stands : Stands all (getD bodies place 0) (d .body)
+  pub stands : TermStands all (getD bodies place 0) (d .body)
   pub cost-is : cost ≡ costOf sees [] (d .body)
   pub gives : (vs : List Value) → give vs ≡ called (definedValue sees) d vs
   pub few : length (d .signature .arguments) ≤ mostArguments
@@ -146,7 +146,7 @@ pub none-calls : (defs : ℕ) → CallsDefined defs []
 unfolding CallsDefined
 none-calls defs = tt
 
-module _ {nodes bodies : List ℕ} {defs funs : List Definition} (h : TablesHold nodes bodies defs funs) where
+module _ {nodes bodies : List ℕ} {defs funs : List Definition} (h : BodiesHold nodes bodies defs funs) where
   -- The `define-fun`s that tables hold.
   seen : Seen (h .all) bodies defs
   seen = record { at = h .defined-at; few = h .few-defined; calls = h .defined-calls; most = h .defined-most }
@@ -160,7 +160,7 @@ module _ {nodes bodies : List ℕ} {defs funs : List Definition} (h : TablesHold
   held-function k l = function-body defs funs seen (h .functions-at) (h .few-functions) (h .function-calls) k l
 
   -- The tables hold what a body sees.
-  abbrev pub held-seen : {sees : List Definition} → Seen (h .all) bodies sees → TablesHold nodes bodies sees []
+  abbrev pub held-seen : {sees : List Definition} → Seen (h .all) bodies sees → BodiesHold nodes bodies sees []
   held-seen {sees} s =
       record {
         all = h .all;

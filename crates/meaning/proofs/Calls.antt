@@ -1,25 +1,19 @@
 -- Terms that have sorts apply only functions that are known.
-use Prim.Native.Nat.{ℕ, suc, _<_}
-use native.Mathlib.Omega.{arith}
-use mathlib.Core.Path.{_≡_, refl}
-use mathlib.Core.Bool.{Bool, true, false, cond}
+use Prim.Native.Nat.{ℕ}
+use mathlib.Core.Path.{_≡_}
 use mathlib.Core.List.{List, [], _∷_}
 use mathlib.Core.Option.{some}
-use borrow.Author.Tests.{eqb-true}
-use lib.Dec.{eqb}
 use lib.ListN.{length, length-map}
-use Rattle.forest.proofs.Options.{never}
 use Rattle.forest.specs.Forest.{none, tree}
-use Rattle.bits.specs.Sorts.{when}
 use Rattle.terms.specs.Labels.{Label, Terms, defined, function, literal, name, operator}
-use Rattle.terms.specs.Sorts.{AllSorted, Definition, FunctionsSorted, Scope, Signature, bodyScope, calledSort, labelSort, sameSorts, sortsOf}
+use Rattle.terms.specs.Sorts.{AllSorted, Definition, FunctionsSorted, Scope, bodyScope, labelSort, sortsOf}
 use Rattle.terms.proofs.Bodies.{called-within}
 use Rattle.terms.proofs.Sorted.{sorted}
-use Rattle.meaning.specs.Tables.{CallsDefined, CallsEarlier, CallsKnown, Known}
+use Rattle.meaning.specs.Tables.{CallsDefined, CallsEarlier, CallsKnown, Callable}
 
 module _ (scope : Scope) where
   -- A label that has a sort applies a function that is known.
-  label-known : (l : Label) (ss : List ℕ) {s : ℕ} → labelSort scope l ss ≡ some s → Known (length (scope .defined)) (length (scope .functions)) l
+  label-known : (l : Label) (ss : List ℕ) {s : ℕ} → labelSort scope l ss ≡ some s → Callable (length (scope .defined)) (length (scope .functions)) l
   unfolding labelSort
   label-known (literal s v w) ss h = tt
   label-known (name s k) ss h = tt

@@ -14,7 +14,7 @@ use Rattle.terms.specs.Nodes.{codeAt, codeOf, sizeAt, valueAt, valueOf}
 use Rattle.terms.specs.Sorts.{Definition}
 use Rattle.meaning.specs.Budget.{Priced, held}
 use Rattle.meaning.specs.Steps.{Costing}
-use Rattle.meaning.specs.Tables.{CallsKnown, TablesHold, Known, bodyPlace, noPlace}
+use Rattle.meaning.specs.Tables.{CallsKnown, BodiesHold, Callable, bodyPlace, noPlace}
 use Rattle.meaning.proofs.Bodies.{Body, held-defined, held-function}
 use Rattle.meaning.proofs.Cursors.{calls-join, cursor-next, tree-within}
 use Rattle.meaning.proofs.Sums.{bodiesCost, bodies-join, cost-parts, cost-some, sum-more}
@@ -36,9 +36,9 @@ a-price e h l g = record { applied = λ q. (l, rw e g); other = λ q. absurd (om
 body-some : {all : Terms} {bodies : List ℕ} {place cost : ℕ} {give : _} → Body all bodies place cost give → 1 ≤ cost
 body-some b = rw (b .cost-is, b .stands .is) (cost-some _ _ _ _)
 
-module _ {nodes bodies costs : List ℕ} {defs funs : List Definition} (h : TablesHold nodes bodies defs funs) (priced : Priced costs defs funs) where
+module _ {nodes bodies costs : List ℕ} {defs funs : List Definition} (h : BodiesHold nodes bodies defs funs) (priced : Priced costs defs funs) where
   -- The price of a label's body.
-  label-price : (l : Label) → Known (length defs) (length funs) l
+  label-price : (l : Label) → Callable (length defs) (length funs) l
       → Price costs (bodyPlace (codeOf l) (valueOf l)) (bodyCost (record { defined = definedCost defs; functions = functionCost defs funs }) l)
   label-price (literal s v w) k = let kind : (0 + 16 * (s + 128 * w)) % 16 ≡ 0 = omega arith in no-price costs (rw kind)
   label-price (name s n) k = let kind : (1 + 16 * s) % 16 ≡ 1 = omega arith in no-price costs (rw kind)
@@ -107,7 +107,7 @@ module _ {nodes bodies costs : List ℕ} {i : ℕ} (e : Costing nodes bodies cos
     rest : Terms
     at : from (e .holds .all) j ≡ tree label operands (join more rest)
     ends : stop ≡ j + suc (size operands + size more)
-    known : Known (length (e .defs)) (length (e .funs)) label
+    known : Callable (length (e .defs)) (length (e .funs)) label
     calls : CallsKnown (length (e .defs)) (length (e .funs)) (join operands more)
     so-far : held (costOf (e .defs) (e .funs) (e .t))
         ≡ min (sum + (bodyCost (bodyCosts e) label + bodiesCost (bodyCosts e) (join operands more))) (2 ^ 64 - 1)

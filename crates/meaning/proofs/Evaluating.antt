@@ -20,7 +20,7 @@ use Rattle.terms.specs.Nodes.{Plain, codeAt, codeOf, literalKind, nameKind, ope
 use Rattle.terms.specs.Values.{Meaning, definedValue, labelValue, meaningAt, numbersIn, sortsIn, value, valuesAt}
 use Rattle.terms.specs.declared.Value.{Value}
 use Rattle.meaning.specs.Steps.{Evaluable, Evaluated, Names, OperandsAre, OperandsEvaluable, OperandsEvaluated, OperatorGave, OperatorReady}
-use Rattle.meaning.specs.Tables.{Stands, bodyPlace, mostArguments}
+use Rattle.meaning.specs.Tables.{TermStands, bodyPlace, mostArguments}
 use Rattle.meaning.proofs.Arguments.{stored, stored-front}
 use Rattle.meaning.proofs.LabelValues.{Operator, call-label, literal-label, name-label, no-functions, operator-few, operator-label, same-length}
 use Rattle.meaning.proofs.Bodies.{Body, held-seen}
@@ -225,7 +225,7 @@ module _ {nodes bodies env : List ℕ} {i left : ℕ} (e : Evaluable nodes bodie
 
           module _ (k : code % 16 ≡ operatorKind → ⊥) {place b : ℕ} (place-is : place ≡ bodyPlace code v) (b-is : b ≡ getD bodies place 0) where
             -- The body stands where the tables say.
-            pub body-stands : Stands (e .holds .all) b (the-body k .d .body)
+            pub body-stands : TermStands (e .holds .all) b (the-body k .d .body)
             body-stands = rw (b-is ∙ ap (λ (p : ℕ). getD bodies p 0) (place-is ∙ ap₂ bodyPlace code-of value-of)) (the-body k .stands)
 
             -- It has the term's value.

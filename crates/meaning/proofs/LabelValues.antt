@@ -19,7 +19,7 @@ use Rattle.terms.specs.Nodes.{Plain, codeOf, literalKind, nameKind, operatorKin
 use Rattle.terms.specs.Sorts.{Definition, sameSorts}
 use Rattle.terms.specs.Values.{Meaning, definedValue, functionValue, labelValue, meaningAt, numbersIn, operatorGives, sortsIn, value, valuesAt, valuesIn}
 use Rattle.terms.specs.declared.Value.{Value}
-use Rattle.meaning.specs.Tables.{TablesHold, Known, bodyPlace, mostArguments, mostDefined, mostFunctions}
+use Rattle.meaning.specs.Tables.{BodiesHold, Callable, bodyPlace, mostArguments, mostDefined, mostFunctions}
 use Rattle.meaning.proofs.Bodies.{Body, held-defined, held-function}
 
 -- The value of a literal is the one that its code and its value say.
@@ -109,10 +109,10 @@ pub no-functions : (defs : List Definition) (point : List Value) (t : Terms)
 unfolding functionValue
 no-functions defs point t = refl
 
-module _ {nodes bodies : List ℕ} {defs funs : List Definition} (h : TablesHold nodes bodies defs funs) (point : List Value) where
+module _ {nodes bodies : List ℕ} {defs funs : List Definition} (h : BodiesHold nodes bodies defs funs) (point : List Value) where
   -- The body of the function that a label applies.
   pub call-label : (l : Label) → (codeOf l % 16 ≡ literalKind → ⊥) → (codeOf l % 16 ≡ nameKind → ⊥) → (codeOf l % 16 ≡ operatorKind → ⊥)
-      → Known (length defs) (length funs) l
+      → Callable (length defs) (length funs) l
       → Body (h .all) bodies (bodyPlace (codeOf l) (valueOf l)) (bodyCost (record { defined = definedCost defs; functions = functionCost defs funs }) l)
       (labelValue (meaningAt defs funs point) l)
   unfolding labelValue

@@ -1,4 +1,3 @@
-pub mod PointLists
 pub mod Parts
 pub mod Fitting
 pub mod Bodies
@@ -11,8 +10,4 @@ pub mod Arguments
 pub mod Operands
 pub mod LabelValues
 pub mod Evaluating
-pub mod Runs
-pub mod PointRuns
-pub mod Left
 pub mod Calls
-pub mod GoodPoints

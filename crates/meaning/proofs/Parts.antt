@@ -15,7 +15,7 @@ use Rattle.terms.specs.Labels.{Label, Terms, defined, function, literal, name, 
 use Rattle.terms.specs.Sorts.{Definition}
 use Rattle.terms.specs.Values.{Meaning, definedValue, functionValue, labelValue, valueOver, valuesAt, valuesIn, withValue}
 use Rattle.terms.specs.declared.Value.{Value}
-use Rattle.meaning.specs.Tables.{CallsKnown, Known}
+use Rattle.meaning.specs.Tables.{CallsKnown, Callable}
 
 -- How values are joined.
 joining : Joining valueOver withValue
@@ -65,7 +65,7 @@ module _ (defs funs : List Definition) (point : List Value) where
   -- A label that has a value applies a function that is known.
   pub label-known : (l : Label) (vs : List Value) {v : Value}
       → labelValue (record { names = point; defined = definedValue defs; functions = functionValue defs funs }) l vs ≡ some v
-      → Known (length defs) (length funs) l
+      → Callable (length defs) (length funs) l
   unfolding labelValue
   label-known (literal s v w) vs h = tt
   label-known (name s k) vs h = tt

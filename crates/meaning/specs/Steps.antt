@@ -7,17 +7,14 @@ use lib.ListN.{getD, length, take}
 use lib.Seq.{sets}
 use Rattle.forest.specs.Forest.{count, from, join, size}
 use Rattle.bits.specs.Operators.{operatorSort, operatorValue}
-use Rattle.bits.specs.Sorts.{AllFit, bool}
+use Rattle.bits.specs.Sorts.{AllFit}
 use Rattle.terms.specs.Costs.{costOf}
 use Rattle.terms.specs.Labels.{Terms}
 use Rattle.terms.specs.Sorts.{Definition}
 use Rattle.terms.specs.Values.{numbersIn, sortsIn, value, valuesAt}
 use Rattle.terms.specs.declared.Value.{Value}
 use Rattle.meaning.specs.Budget.{Priced, held}
-use Rattle.meaning.specs.Points.{pointAt, pointCount}
-use Rattle.meaning.specs.Running.{runPoints, runTerms}
-use Rattle.meaning.specs.Tables.{CallsKnown, TablesHold, Stands, mostArguments, mostDefined, mostFunctions}
-use Rattle.meaning.specs.declared.Ran.{Ran}
+use Rattle.meaning.specs.Tables.{CallsKnown, BodiesHold, TermStands, mostArguments, mostDefined, mostFunctions}
 
 -- The numbers at the front of `env` are those of the point.
 abbrev pub Names : (env : List ℕ) (point : List Value) → Type 0
@@ -27,12 +24,12 @@ Names env point = take (length point) env ≡ numbersIn point
 pub record Evaluable (nodes bodies env : List ℕ) (i left : ℕ) : Type 0 where
   pub defs : List Definition
   pub funs : List Definition
-  pub holds : TablesHold nodes bodies defs funs
+  pub holds : BodiesHold nodes bodies defs funs
   pub point : List Value
   pub names : Names env point
   pub fits : AllFit (sortsIn point) (numbersIn point)
   pub t : Terms
-  pub stands : Stands (holds .all) i t
+  pub stands : TermStands (holds .all) i t
   pub v : Value
   pub has : valuesAt defs funs point t ≡ some (v ∷ [])
   pub cost : costOf defs funs t ≤ left
@@ -45,7 +42,7 @@ Evaluated nodes bodies env i left r = (e : Evaluable nodes bodies env i left) �
 pub record OperandsEvaluable (nodes bodies env : List ℕ) (i stop left : ℕ) : Type 0 where
   pub defs : List Definition
   pub funs : List Definition
-  pub holds : TablesHold nodes bodies defs funs
+  pub holds : BodiesHold nodes bodies defs funs
   pub point : List Value
   pub names : Names env point
   pub fits : AllFit (sortsIn point) (numbersIn point)
@@ -96,10 +93,10 @@ OperatorGave operator bounds sortOne sortTwo one two three r =
 pub record Costing (nodes bodies costs : List ℕ) (i : ℕ) : Type 0 where
   pub defs : List Definition
   pub funs : List Definition
-  pub holds : TablesHold nodes bodies defs funs
+  pub holds : BodiesHold nodes bodies defs funs
   pub priced : Priced costs defs funs
   pub t : Terms
-  pub stands : Stands (holds .all) i t
+  pub stands : TermStands (holds .all) i t
   pub calls : CallsKnown (length defs) (length funs) t
 
 -- What is held of its cost.
@@ -128,77 +125,14 @@ pub record Filling (nodes bodies costs : List ℕ) (base count : ℕ) : Type 0 w
 abbrev pub FilledIn : (nodes bodies costs after : List ℕ) (base count : ℕ) → Type 0
 FilledIn nodes bodies costs after base count = (e : Filling nodes bodies costs base count) → FilledTo costs after base count (e .price)
 
--- The terms stand at the nodes that the list has.
-unfoldable pub TermsAt : (all : Terms) → (places : List ℕ) → List Terms → Type 0
-TermsAt all [] [] = Unit {0}
-TermsAt all [] (t ∷ ts) = ⊥
-TermsAt all (i ∷ places) [] = ⊥
-TermsAt all (i ∷ places) (t ∷ ts) = Stands all i t × TermsAt all places ts
-
--- The term has one value at the point, and it is a Bool.
-pub record HasTruth (defs funs : List Definition) (point : List Value) (t : Terms) : Type 0 where
-  pub v : Value
-  pub is : valuesAt defs funs point t ≡ some (v ∷ [])
-  pub truth : v .sort ≡ bool
-
--- Each of the terms has one value at the point, a Bool.
-unfoldable pub AllValued : (defs funs : List Definition) → (point : List Value) → List Terms → Type 0
-AllValued defs funs point [] = Unit {0}
-AllValued defs funs point (t ∷ ts) = HasTruth defs funs point t × AllValued defs funs point ts
-
--- Terms that can be run one after the other at a point.
-pub record Runnable (nodes bodies costs places env : List ℕ) : Type 0 where
-  pub defs : List Definition
-  pub funs : List Definition
-  pub holds : TablesHold nodes bodies defs funs
-  pub priced : Priced costs defs funs
-  pub point : List Value
-  pub names : Names env point
-  pub fits : AllFit (sortsIn point) (numbersIn point)
-  pub terms : List Terms
-  pub terms-at : TermsAt (holds .all) places terms
-  pub valued : AllValued defs funs point terms
-
--- What running them finds.
-abbrev pub TermsRan : (nodes bodies costs places env : List ℕ) (p left : ℕ) (r : Ran) → Type 0
-TermsRan nodes bodies costs places env p left r =
-    (e : Runnable nodes bodies costs places env) → r ≡ runTerms (e .defs) (e .funs) (e .point) (e .terms) p 0 left
-
--- Terms that can be run at every point of a list.
-pub record PointsRunnable (nodes bodies costs places sorts numbers : List ℕ) : Type 0 where
-  pub defs : List Definition
-  pub funs : List Definition
-  pub holds : TablesHold nodes bodies defs funs
-  pub priced : Priced costs defs funs
-  pub terms : List Terms
-  pub terms-at : TermsAt (holds .all) places terms
-  pub whole : pointCount (length sorts) (length numbers) * length sorts ≡ length numbers
-  pub fits : (p : ℕ) → p < pointCount (length sorts) (length numbers) → AllFit sorts (numbersIn (pointAt sorts numbers p))
-  pub valued : (p : ℕ) → p < pointCount (length sorts) (length numbers) → AllValued defs funs (pointAt sorts numbers p) terms
-
--- What running them finds.
-abbrev pub PointsRan : (nodes bodies costs places sorts numbers : List ℕ) (budget : ℕ) (r : Ran) → Type 0
-PointsRan nodes bodies costs places sorts numbers budget r =
-    (e : PointsRunnable nodes bodies costs places sorts numbers)
-    → r ≡ runPoints (e .defs) (e .funs) sorts numbers (e .terms) (pointCount (length sorts) (length numbers)) 0 budget
-
 -- Tables that hold functions whose bodies' costs are to be filled in.
 pub record Pricing (nodes bodies : List ℕ) (definedCount functionCount : ℕ) : Type 0 where
   pub defs : List Definition
   pub funs : List Definition
-  pub holds : TablesHold nodes bodies defs funs
+  pub holds : BodiesHold nodes bodies defs funs
   pub defined-are : definedCount ≡ length defs
   pub functions-are : functionCount ≡ length funs
 
 -- The costs, filled in.
 abbrev pub Prices : (nodes bodies : List ℕ) (definedCount functionCount : ℕ) (costs : List ℕ) → Type 0
 Prices nodes bodies definedCount functionCount costs = (e : Pricing nodes bodies definedCount functionCount) → Priced costs (e .defs) (e .funs)
-
--- Each of the sorts is `Bool` or a width to 64.
-pub record SortsSmall (sorts : List ℕ) : Type 0 where
-  pub small : (i : ℕ) → getD sorts i 0 ≤ 64
-
--- The same, and there is a variable where there is a number.
-pub record VariableSorts (sorts numbers : List ℕ) : Type 0 where
-  pub small : (i : ℕ) → getD sorts i 0 ≤ 64
-  pub some-variable : 0 < length numbers → 0 < length sorts

@@ -23,7 +23,7 @@ abbrev pub mostArguments : ℕ
 mostArguments = 8
 
 -- The term t begins at node i of the terms `all`.
-pub record Stands (all : Terms) (i : ℕ) (t : Terms) : Type 0 where
+pub record TermStands (all : Terms) (i : ℕ) (t : Terms) : Type 0 where
   pub label : Label
   pub operands : Terms
   pub rest : Terms
@@ -33,20 +33,20 @@ pub record Stands (all : Terms) (i : ℕ) (t : Terms) : Type 0 where
 -- The bodies of functions, the last first, begin at the nodes that `bodies` has from place `base` on.
 unfoldable pub BodiesAt : (all : Terms) → (bodies : List ℕ) → (base : ℕ) → List Definition → Type 0
 BodiesAt all bodies base [] = Unit {0}
-BodiesAt all bodies base (d ∷ earlier) = Stands all (getD bodies (base + length earlier) 0) (d .body) × BodiesAt all bodies base earlier
+BodiesAt all bodies base (d ∷ earlier) = TermStands all (getD bodies (base + length earlier) 0) (d .body) × BodiesAt all bodies base earlier
 
 -- A function that a label applies is one of the first `defs` and `funs`.
-abbrev pub Known : (defs funs : ℕ) → Label → Type 0
-Known defs funs (defined k) = k < defs
-Known defs funs (function k) = k < funs
-Known defs funs (literal s v w) = Unit {0}
-Known defs funs (name s k) = Unit {0}
-Known defs funs (operator o i j) = Unit {0}
+abbrev pub Callable : (defs funs : ℕ) → Label → Type 0
+Callable defs funs (defined k) = k < defs
+Callable defs funs (function k) = k < funs
+Callable defs funs (literal s v w) = Unit {0}
+Callable defs funs (name s k) = Unit {0}
+Callable defs funs (operator o i j) = Unit {0}
 
 -- Every `define-fun` and synthesized function that the terms apply is one of the first `defs` and `funs`.
 unfoldable pub CallsKnown : (defs funs : ℕ) → Terms → Type 0
 CallsKnown defs funs none = Unit {0}
-CallsKnown defs funs (tree l ops rest) = Known defs funs l × CallsKnown defs funs ops × CallsKnown defs funs rest
+CallsKnown defs funs (tree l ops rest) = Callable defs funs l × CallsKnown defs funs ops × CallsKnown defs funs rest
 
 -- The body of each `define-fun` applies only those before it.
 unfoldable pub CallsEarlier : List Definition → Type 0
@@ -64,7 +64,7 @@ FewArguments [] = Unit {0}
 FewArguments (d ∷ earlier) = (length (d .signature .arguments) ≤ mostArguments) × FewArguments earlier
 
 -- Tables that hold these `define-fun`s and synthesized functions, the last first.
-pub record TablesHold (nodes bodies : List ℕ) (defs funs : List Definition) : Type 0 where
+pub record BodiesHold (nodes bodies : List ℕ) (defs funs : List Definition) : Type 0 where
   pub all : Terms
   pub rest : List ℕ
   pub nodes-are : nodes ≡ nodeTable all ++ rest

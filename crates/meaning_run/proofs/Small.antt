@@ -16,12 +16,13 @@ use Rattle.terms.specs.Sorts.{sameSorts}
 use Rattle.terms.specs.Values.{called, definedValue, functionValue, labelValue, numbersIn, operatorGives, resultOf, value, valueOver, valuesAt, valuesIn}
 use Rattle.terms.specs.Values.{withValue}
 use Rattle.meaning.specs.Budget.{Priced, held}
-use Rattle.meaning.specs.Points.{pointAt, valuesBy}
-use Rattle.meaning.specs.Running.{isTrue, runPoints, runTerms}
-use Rattle.meaning.specs.declared.Ran.the-variants.{Ended, False}
-use Rattle.meaning.specs.Steps.{AllValued, Costing, Evaluable, PointsRunnable, Pricing, TermsAt}
-use Rattle.meaning.specs.Tables.{BodiesAt, CallsDefined, CallsEarlier, CallsKnown, FewArguments, TablesHold, Stands, mostDefined}
+use Rattle.meaning.specs.Steps.{Costing, Evaluable, Pricing}
+use Rattle.meaning.specs.Tables.{BodiesAt, CallsDefined, CallsEarlier, CallsKnown, FewArguments, BodiesHold, TermStands, mostDefined}
 use Rattle.meaning_run.specs.Case.{all, constraints, d0, defs, f0, funs, numbers, places, shifted, small, sorts}
+use Rattle.running.specs.Points.{pointAt, valuesBy}
+use Rattle.running.specs.Running.{isTrue, runPoints, runTerms}
+use Rattle.running.specs.declared.Ran.the-variants.{Ended, False}
+use Rattle.running.specs.Steps.{AllValued, PointsRunnable, TermsAt}
 
 -- The labels are told by their numbers.
 pub all-plain : AllPlain all
@@ -41,22 +42,22 @@ all-plain = (
 )
 
 -- The body of d0 is the first term.
-d0-stands : Stands all 0 (d0 .body)
+d0-stands : TermStands all 0 (d0 .body)
 unfolding from
 d0-stands = record { label = _; operands = _; rest = _; at = refl; is = refl }
 
 -- The body of f0 is the second.
-f0-stands : Stands all 3 (f0 .body)
+f0-stands : TermStands all 3 (f0 .body)
 unfolding from join
 f0-stands = record { label = _; operands = _; rest = _; at = refl; is = refl }
 
 -- The first constraint is the third.
-pub shifted-stands : Stands all 6 shifted
+pub shifted-stands : TermStands all 6 shifted
 unfolding from join
 shifted-stands = record { label = _; operands = _; rest = _; at = refl; is = refl }
 
 -- The second constraint is the last.
-small-stands : Stands all 12 small
+small-stands : TermStands all 12 small
 unfolding from join
 small-stands = record { label = _; operands = _; rest = _; at = refl; is = refl }
 
@@ -145,7 +146,7 @@ shifted-held = refl
 
 module _ {nodes bodies : List ℕ} (nodes-are : nodes ≡ nodeTable all) (bodies-are : bodies ≡ set (replicate 40 0) 32 3) where
   -- The tables hold the functions.
-  abbrev pub holds : TablesHold nodes bodies defs funs
+  abbrev pub holds : BodiesHold nodes bodies defs funs
   holds =
       record {
         all = all;
@@ -195,6 +196,7 @@ module _ {nodes bodies : List ℕ} (nodes-are : nodes ≡ nodeTable all) (bodies
         funs = funs;
         holds = holds;
         priced = p;
+        few = lit≤ tt;
         terms = constraints;
         terms-at = constraints-at;
         whole = refl;

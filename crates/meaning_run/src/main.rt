@@ -1,16 +1,16 @@
 //! Runs a small case: its costs, a value, and the run over its points with different budgets.
-use meaning::Ran;
 use meaning::costs::body_costs;
 use meaning::costs::cost_at;
 use meaning::evaluator::eval_term;
-use meaning::running::left_of;
-use meaning::running::run_points;
+use running::Ran;
+use running::running::left_of;
+use running::running::run_points;
 ghost use mathlib.Core.Path.{_≡_};
 ghost use lib.ListN.{getD, replicate, set};
 ghost use Rattle.terms.specs.Costs.{costOf};
 ghost use Rattle.terms.specs.Nodes.{nodeTable};
 ghost use Rattle.meaning.specs.Budget.{Priced, held};
-ghost use Rattle.meaning.specs.Running.{runPoints};
+ghost use Rattle.running.specs.Running.{runPoints};
 ghost use Rattle.meaning_run.specs.Case.{all, answerOf, constraints, defs, funs, numbers, shifted, sorts};
 
 // The node table of the case, four numbers a node: the bodies of d0 and f0, and the two constraints.

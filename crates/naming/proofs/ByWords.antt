@@ -10,11 +10,11 @@ use borrow.Author.Tests.{eq-eqb, eqb-true, le-leb, le-ltb, leb-true, lt-leb, lt-
 use Rattle.forest.specs.Lists.{sameBytes, spelling}
 use Rattle.forest.proofs.Bools.{and-left, and-right, apart}
 use Rattle.bits.specs.Operators.{named, operatorOf, operators}
-use Rattle.words.specs.Table.{widthAt}
-use Rattle.words.specs.Trees.{Lexeme}
+use Rattle.scanning.specs.Trees.{Lexeme}
 use Rattle.lexemes.specs.Lists.{Items}
 use Rattle.lexemes.specs.Standing.{Source, spelt}
-use Rattle.lexemes.specs.Table.{codeAt, numeralCode, symbolCode, valueAt}
+use Rattle.lexemes.proofs.Standing.{coded}
+use Rattle.lexemes.specs.Table.{codeAt, numeralCode, symbolCode, valueAt, widthAt}
 use Rattle.reserved.specs.Reserved.{knownWords}
 use Rattle.gathering.specs.Terms.{Raw, constant, cut, firstWord, headWord, number, pattern, word, writtenOf}
 use Rattle.gathering.specs.Steps.{Says, SaysPattern}
@@ -22,22 +22,22 @@ use Rattle.naming.specs.Scopes.{View}
 use Rattle.naming.specs.Steps.{Headed, NodeAt, NodeMeans, PatternAt, Seeing, SymbolMeans, bytesAt, isPatternHead, mostWritten, nameWord, sourceOf, wordBy}
 use Rattle.naming.specs.declared.Meaning.{Meaning}
 use Rattle.naming.specs.declared.Seen.{Seen}
-use Rattle.naming.proofs.Patterns.{in-table, pattern-code, patternCode}
+use Rattle.naming.proofs.Patterns.{pattern-code, patternCode}
 use Rattle.naming.proofs.Symbols.{word-test}
 
 -- How a literal is written, by its bytes.
-module _ (text words : List ℕ) (at : ℕ) {bytes : List ℕ} (eb : bytes ≡ bytesAt text words at) {written : ℕ} (ew : written ≡ writtenOf bytes) where
-  written-is : written ≡ writtenOf (bytesAt text words at)
+module _ (text lexemes : List ℕ) (at : ℕ) {bytes : List ℕ} (eb : bytes ≡ bytesAt text lexemes at) {written : ℕ} (ew : written ≡ writtenOf bytes) where
+  written-is : written ≡ writtenOf (bytesAt text lexemes at)
   written-is = ew ∙ ap writtenOf eb
 
-  pub written-small : writtenOf (bytesAt text words at) < mostWritten → written < mostWritten
+  pub written-small : writtenOf (bytesAt text lexemes at) < mostWritten → written < mostWritten
   written-small h = omega (arith, written-is)
 
   -- a literal
-  pub is-constant : (lexemes : List ℕ) {width value : ℕ} → width ≡ widthAt words at → value ≡ valueAt lexemes at → (view : View)
-      → NodeMeans view (constant at (widthAt words at) (valueAt lexemes at) (writtenOf (bytesAt text words at)))
+  pub is-constant : {width value : ℕ} → width ≡ widthAt lexemes at → value ≡ valueAt lexemes at → (view : View)
+      → NodeMeans view (constant at (widthAt lexemes at) (valueAt lexemes at) (writtenOf (bytesAt text lexemes at)))
       (record { known = true; code = 0 + 16 * (width + 128 * written); value = value })
-  is-constant lexemes e v view = record { stated = record { code-is = omega (arith, written-is, e); value-is = v }; known-is = λ nowhere. refl }
+  is-constant e v view = record { stated = record { code-is = omega (arith, written-is, e); value-is = v }; known-is = λ nowhere. refl }
 
 extract-number : operatorOf (spelling "extract") ≡ 22
 unfolding named operatorOf operators sameBytes
@@ -91,8 +91,8 @@ no-pattern at head name {code} e headed = go (ltb at head) refl
 -- The word of a node at which a name stands that is not known.
 module _ (lexemes : List ℕ) (first head nowhere : ℕ) {code : ℕ} (ec : code ≡ codeAt lexemes head) {t : Bool} (et : t ≡ isPatternHead first head code) where
   -- a pattern is within the table
-  pub pattern-within : t ≡ true → 3 * head < length lexemes
-  pattern-within h = in-table lexemes head (go (ltb first head) (eqb code 45) refl (eqb code 46) refl (sym et ∙ h))
+  pub pattern-within : t ≡ true → 6 * head < length lexemes
+  pattern-within h = coded lexemes head (go (ltb first head) (eqb code 45) refl (eqb code 46) refl (sym et ∙ h))
     where
       go : (later c : Bool) → eqb code 45 ≡ c → (v : Bool) → eqb code 46 ≡ v → later && (c || v) ≡ true → 0 < codeAt lexemes head
       go true true e v f h = omega (arith, ec, eqb-true code 45 e)
@@ -155,10 +155,10 @@ module _ (s : Source) where
       go (cut at h i j) eh = eh
       go (pattern at c sort held) eh = omega arith
 
-pub node-word : {names : List ℕ} {seen : Seen} {text words lexemes : List ℕ} {first head : ℕ} (g : NodeAt names seen text words lexemes first head)
+pub node-word : {names : List ℕ} {seen : Seen} {text lexemes : List ℕ} {first head : ℕ} (g : NodeAt names seen text lexemes first head)
     → wordBy first head (codeAt lexemes head) ≡ nameWord (g .node)
-node-word {text = text} {words = words} {lexemes = lexemes} g =
-    word-is (sourceOf text words lexemes) (g .node) (g .says) (g .headed) (g .begins) (g .heads) refl
+node-word {text = text} {lexemes = lexemes} g =
+    word-is (sourceOf text lexemes) (g .node) (g .says) (g .headed) (g .begins) (g .heads) refl
 
 -- A node of each kind, by the word that says what it is.
 record WordOf (s : Source) (head : ℕ) (r : Raw) : Type 0 where
@@ -171,7 +171,7 @@ record NumberOf (s : Source) (head : ℕ) (r : Raw) : Type 0 where
   pub is : r ≡ number head value
 
 record ConstantOf (s : Source) (head : ℕ) (r : Raw) : Type 0 where
-  pub is : r ≡ constant head (widthAt (s .words) head) (valueAt (s .lexemes) head) (writtenOf (spelt s head))
+  pub is : r ≡ constant head (widthAt (s .lexemes) head) (valueAt (s .lexemes) head) (writtenOf (spelt s head))
 
 record CutOf (s : Source) (head : ℕ) (r : Raw) : Type 0 where
   pub at : ℕ
@@ -206,23 +206,23 @@ of-kind s (pattern at c sort held) y e = record { at = at; here = e; c = c; sort
 node-means : {view : View} {m : Meaning} {r q : Raw} → r ≡ q → NodeMeans view q m → NodeMeans view r m
 node-means {view} {m} e = subst (λ (x : Raw). NodeMeans view x m) (sym e)
 
-module _ {names : List ℕ} {seen : Seen} {text words lexemes : List ℕ} {first head : ℕ} (g : NodeAt names seen text words lexemes first head)
+module _ {names : List ℕ} {seen : Seen} {text lexemes : List ℕ} {first head : ℕ} (g : NodeAt names seen text lexemes first head)
     {code : ℕ} (ec : code ≡ codeAt lexemes head) where
   -- the node is one of the kind that its words say
-  by-kind : (k : Case) → kindBy first head code ≡ k → Of (sourceOf text words lexemes) head k (g .node)
+  by-kind : (k : Case) → kindBy first head code ≡ k → Of (sourceOf text lexemes) head k (g .node)
   by-kind k e =
-      let s = sourceOf text words lexemes in
+      let s = sourceOf text lexemes in
       let known = kind-is s (g .node) (g .says) (g .headed) (g .begins) (g .heads) ec in
       subst (λ (x : Case). Of s head x (g .node)) (sym known ∙ e) (of-kind s (g .node) (g .says) (g .heads))
 
   module _ {t : Bool} (et : t ≡ isPatternHead first head code) where
     module _ (taken : t ≡ true) where
-      of-pattern : PatternOf (sourceOf text words lexemes) head (g .node)
+      of-pattern : PatternOf (sourceOf text lexemes) head (g .node)
       of-pattern = by-kind a-pattern (rw (sym et ∙ taken))
 
-      given-pattern : PatternOf (sourceOf text words lexemes) head (g .node) → PatternAt lexemes head
+      given-pattern : PatternOf (sourceOf text lexemes) head (g .node) → PatternAt lexemes head
       given-pattern o = record {
-        source = sourceOf text words lexemes;
+        source = sourceOf text lexemes;
         same = refl;
         bounded = g .bounded;
         at = o .at;
@@ -248,15 +248,15 @@ module _ {names : List ℕ} {seen : Seen} {text words lexemes : List ℕ} {first
       no-head = sym et ∙ left
 
       module _ (symbolic : 5 ≤ code) where
-        of-word : WordOf (sourceOf text words lexemes) head (g .node)
+        of-word : WordOf (sourceOf text lexemes) head (g .node)
         of-word = by-kind a-word (rw (no-head, le-leb 5 code symbolic))
 
         -- the code of a symbol's node
-        pub symbol-coded : {bytes : List ℕ} → bytes ≡ bytesAt text words head → code ≡ symbolCode bytes
+        pub symbol-coded : {bytes : List ℕ} → bytes ≡ bytesAt text lexemes head → code ≡ symbolCode bytes
         symbol-coded eb = ec ∙ of-word .coded ∙ ap symbolCode (sym eb)
 
-        pub symbol-node : {bytes : List ℕ} → bytes ≡ bytesAt text words head → {m : Meaning} → ((given : Seeing names seen) → SymbolMeans (given .view) bytes m)
-            → NodeMeans (g .view) (g .node) m
+        pub symbol-node : {bytes : List ℕ} → bytes ≡ bytesAt text lexemes head → {m : Meaning}
+            → ((given : Seeing names seen) → SymbolMeans (given .view) bytes m) → NodeMeans (g .view) (g .node) m
         symbol-node eb {m} f =
             let y = subst (λ (n : List ℕ). SymbolMeans (g .view) n m) eb (f (record { view = g .view; sees = g .sees })) in
             node-means (of-word .is) (record { stated = y .stated; known-is = λ nowhere. ap (λ (b : Bool). cond b nowhere head) (sym (y .known-is)) })
@@ -264,17 +264,21 @@ module _ {names : List ℕ} {seen : Seen} {text words lexemes : List ℕ} {first
       module _ (no-symbol : code < 5) where
         module _ (literal : code ≡ 4) where
           -- a literal is written by a small number
-          pub literal-small : writtenOf (bytesAt text words head) < mostWritten
+          pub literal-small : writtenOf (bytesAt text lexemes head) < mostWritten
           literal-small = g .bounded .literals head (sym ec ∙ literal)
 
+          -- and has at most 64 bits
+          pub literal-narrow : widthAt lexemes head ≤ 64
+          literal-narrow = g .bounded .fit head (sym ec ∙ literal) .sort
+
           pub literal-node : {m : Meaning}
-              → ((view : View) → NodeMeans view (constant head (widthAt words head) (valueAt lexemes head) (writtenOf (bytesAt text words head))) m)
+              → ((view : View) → NodeMeans view (constant head (widthAt lexemes head) (valueAt lexemes head) (writtenOf (bytesAt text lexemes head))) m)
               → NodeMeans (g .view) (g .node) m
           literal-node f = node-means (by-kind a-constant (rw (no-head, lt-leb 5 code no-symbol, eq-eqb code 4 literal)) .is) (f (g .view))
 
         module _ (no-literal : code ≡ 4 → ⊥) where
           module _ (later : first < head) where
-            of-cut : CutOf (sourceOf text words lexemes) head (g .node)
+            of-cut : CutOf (sourceOf text lexemes) head (g .node)
             of-cut = by-kind a-cut (rw (no-head, lt-leb 5 code no-symbol, ne-eqb code 4 no-literal, lt-ltb first head later))
 
             -- the word that is the i of `(_ extract i j)` has a code

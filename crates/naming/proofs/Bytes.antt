@@ -9,7 +9,7 @@ use lib.Dec.{leb}
 use lib.ListN.{drop, length, take, length-drop}
 use lib.Seq.{take-all}
 use borrow.Author.Tests.{leb-false, leb-true}
-use Rattle.words.specs.Table.{endAt, startAt}
+use Rattle.lexemes.specs.Table.{endAt, startAt}
 use Rattle.naming.specs.Steps.{bytesAt}
 
 -- A part that ends past the text ends with it.
@@ -26,12 +26,12 @@ within text start end = go (leb end (length text)) refl
         let shorter : length text ≤ end = omega arith in
         rw (min-eq-right shorter) (all (length text) (omega arith) ∙ sym (all end (omega arith)))
 
-module _ (text words : List ℕ) (word : ℕ) {start past end : ℕ} (es : start ≡ startAt words word) (ep : past ≡ endAt words word)
+module _ (text lexemes : List ℕ) (word : ℕ) {start past end : ℕ} (es : start ≡ startAt lexemes word) (ep : past ≡ endAt lexemes word)
     (ee : end ≡ min past (length text)) where
   -- a word that has bytes
-  pub some-bytes : take (end - start) (drop start text) ≡ bytesAt text words word
-  some-bytes = rw (ee, ep, es) (within text (startAt words word) (endAt words word))
+  pub some-bytes : take (end - start) (drop start text) ≡ bytesAt text lexemes word
+  some-bytes = rw (ee, ep, es) (within text (startAt lexemes word) (endAt lexemes word))
 
   -- a word that has none
-  pub no-bytes : end ≤ start → [] ≡ bytesAt text words word
+  pub no-bytes : end ≤ start → [] ≡ bytesAt text lexemes word
   no-bytes h = let z : end - start ≡ 0 = omega arith in rw z at some-bytes

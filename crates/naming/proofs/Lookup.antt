@@ -13,7 +13,8 @@ use Rattle.forest.specs.Lists.{sameBytes}
 use Rattle.terms.specs.Labels.{defined, function, name}
 use Rattle.grammar.specs.Derivation.{Item, nonTerminal, the}
 use Rattle.grammar.specs.Tables.{itemCode, itemValue}
-use Rattle.naming.specs.Scopes.{View, definedNames, functionNames, inOrder, isKnown, isNamed, isSeen, itemOr, namesOf, placeIn, sortsOf, symbolMeans}
+use Rattle.lookup.specs.Search.{placeIn}
+use Rattle.naming.specs.Scopes.{View, definedNames, functionNames, inOrder, isKnown, isNamed, isSeen, itemOr, namesOf, namedSorts, symbolMeans}
 use Rattle.naming.specs.Steps.{Ordinary, Seeing, SymbolMeans}
 use Rattle.naming.specs.Table.{definedRow, functionRow, namesFrom, nonTerminalRow, sortIn, sortsFrom}
 use Rattle.naming.specs.declared.Seen.{Seen}
@@ -96,7 +97,7 @@ stands-for i e k = record {
 abbrev seenMeans : View → (n : List ℕ) → Option Item
 seenMeans view n =
     let k = placeIn (namesOf (view .names)) 0 n in
-    cond (isNamed (namesOf (view .names)) n) (some (the (name (getD (sortsOf (view .names)) k 0) k)))
+    cond (isNamed (namesOf (view .names)) n) (some (the (name (getD (namedSorts (view .names)) k 0) k)))
     (cond (isNamed (definedNames (view .defined)) n) (some (the (defined (placeIn (inOrder (definedNames (view .defined))) 0 n))))
     (cond (isNamed (functionNames (view .functions)) n) (some (the (function (placeIn (inOrder (functionNames (view .functions))) 0 n))))
     (cond (isNamed (namesOf (view .nonTerminals)) n) (some (nonTerminal (placeIn (namesOf (view .nonTerminals)) 0 n))) none)))
@@ -118,7 +119,7 @@ module _ {names : List ℕ} {seen : Seen} {n : List ℕ} (given : Seeing names s
   pub is-name : {s : ℕ} → a < seen .names → s ≡ sortIn names (seen .first + a)
       → SymbolMeans (given .view) n (record { known = true; code = 1 + 16 * s; value = a })
   is-name {s} h es =
-      let sort : s ≡ getD (sortsOf (given .view .names)) a 0 =
+      let sort : s ≡ getD (namedSorts (given .view .names)) a 0 =
       es ∙ sym (sort-at names (seen .first) (seen .names) a h) ∙ ap (λ (l : List ℕ). getD l a 0) (given .sees .sorts-are) in
       stands-for (the (name s a)) (means-seen ∙ rw (there a-name h, ← a-name .place, sort)) (known-seen ∙ rw (there a-name h))
 

@@ -12,7 +12,7 @@ use Rattle.forest.proofs.Lists.{drop-next}
 use Rattle.forest.specs.Lists.{sameBytes}
 use Rattle.bits.proofs.Naming.{Read, nothing-read, other-length}
 use Rattle.bits.proofs.Table.{Stands}
-use Rattle.naming.specs.Scopes.{placeIn}
+use Rattle.lookup.specs.Search.{placeIn}
 use Rattle.naming.specs.Steps.{Names}
 use Rattle.naming.specs.Table.{longest, nameIn, nameRow, namesFrom, rowCount}
 

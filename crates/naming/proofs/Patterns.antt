@@ -5,19 +5,19 @@ use native.Mathlib.Omega.{arith}
 use mathlib.Core.Path.{_≡_, refl, sym, ap, _∙_}
 use mathlib.Core.Bool.{Bool, true, false, cond, not, _&&_, _||_}
 use mathlib.Core.List.{List, []}
-use lib.Dec.{eqb, ltb}
+use lib.Dec.{eqb}
 use lib.ListN.{length}
 use mir.Val.{boolByte}
-use borrow.Author.Tests.{eq-eqb, eqb-true, ltb-false, ltb-true, ne-eqb}
+use borrow.Author.Tests.{eq-eqb, eqb-true, ne-eqb}
 use Rattle.forest.specs.Forest.{count, none, tree}
 use Rattle.forest.specs.Lists.{sameBytes, spelling}
 use Rattle.forest.proofs.Bools.{and-left, and-right, apart}
-use Rattle.forest.proofs.Rows.{past}
 use Rattle.bits.specs.Operators.{operators}
-use Rattle.words.specs.Trees.{Lexeme, list, literal, numeral, symbol}
+use Rattle.scanning.specs.Trees.{Lexeme, list, literal, numeral, symbol}
 use Rattle.reserved.specs.Reserved.{isWord, knownWords, placeAmong, wordNumber}
-use Rattle.lexemes.specs.Lists.{Items, after, allNumerals, indexed, is, isList, isSymbol, item, numberOf}
+use Rattle.lexemes.specs.Lists.{Items, after, allNumerals, indexed, is, isList, isSymbol, item, numeralOf}
 use Rattle.lexemes.specs.Standing.{Source, Stands, bracketed, ends, word}
+use Rattle.lexemes.proofs.Standing.{coded}
 use Rattle.lexemes.specs.Table.{codeAt, numeralCode, openCode, symbolCode, valueAt}
 use Rattle.gathering.specs.Terms.{pattern}
 use Rattle.sorts.specs.Written.{sortOf, sortPlace}
@@ -27,14 +27,6 @@ use Rattle.grammar.specs.Tables.{itemCode, itemValue}
 use Rattle.naming.specs.Scopes.{View}
 use Rattle.naming.specs.Steps.{NodeMeans, PatternAt}
 use Rattle.naming.proofs.Symbols.{word-test}
-
--- A word that has a code is within the table.
-pub in-table : (lexemes : List ℕ) (i : ℕ) → 0 < codeAt lexemes i → 3 * i < length lexemes
-in-table lexemes i h = go (ltb (3 * i) (length lexemes)) refl
-  where
-    go : (b : Bool) → ltb (3 * i) (length lexemes) ≡ b → 3 * i < length lexemes
-    go true e = ltb-true (3 * i) (length lexemes) e
-    go false e = absurd (omega (arith, past 3 lexemes i 0 (omega (arith, ltb-false (3 * i) (length lexemes) e))))
 
 -- Items of which the first is a word, and the others.
 record Begun (s : Source) (i e : ℕ) (F : Items) : Type 0 where
@@ -56,7 +48,7 @@ module _ {s : Source} where
 
   -- A numeral is the first of numerals.
   numeral-here : {i e : ℕ} {F : Items} → Stands s i F e → 0 < count F → allNumerals F ≡ true
-      → (codeAt (s .lexemes) i ≡ numeralCode) × (valueAt (s .lexemes) i ≡ numberOf (item 0 F))
+      → (codeAt (s .lexemes) i ≡ numeralCode) × (valueAt (s .lexemes) i ≡ numeralOf (item 0 F))
   unfolding allNumerals count item
   numeral-here ends some all = absurd (omega arith)
   numeral-here (word {l = numeral at v} x rest) some all = (x .coded, x .valued)
@@ -67,7 +59,7 @@ module _ {s : Source} where
 
   -- The n of `(_ BitVec n)`, which stands behind two words.
   width-here : {i e : ℕ} {F : Items} → Stands s i F e → indexed "BitVec" 1 F ≡ true
-      → (codeAt (s .lexemes) (i + 2) ≡ numeralCode) × (valueAt (s .lexemes) (i + 2) ≡ numberOf (item 2 F))
+      → (codeAt (s .lexemes) (i + 2) ≡ numeralCode) × (valueAt (s .lexemes) (i + 2) ≡ numeralOf (item 2 F))
   unfolding after item sameBytes
   width-here {i} {e} {F} stands shape =
       let u = is "_" (item 0 F) in
@@ -86,7 +78,7 @@ module _ {s : Source} where
 data SortIs (s : Source) (i : ℕ) : Lexeme → Items → Type 0 where
   named : {at : ℕ} {name : List ℕ} → at ≡ i → codeAt (s .lexemes) i ≡ symbolCode name → SortIs s i (symbol at name) none
   vector : {close : ℕ} {held : Items} → codeAt (s .lexemes) i ≡ openCode → codeAt (s .lexemes) (i + 3) ≡ numeralCode
-      → valueAt (s .lexemes) (i + 3) ≡ numberOf (item 2 held) → SortIs s i (list i close) held
+      → valueAt (s .lexemes) (i + 3) ≡ numeralOf (item 2 held) → SortIs s i (list i close) held
 
 sort-is : {s : Source} {i e : ℕ} {l : Lexeme} {held : Items} → Stands s i (tree l held none) e → isSymbol l || isList l && indexed "BitVec" 1 held ≡ true
     → SortIs s i l held
@@ -147,8 +139,8 @@ module _ {lexemes : List ℕ} {head : ℕ} (p : PatternAt lexemes head) where
   sort-here = sort-is (p .says .stands) (p .says .shaped)
 
   -- the word that says which of the two it is stands in the table
-  pub pattern-room : 3 * head < length lexemes
-  pattern-room = in-table lexemes head (rw head-code (go (p .constant)))
+  pub pattern-room : 6 * head < length lexemes
+  pattern-room = coded lexemes head (rw head-code (go (p .constant)))
     where
       go : (c : Bool) → 0 < patternCode c
       go true = omega arith

@@ -5,19 +5,7 @@ use mathlib.Core.Path.{_≡_, refl, sym, ap, ap₂, _∙_, subst}
 use mathlib.Core.Bool.{Bool, true, false}
 use mathlib.Core.List.{List, [], _∷_, _++_, append-assoc}
 use lib.ListN.{drop, getD, length, replicate, take, length-append, length-drop, length-replicate, take-append-drop, List·getD-append}
-use lib.Seq.{
-  drop-append-add,
-  drop-append-le,
-  drop-at,
-  drop-drop,
-  getD-drop,
-  length-sets,
-  length-take-le,
-  sets,
-  sets-eq,
-  take-append-le,
-  take-append-seam,
-}
+use lib.Seq.{drop-append-add, drop-append-le, drop-at, drop-drop, getD-drop, length-sets, length-take-le, sets, sets-eq, take-append-le, take-append-seam}
 use lib.Dec.{eqb, ltb}
 use borrow.Author.Tests.{eqb-false, eqb-true, ltb-false, ltb-true}
 use Rattle.naming.specs.Steps.{Kept, Names}

@@ -19,7 +19,7 @@ use Rattle.lexemes.specs.Table.{codeAt}
 use Rattle.gathering.specs.Steps.{AllSay, Says}
 use Rattle.gathering.specs.Table.{firstAt, headAt, operandsAt, rawRow, rawTable, sizeAt}
 use Rattle.gathering.specs.Terms.{Raw}
-use Rattle.naming.specs.Scopes.{View, formOf, itemOr, means}
+use Rattle.naming.specs.Scopes.{View, formsOf, itemOr, means}
 use Rattle.naming.specs.Steps.{AllHeaded, Headed, NodeAt, NodeMeans, Resolved, Resolving, sourceOf, wordBy}
 use Rattle.naming.specs.Unknown.{unknownAt, unknownIn}
 use Rattle.naming.specs.declared.Meaning.{Meaning}
@@ -32,23 +32,23 @@ formRow view n =
     itemCode (itemOr (means view (n .label))) ∷ itemValue (itemOr (means view (n .label))) ∷ count (n .operands) ∷ suc (size (n .operands)) ∷ []
 
 module _ (view : View) where
-  count-form : (F : Forest Raw) → count (formOf view F) ≡ count F
-  unfolding count formOf
+  count-form : (F : Forest Raw) → count (formsOf view F) ≡ count F
+  unfolding count formsOf
   count-form none = refl
   count-form (tree r ops rest) = ap suc (count-form rest)
 
-  size-form : (F : Forest Raw) → size (formOf view F) ≡ size F
-  unfolding formOf size
+  size-form : (F : Forest Raw) → size (formsOf view F) ≡ size F
+  unfolding formsOf size
   size-form none = refl
   size-form (tree r ops rest) = rw (size-form ops, size-form rest)
 
   -- The forms of terms, row by row.
-  form-rows : (F : Forest Raw) → rows itemRow (nodesOf (formOf view F)) ≡ rows (formRow view) (nodesOf F)
-  unfolding formOf nodesOf rows
+  form-rows : (F : Forest Raw) → rows itemRow (nodesOf (formsOf view F)) ≡ rows (formRow view) (nodesOf F)
+  unfolding formsOf nodesOf rows
   form-rows none = refl
   form-rows (tree r ops rest) =
       rw (
-        rows-append itemRow 4 (λ n. refl) (nodesOf (formOf view ops)) (nodesOf (formOf view rest)),
+        rows-append itemRow 4 (λ n. refl) (nodesOf (formsOf view ops)) (nodesOf (formsOf view rest)),
         rows-append (formRow view) 4 (λ n. refl) (nodesOf ops) (nodesOf rest),
         form-rows ops,
         form-rows rest,
@@ -97,22 +97,22 @@ row-after l i a b c d more = let next : 4 * (i + 1) ≡ suc (suc (suc (suc (4 * 
 
 -- Before a node: with the rows of the nodes from there on all rows are written, and the least word of those nodes and the one that was found is the least of
 -- all.
-pub record Turn {names text words lexemes raw forms : List ℕ} {seen : Seen} {count base : ℕ} (p : Resolving names text words lexemes raw forms seen count base)
+pub record Turn {names text lexemes raw forms : List ℕ} {seen : Seen} {count base : ℕ} (p : Resolving names text lexemes raw forms seen count base)
     (nowhere : ℕ) (written : List ℕ) (unknown node : ℕ) : Type 0 where
   pub left : sets written (4 * (base + node)) (rows (formRow (p .view)) (drop node (nodesOf (p .F))))
       ≡ sets forms (4 * base) (rows (formRow (p .view)) (nodesOf (p .F)))
   pub least : min unknown (unknownIn nowhere (p .view) (drop node (nodesOf (p .F)))) ≡ unknownIn nowhere (p .view) (nodesOf (p .F))
 
 -- The same whatever the terms are.
-pub record Going (names text words lexemes raw forms : List ℕ) (seen : Seen) (count base nowhere : ℕ) (written : List ℕ) (unknown node : ℕ) : Type 0 where
-  pub given : Resolving names text words lexemes raw forms seen count base
+pub record Going (names text lexemes raw forms : List ℕ) (seen : Seen) (count base nowhere : ℕ) (written : List ℕ) (unknown node : ℕ) : Type 0 where
+  pub given : Resolving names text lexemes raw forms seen count base
   pub passed : node ≤ count
   pub long : length written ≡ length forms
   pub low : unknown ≤ nowhere
-  pub each : (p : Resolving names text words lexemes raw forms seen count base) → Turn p nowhere written unknown node
+  pub each : (p : Resolving names text lexemes raw forms seen count base) → Turn p nowhere written unknown node
 
-module _ {names text words lexemes raw forms : List ℕ} {seen : Seen} {count base nowhere : ℕ} where
-  pub begins : Resolving names text words lexemes raw forms seen count base → Going names text words lexemes raw forms seen count base nowhere forms nowhere 0
+module _ {names text lexemes raw forms : List ℕ} {seen : Seen} {count base nowhere : ℕ} where
+  pub begins : Resolving names text lexemes raw forms seen count base → Going names text lexemes raw forms seen count base nowhere forms nowhere 0
   begins p = record {
     given = p;
     passed = omega arith;
@@ -121,9 +121,9 @@ module _ {names text words lexemes raw forms : List ℕ} {seen : Seen} {count ba
     each = λ p. record { left = simp unary-clauses; least = min-eq-right (unknown-below nowhere (p .view) (nodesOf (p .F))) };
   }
 
-  module _ {written : List ℕ} {unknown node : ℕ} (g : Going names text words lexemes raw forms seen count base nowhere written unknown node) where
+  module _ {written : List ℕ} {unknown node : ℕ} (g : Going names text lexemes raw forms seen count base nowhere written unknown node) where
     -- past the last node all is written
-    pub all-written : count ≤ node → (p : Resolving names text words lexemes raw forms seen count base) → Resolved p nowhere written unknown
+    pub all-written : count ≤ node → (p : Resolving names text lexemes raw forms seen count base) → Resolved p nowhere written unknown
     unfolding formTable rows unknownIn
     all-written h p =
         let t = g .each p in
@@ -136,11 +136,11 @@ module _ {names text words lexemes raw forms : List ℕ} {seen : Seen} {count ba
 
     module _ (inside : node < count) {first head : ℕ} (ef : first ≡ firstAt raw node) (eh : head ≡ headAt raw node) where
       -- the node at which the loop stands
-      at-node : (p : Resolving names text words lexemes raw forms seen count base) → Stands (nodesOf (p .F)) node
+      at-node : (p : Resolving names text lexemes raw forms seen count base) → Stands (nodesOf (p .F)) node
       at-node p = stands (nodesOf (p .F)) node (omega (arith, length-nodes (p .F), p .counted))
 
       -- what its row says
-      column-is : (p : Resolving names text words lexemes raw forms seen count base) (column : ℕ) → column < 4
+      column-is : (p : Resolving names text lexemes raw forms seen count base) (column : ℕ) → column < 4
           → numberAt 4 raw node column ≡ getD (rawRow (at-node p .here)) column 0
       unfolding rawTable
       column-is p column small =
@@ -148,9 +148,9 @@ module _ {names text words lexemes raw forms : List ℕ} {seen : Seen} {count ba
           rw (p .is-raw) (row-at rawRow 4 (λ n. refl) (nodesOf (p .F)) (p .rest) node column (x .here) (drop (node + 1) (nodesOf (p .F))) (x .is) small)
 
       -- what its words say
-      node-of : (p : Resolving names text words lexemes raw forms seen count base) → NodeAt names seen text words lexemes first head
+      node-of : (p : Resolving names text lexemes raw forms seen count base) → NodeAt names seen text lexemes first head
       node-of p =
-          let s = sourceOf text words lexemes in
+          let s = sourceOf text lexemes in
           let told = told-at s (nodesOf (p .F)) node (every-node s (p .F) (p .say) (p .headed)) (at-node p .is) in
           record {
             view = p .view;
@@ -163,15 +163,15 @@ module _ {names text words lexemes raw forms : List ℕ} {seen : Seen} {count ba
             headed = told .headed;
           }
 
-      pub node-here : NodeAt names seen text words lexemes first head
+      pub node-here : NodeAt names seen text lexemes first head
       node-here = node-of (g .given)
 
-      module _ {meaning : Meaning} (em : (n : NodeAt names seen text words lexemes first head) → NodeMeans (n .view) (n .node) meaning)
+      module _ {meaning : Meaning} (em : (n : NodeAt names seen text lexemes first head) → NodeMeans (n .view) (n .node) meaning)
           {operands size : ℕ} (eo : operands ≡ operandsAt raw node) (es : size ≡ sizeAt raw node)
           {after : List ℕ} (ea : after ≡ sets written (4 * (base + node)) (meaning .code ∷ meaning .value ∷ operands ∷ size ∷ []))
           {word : ℕ} (ew : word ≡ cond (meaning .known) nowhere (wordBy first head (codeAt lexemes head))) {least : ℕ} (el : least ≡ min unknown word) where
         -- one node more
-        turned : (p : Resolving names text words lexemes raw forms seen count base) → Turn p nowhere after least (node + 1)
+        turned : (p : Resolving names text lexemes raw forms seen count base) → Turn p nowhere after least (node + 1)
         unfolding node-of rows unknownIn
         turned p =
             let t = g .each p in
@@ -193,7 +193,7 @@ module _ {names text words lexemes raw forms : List ℕ} {seen : Seen} {count ba
               least = omega arith;
             }
 
-        pub turn : Going names text words lexemes raw forms seen count base nowhere after least (node + 1)
+        pub turn : Going names text lexemes raw forms seen count base nowhere after least (node + 1)
         turn = record {
           given = g .given;
           passed = omega arith;

@@ -1,4 +1,5 @@
 -- Names in scope, and what they stand for.
+use Rattle.lookup.specs.Search.{placeIn}
 use Prim.Native.Nat.{ℕ, _+_}
 use mathlib.Core.Bool.{Bool, true, false, cond, _&&_, _||_}
 use mathlib.Core.List.{List, [], _∷_, _++_, map}
@@ -64,25 +65,18 @@ isNamed (m ∷ more) n = sameBytes m n || isNamed more n
 abbrev pub isTaken : (scope : List (List ℕ)) → (n : List ℕ) → Bool
 isTaken scope n = isReserved n || isNamed scope n
 
--- The place of a name, from k on; past the last where it is none of them.
-unfoldable pub placeIn : (names : List (List ℕ)) → (k : ℕ) → (n : List ℕ) → ℕ
-placeIn [] k n = k
-placeIn (m ∷ more) k n =
-    let later = placeIn more (k + 1) n in
-    cond (sameBytes m n) k later
-
 -- Names that stand the last first, in script order.
 unfoldable pub inOrder : List (List ℕ) → List (List ℕ)
 inOrder [] = []
 inOrder (n ∷ earlier) = inOrder earlier ++ n ∷ []
 
 -- The sorts of things.
-abbrev pub sortsOf : List Named → List ℕ
-sortsOf ns = map (λ (n : Named). n .sort) ns
+abbrev pub namedSorts : List Named → List ℕ
+namedSorts ns = map (λ (n : Named). n .sort) ns
 
 -- The signature of a function.
 abbrev pub signatureOf : Function → Signature
-signatureOf f = record { arguments = sortsOf (f .arguments); result = f .result }
+signatureOf f = record { arguments = namedSorts (f .arguments); result = f .result }
 
 -- Whether a name is seen.
 abbrev pub isSeen : View → (n : List ℕ) → Bool
@@ -103,7 +97,7 @@ symbolMeans view n =
     cond (isWord "true" n) (some (the (literal 0 1 0)))
     (cond (isWord "false" n) (some (the (literal 0 0 0)))
     (cond (ltb (operatorOf n) operatorCount) (cond (isWord "extract" n) nothing (some (the (operator (operatorOf n) 0 0))))
-    (cond (isNamed (namesOf (view .names)) n) (some (the (name (getD (sortsOf (view .names)) k 0) k)))
+    (cond (isNamed (namesOf (view .names)) n) (some (the (name (getD (namedSorts (view .names)) k 0) k)))
     (cond (isNamed (definedNames (view .defined)) n) (some (the (defined (placeIn (inOrder (definedNames (view .defined))) 0 n))))
     (cond (isNamed (functionNames (view .functions)) n) (some (the (function (placeIn (inOrder (functionNames (view .functions))) 0 n))))
     (cond (isNamed (namesOf (view .nonTerminals)) n) (some (nonTerminal (placeIn (namesOf (view .nonTerminals)) 0 n)))
@@ -127,6 +121,6 @@ itemOr nothing = the (operator operatorCount 0 0)
 itemOr (some i) = i
 
 -- The forms that terms say.
-unfoldable pub formOf : View → Forest Raw → Forest Item
-formOf view none = none
-formOf view (tree r ops more) = tree (itemOr (means view r)) (formOf view ops) (formOf view more)
+unfoldable pub formsOf : View → Forest Raw → Forest Item
+formsOf view none = none
+formsOf view (tree r ops more) = tree (itemOr (means view r)) (formsOf view ops) (formsOf view more)

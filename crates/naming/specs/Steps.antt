@@ -1,7 +1,7 @@
 -- What the parts of the look-up of names ask and give. Definitions that serve a step.
 use Prim.Native.Nat.{ℕ, _+_, _-_, _*_, _≤_, _<_, _^_}
 use mathlib.Core.Bool.{Bool, cond, false, _&&_, _||_}
-use mathlib.Core.List.{List, [], _++_}
+use mathlib.Core.List.{List, _++_}
 use mathlib.Core.Option.{Option}
 use mathlib.Core.Path.{_≡_}
 use lib.Dec.{eqb, ltb}
@@ -9,17 +9,18 @@ use lib.ListN.{getD, length}
 use lib.Seq.{sets}
 use Rattle.forest.specs.Forest.{Forest, nodesOf, none, size, tree}
 use Rattle.bits.specs.Operators.{operatorCount, operatorOf}
+use Rattle.bits.specs.Sorts.{Fit}
 use Rattle.reserved.specs.Reserved.{isWord}
 use Rattle.grammar.specs.Derivation.{Item}
 use Rattle.grammar.specs.Tables.{formTable, itemCode, itemValue}
-use Rattle.words.specs.Trees.{Lexeme}
+use Rattle.scanning.specs.Trees.{Lexeme}
 use Rattle.lexemes.specs.Lists.{Items}
 use Rattle.lexemes.specs.Standing.{Source, spelt}
-use Rattle.lexemes.specs.Table.{codeAt, literalCode, numeralCode, valueAt}
+use Rattle.lexemes.specs.Table.{codeAt, literalCode, numeralCode, valueAt, widthAt}
 use Rattle.gathering.specs.Steps.{AllSay, Says, SaysPattern}
 use Rattle.gathering.specs.Table.{rawTable}
 use Rattle.gathering.specs.Terms.{Raw, constant, cut, firstWord, headWord, number, pattern, word, writtenOf}
-use Rattle.naming.specs.Scopes.{View, definedNames, formOf, functionNames, inOrder, isKnown, itemOr, means, namesOf, sortsOf, symbolMeans}
+use Rattle.naming.specs.Scopes.{View, definedNames, formsOf, functionNames, inOrder, isKnown, itemOr, means, namesOf, namedSorts, symbolMeans}
 use Rattle.naming.specs.Table.{definedRow, functionRow, longest, namesFrom, nonTerminalRow, rowCount, rowWidth, sortsFrom}
 use Rattle.naming.specs.Unknown.{unknownAt, unknownIn}
 use Rattle.naming.specs.declared.Meaning.{Meaning}
@@ -45,7 +46,7 @@ ShortNames s = (i : ℕ) → literalCode < codeAt (s .lexemes) i → length (spe
 pub record Sees (names : List ℕ) (seen : Seen) (view : View) : Type 0 where
   pub table : Names names
   pub names-are : namesFrom names (seen .first) (seen .names) ≡ namesOf (view .names)
-  pub sorts-are : sortsFrom names (seen .first) (seen .names) ≡ sortsOf (view .names)
+  pub sorts-are : sortsFrom names (seen .first) (seen .names) ≡ namedSorts (view .names)
   pub defined-are : namesFrom names definedRow (seen .defined) ≡ inOrder (definedNames (view .defined))
   pub functions-are : namesFrom names functionRow (seen .functions) ≡ inOrder (functionNames (view .functions))
   pub nonTerminals-are : namesFrom names nonTerminalRow (seen .«non_terminals») ≡ namesOf (view .nonTerminals)
@@ -80,17 +81,18 @@ pub record SymbolMeans (view : View) (name : List ℕ) (m : Meaning) : Type 0 wh
   pub stated : Stated (symbolMeans view name) m
 
 -- What was read of a text.
-abbrev pub sourceOf : (text words lexemes : List ℕ) → Source
-sourceOf text words lexemes = record { text = text; words = words; lexemes = lexemes }
+abbrev pub sourceOf : (text lexemes : List ℕ) → Source
+sourceOf text lexemes = record { text = text; lexemes = lexemes }
 
--- The bytes of word i, for which no lexemes are asked.
-abbrev pub bytesAt : (text words : List ℕ) → (i : ℕ) → List ℕ
-bytesAt text words i = spelt (sourceOf text words []) i
+-- The bytes of word i.
+abbrev pub bytesAt : (text lexemes : List ℕ) → (i : ℕ) → List ℕ
+bytesAt text lexemes i = spelt (sourceOf text lexemes) i
 
--- What the words of a text keep to: a numeral has at most nine digits, and a literal at most 64 bits.
+-- What the words of a text keep to: a numeral has at most nine digits, and a literal is a value of a sort of at most 64 bits.
 pub record Bounded (s : Source) : Type 0 where
   pub numerals : (i : ℕ) → codeAt (s .lexemes) i ≡ numeralCode → valueAt (s .lexemes) i < 10 ^ 9
   pub literals : (i : ℕ) → codeAt (s .lexemes) i ≡ literalCode → writtenOf (spelt s i) < mostWritten
+  pub fit : (i : ℕ) → codeAt (s .lexemes) i ≡ literalCode → Fit (widthAt (s .lexemes) i) (valueAt (s .lexemes) i)
 
 -- A symbol that heads a list is neither `Constant` nor `Variable`.
 abbrev pub Headed : Raw → Type 0
@@ -131,14 +133,14 @@ pub record PatternAt (lexemes : List ℕ) (head : ℕ) : Type 0 where
   pub says : SaysPattern source at constant sort held
 
 -- A node, of which the words say what it is, by its first word and the word that says what it is; and names that are seen.
-pub record NodeAt (names : List ℕ) (seen : Seen) (text words lexemes : List ℕ) (first head : ℕ) : Type 0 where
+pub record NodeAt (names : List ℕ) (seen : Seen) (text lexemes : List ℕ) (first head : ℕ) : Type 0 where
   pub view : View
   pub sees : Sees names seen view
-  pub bounded : Bounded (sourceOf text words lexemes)
+  pub bounded : Bounded (sourceOf text lexemes)
   pub node : Raw
   pub begins : first ≡ firstWord node
   pub heads : head ≡ headWord node
-  pub says : Says (sourceOf text words lexemes) node
+  pub says : Says (sourceOf text lexemes) node
   pub headed : Headed node
 
 -- Whether a node is `(Constant σ)` or `(Variable σ)`, by its first word, the word that says what it is and the code of that; 45 and 46 are those of
@@ -151,20 +153,20 @@ abbrev pub wordBy : (first head code : ℕ) → ℕ
 wordBy first head code = cond (isPatternHead first head code) (head + 1) head
 
 -- Terms, of which the words say what they are, their nodes counted; names that are seen; and room for the forms from row `base` on.
-pub record Resolving (names text words lexemes raw forms : List ℕ) (seen : Seen) (count base : ℕ) : Type 0 where
+pub record Resolving (names text lexemes raw forms : List ℕ) (seen : Seen) (count base : ℕ) : Type 0 where
   pub F : Forest Raw
   pub rest : List ℕ
   pub is-raw : raw ≡ rawTable F ++ rest
   pub counted : count ≡ size F
-  pub say : AllSay (sourceOf text words lexemes) F
+  pub say : AllSay (sourceOf text lexemes) F
   pub headed : AllHeaded F
-  pub bounded : Bounded (sourceOf text words lexemes)
+  pub bounded : Bounded (sourceOf text lexemes)
   pub view : View
   pub sees : Sees names seen view
   pub room : 4 * (base + count) ≤ length forms
 
 -- The forms are written, and the least word with an unknown name is found.
-pub record Resolved {names text words lexemes raw forms : List ℕ} {seen : Seen} {count base : ℕ}
-    (p : Resolving names text words lexemes raw forms seen count base) (nowhere : ℕ) (formsAfter : List ℕ) (r : ℕ) : Type 0 where
-  pub forms-are : formsAfter ≡ sets forms (4 * base) (formTable (formOf (p .view) (p .F)))
+pub record Resolved {names text lexemes raw forms : List ℕ} {seen : Seen} {count base : ℕ}
+    (p : Resolving names text lexemes raw forms seen count base) (nowhere : ℕ) (formsAfter : List ℕ) (r : ℕ) : Type 0 where
+  pub forms-are : formsAfter ≡ sets forms (4 * base) (formTable (formsOf (p .view) (p .F)))
   pub unknown-is : r ≡ unknownIn nowhere (p .view) (nodesOf (p .F))

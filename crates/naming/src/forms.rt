@@ -33,7 +33,6 @@ pub fn write_forms(
     names: &[u8],
     seen: Seen,
     text: &[u8],
-    words: &[u32],
     lexemes: &[u64],
     raw: &[u64],
     count: usize,
@@ -41,15 +40,15 @@ pub fn write_forms(
     base: usize,
     nowhere: usize,
 ) -> usize
-    requires { ⌜ Resolving (now names) (now text) (now words) (now lexemes) (now raw) (now forms) seen count base ⌝ }
-    ensures { λ r. ⌜ ((p : Resolving (now (names .entry)) (now (text .entry)) (now (words .entry)) (now (lexemes .entry)) (now (raw .entry)) (now (forms .entry)) seen count base) → Resolved p nowhere (now (forms .exit)) r) ⌝ }
+    requires { ⌜ Resolving (now names) (now text) (now lexemes) (now raw) (now forms) seen count base ⌝ }
+    ensures { λ r. ⌜ ((p : Resolving (now (names .entry)) (now (text .entry)) (now (lexemes .entry)) (now (raw .entry)) (now (forms .entry)) seen count base) → Resolved p nowhere (now (forms .exit)) r) ⌝ }
 {
     let mut unknown = nowhere;
     let mut node = 0;
     while node < count {
         let first = first_at(raw, node);
         let head = head_at(raw, node);
-        let meaning = node_means(names, seen, text, words, lexemes, first, head);
+        let meaning = node_means(names, seen, text, lexemes, first, head);
         put_form(
             forms,
             base + node,

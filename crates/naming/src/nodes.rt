@@ -14,13 +14,12 @@ use lexemes::codes::BOOL;
 use lexemes::codes::CONSTANT;
 use lexemes::codes::VARIABLE;
 use lexemes::value_at;
-use readings::table::width_at;
+use lexemes::width_at;
 ghost use mathlib.Core.Path.{_≡_};
 ghost use mathlib.Core.Bool.{cond};
-ghost use Prim.Native.Nat.{ℕ, _+_, _<_};
+ghost use Prim.Native.Nat.{ℕ, _+_, _≤_, _<_};
 ghost use Rattle.gathering.specs.Terms.{constant, cut, pattern, writtenOf};
-ghost use Rattle.lexemes.specs.Table.{codeAt, valueAt};
-ghost use Rattle.words.specs.Table.{widthAt};
+ghost use Rattle.lexemes.specs.Table.{codeAt, valueAt, widthAt};
 ghost use Rattle.naming.specs.Scopes.{View};
 ghost use Rattle.naming.specs.Steps.{NodeAt, NodeMeans, PatternAt, bytesAt, isPatternHead, mostWritten, wordBy};
 
@@ -55,13 +54,14 @@ fn pattern_means(lexemes: &[u64], head: usize) -> Meaning
 }
 
 // What a `#x` or `#b` word stands for.
-fn literal_means(text: &[u8], words: &[u32], lexemes: &[u64], word: usize) -> Meaning
-    requires { ⌜ writtenOf (bytesAt (now text) (now words) word) < mostWritten ⌝ }
-    ensures { λ r. ⌜ ((view : View) → NodeMeans view (constant word (widthAt (now (words .entry)) word) (valueAt (now (lexemes .entry)) word) (writtenOf (bytesAt (now (text .entry)) (now (words .entry)) word))) r) ⌝ }
+fn literal_means(text: &[u8], lexemes: &[u64], word: usize) -> Meaning
+    requires { ⌜ writtenOf (bytesAt (now text) (now lexemes) word) < mostWritten ⌝ }
+    requires { ⌜ widthAt (now lexemes) word ≤ 64 ⌝ }
+    ensures { λ r. ⌜ ((view : View) → NodeMeans view (constant word (widthAt (now (lexemes .entry)) word) (valueAt (now (lexemes .entry)) word) (writtenOf (bytesAt (now (text .entry)) (now (lexemes .entry)) word))) r) ⌝ }
 {
-    let written = written_of(bytes_at(text, words, word));
+    let written = written_of(bytes_at(text, lexemes, word));
     known_as(
-        terms::LITERAL + 16 * (width_at(words, word) as u64 + 128 * written),
+        terms::LITERAL + 16 * (width_at(lexemes, word) + 128 * written),
         value_at(lexemes, word),
     )
 }
@@ -84,23 +84,22 @@ pub fn node_means(
     names: &[u8],
     seen: Seen,
     text: &[u8],
-    words: &[u32],
     lexemes: &[u64],
     first: usize,
     head: usize,
 ) -> Meaning
-    requires { ⌜ NodeAt (now names) seen (now text) (now words) (now lexemes) first head ⌝ }
-    ensures { λ r. ⌜ ((given : NodeAt (now (names .entry)) seen (now (text .entry)) (now (words .entry)) (now (lexemes .entry)) first head) → NodeMeans (given .view) (given .node) r) ⌝ }
+    requires { ⌜ NodeAt (now names) seen (now text) (now lexemes) first head ⌝ }
+    ensures { λ r. ⌜ ((given : NodeAt (now (names .entry)) seen (now (text .entry)) (now (lexemes .entry)) first head) → NodeMeans (given .view) (given .node) r) ⌝ }
 {
     let code = code_at(lexemes, head);
     if is_pattern(first, head, code) {
         return pattern_means(lexemes, head);
     }
     if code >= SYMBOL {
-        return symbol_means(names, seen, code, bytes_at(text, words, head));
+        return symbol_means(names, seen, code, bytes_at(text, lexemes, head));
     }
     if code == LITERAL {
-        return literal_means(text, words, lexemes, head);
+        return literal_means(text, lexemes, head);
     }
     if first < head {
         return cut_means(lexemes, head);

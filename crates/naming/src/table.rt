@@ -4,7 +4,7 @@ ghost use Prim.Native.Nat.{_+_, _*_, _<_, _≤_};
 ghost use lib.ListN.{length};
 ghost use lib.Seq.{sets};
 ghost use Rattle.forest.specs.Lists.{sameBytes};
-ghost use Rattle.naming.specs.Scopes.{placeIn};
+ghost use Rattle.lookup.specs.Search.{placeIn};
 ghost use Rattle.naming.specs.Steps.{Names};
 ghost use Rattle.naming.specs.Table.{nameIn, nameRow, namesFrom, sortIn};
 

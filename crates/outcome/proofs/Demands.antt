@@ -19,10 +19,10 @@ use Rattle.terms.specs.declared.Value.{Value}
 use Rattle.terms.proofs.Sound.{one-value}
 use Rattle.grammar.specs.Answer.{start}
 use Rattle.grammar.specs.Derivation.{Derives}
-use Rattle.meaning.specs.Points.{pointAt, pointsOf}
-use Rattle.meaning.specs.Running.{isTrue}
-use Rattle.meaning.specs.declared.PointList.the-variants.{Good}
-use Rattle.naming.specs.Scopes.{Defined, Function, sortsOf}
+use Rattle.running.specs.Points.{pointAt, pointsOf}
+use Rattle.running.specs.Running.{isTrue}
+use Rattle.running.specs.declared.PointList.the-variants.{Good}
+use Rattle.naming.specs.Scopes.{Defined, Function, namedSorts}
 use Rattle.faults.specs.Faults.{scopeOf}
 use Rattle.script.specs.Script.{Known, constraintView}
 use Rattle.script.specs.Tables.{definitionsOf}
@@ -31,7 +31,7 @@ use Rattle.promises.proofs.Sorted.{derived-sorted, rules-derive}
 use Rattle.response.specs.Response.{Body, inScriptOrder}
 use Rattle.texts.specs.Outcome.{said, scriptOutcome}
 use Rattle.texts.proofs.Promised.{script-sorted}
-use Rattle.outcome.specs.Checked.{Checked, Passing, Verdict, evaluated, points-refused, underived}
+use Rattle.outcome.specs.Checked.{Checked, Passing, Judgement, evaluated, points-refused, underived}
 use Rattle.outcome.specs.Demands.{Affords, Decided, InOrder, OneTruth, RightSorts, Showing, UnitsStated, accepted, all-true, budget-ended}
 use Rattle.outcome.specs.Demands.{constraint-false, is-false, is-true, named-false, valuesOn}
 use Rattle.outcome.specs.Derived.{Derived, termsOf}
@@ -40,8 +40,8 @@ use Rattle.outcome.specs.Evaluated.{functionsWith, ranWith}
 use Rattle.outcome.specs.Units.{summed}
 use Rattle.outcome.specs.declared.Outcome.{Outcome}
 use Rattle.outcome.proofs.Deriving.{not-derived}
-use Rattle.meaning.proofs.GoodPoints.{good-list, point-fits}
-use Rattle.meaning.proofs.PointRuns.{sorts-by}
+use Rattle.running.proofs.GoodPoints.{good-list, point-fits}
+use Rattle.running.proofs.PointRuns.{sorts-by}
 use Rattle.outcome.proofs.Sorts.{TermsSorted, also-sorted, none-sorted, terms-functions-sorted, terms-point-scope}
 use Rattle.outcome.proofs.Stages.{of-passing, ran-showing}
 use Rattle.outcome.proofs.Units.{in-order, units}
@@ -107,9 +107,9 @@ member-at (t ∷ ts) (suc c) h = List·Memᴰ·tail (member-at ts c (omega arith
 
 -- The points of a list that passes have the right sorts.
 points-right : (script : List ℕ) {k : Known} → scriptOutcome script ≡ said k → (points : List ℕ) {n : ℕ}
-    → pointsOf (sortsOf (k .variables)) points ≡ Good n → (p : ℕ) → p < n → RightSorts k (pointAt (sortsOf (k .variables)) points p)
+    → pointsOf (namedSorts (k .variables)) points ≡ Good n → (p : ℕ) → p < n → RightSorts k (pointAt (namedSorts (k .variables)) points p)
 points-right script {k} e points good p h =
-    let sorts = sortsOf (k .variables) in
+    let sorts = namedSorts (k .variables) in
     let list = good-list sorts points good in
     let by = sorts-by sorts (drop (p * length sorts) points) in
     record { sorts = by; values = rw by (point-fits list (variables-small script e) p (omega (arith, list .counted))) }
@@ -139,7 +139,7 @@ front-most defs funs [] (suc c) = omega arith
 front-most defs funs (t ∷ ts) (suc c) = omega (arith, front-most defs funs ts c)
 
 -- A budget that is enough for all evaluations does not end.
-never-ends : (k : Known) (ts : List Terms) (points : List ℕ) {n budget : ℕ} {o : Outcome} → pointsOf (sortsOf (k .variables)) points ≡ Good n
+never-ends : (k : Known) (ts : List Terms) (points : List ℕ) {n budget : ℕ} {o : Outcome} → pointsOf (namedSorts (k .variables)) points ≡ Good n
     → Affords k ts n budget → UnitsStated k ts budget o → InOrder k ts points o → o .number ≡ 15 → ⊥
 never-ends k ts points {n} {budget} {o} good enough spent order e =
     let defs = definitionsOf (k .defined) in
@@ -152,8 +152,8 @@ never-ends k ts points {n} {budget} {o} good enough spent order e =
 
 -- Of derived bodies and points that pass the answer is 0, 14 or 15.
 verdict-showing : {response : List ℕ} {k : Known} {bs : List Body} {points : List ℕ} {budget n : ℕ} {o : Outcome} {a : List ℕ}
-    → Derived (inScriptOrder (k .functions)) (termsOf bs) → pointsOf (sortsOf (k .variables)) points ≡ Good n
-    → Verdict response k bs points budget o a → Showing (o .number)
+    → Derived (inScriptOrder (k .functions)) (termsOf bs) → pointsOf (namedSorts (k .variables)) points ≡ Good n
+    → Judgement response k bs points budget o a → Showing (o .number)
 verdict-showing d good (underived u) = absurd (not-derived u d)
 verdict-showing d good (points-refused s e) = let z : _≡_ {A = ℕ} 0 1 = cc in absurd (omega arith)
 verdict-showing {k = k} {bs} {points} {budget} d good (evaluated {n = n} s e) = ran-showing n budget (ranWith k (termsOf bs) points n budget)
@@ -162,7 +162,7 @@ verdict-showing {k = k} {bs} {points} {budget} d good (evaluated {n = n} s e) = 
 -- named false constraint."
 pub decided : {script response points : List ℕ} {budget : ℕ} {area : List ℕ} {k : Known} {bs : List Body} {n : ℕ} {o : Outcome} {a : List ℕ}
     → Passing script response points area k bs → Derived (inScriptOrder (k .functions)) (termsOf bs)
-    → pointsOf (sortsOf (k .variables)) points ≡ Good n → Affords k (termsOf bs) n budget
+    → pointsOf (namedSorts (k .variables)) points ≡ Good n → Affords k (termsOf bs) n budget
     → Checked script response points budget area o a → Decided k (termsOf bs) points o
 decided {script} {points = points} {k = k} {bs} {n} {o} passing derived good enough c =
     go (o .number) refl (verdict-showing derived good (of-passing passing c))

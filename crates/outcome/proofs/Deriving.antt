@@ -1,17 +1,19 @@
 -- Derivations of the bodies of all functions: those that are shown are derivations, and where there is a first body without one there are none.
-use Prim.Native.Nat.{ℕ, suc}
+use Prim.Native.Nat.{ℕ, suc, _<_}
+use native.Mathlib.Omega.{arith}
 use mathlib.Core.List.{List}
 use mathlib.Core.Path.{_≡_, refl, ap}
+use lib.ListN.{length}
 use Rattle.terms.specs.Labels.{Terms}
 use Rattle.grammar.proofs.Simple.{simple-derives}
 use Rattle.naming.specs.Scopes.{Function}
 use Rattle.response.specs.Response.{Body}
-use Rattle.outcome.specs.Derived.{Derived, FirstUnderived, Shown, termsOf}
+use Rattle.outcome.specs.Derived.{Derived, FirstUnderived, ListsShown, termsOf}
 
 -- What is shown is a derivation of each.
-pub shown-derived : {fs : List Function} {ts : List Terms} {lists : List (List ℕ)} → Shown fs ts lists → Derived fs ts
-shown-derived Shown.no-more = Derived.no-more
-shown-derived (Shown.also {f = f} s few more) = Derived.also (simple-derives (f .grammar) s) (shown-derived more)
+pub shown-derived : {fs : List Function} {ts : List Terms} {lists : List (List ℕ)} → ListsShown fs ts lists → Derived fs ts
+shown-derived ListsShown.no-more = Derived.no-more
+shown-derived (ListsShown.also {f = f} s few more) = Derived.also (simple-derives (f .grammar) s) (shown-derived more)
 
 -- Where one of the bodies has none, not each has one.
 pub not-derived : {fs : List Function} {bs : List Body} {j : ℕ} {b : Body} → FirstUnderived fs bs j b → Derived fs (termsOf bs) → ⊥
@@ -24,3 +26,8 @@ first-only (FirstUnderived.here n) (FirstUnderived.here m) = (refl, refl)
 first-only (FirstUnderived.here n) (FirstUnderived.later {ds = ds} d u) = absurd (n ds d)
 first-only (FirstUnderived.later {ds = ds} d u) (FirstUnderived.here n) = absurd (n ds d)
 first-only (FirstUnderived.later d u) (FirstUnderived.later e v) = let h = first-only u v in (ap suc (h .0), h .1)
+
+-- The first that has none is one of the functions.
+pub underived-within : {fs : List Function} {bs : List Body} {j : ℕ} {b : Body} → FirstUnderived fs bs j b → j < length fs
+underived-within (FirstUnderived.here n) = omega arith
+underived-within (FirstUnderived.later d u) = let h = underived-within u in omega arith

@@ -3,11 +3,11 @@ use Prim.Native.Nat.{ℕ}
 use native.Mathlib.Omega.{arith}
 use mathlib.Core.List.{List}
 use mathlib.Core.Path.{_≡_, refl, sym}
-use Rattle.meaning.specs.declared.Ran.{Ran}
-use Rattle.meaning.specs.declared.Ran.the-variants.{Passed, False, Ended}
+use Rattle.running.specs.declared.Ran.{Ran}
+use Rattle.running.specs.declared.Ran.the-variants.{Passed, False, Ended}
 use Rattle.script.specs.Script.{Known}
 use Rattle.response.specs.Response.{Body, inScriptOrder}
-use Rattle.outcome.specs.Checked.{Checked, Verdict, evaluated, judged, missized, points-refused, response-refused, script-refused, underived}
+use Rattle.outcome.specs.Checked.{Checked, Judgement, evaluated, judged, missized, points-refused, response-refused, script-refused, underived}
 use Rattle.outcome.specs.Demands.{AreaStated, Exact, NoDerivation, shows, shows-none}
 use Rattle.outcome.specs.Derived.{Derived, termsOf}
 use Rattle.outcome.specs.Evaluated.{ranOutcome, ranWith}
@@ -28,7 +28,7 @@ data Split (k : Known) (bs : List Body) (o : Outcome) : Type 0 where
 
 -- Every verdict is one of the two.
 split : {response : List ℕ} {k : Known} {bs : List Body} {points : List ℕ} {budget : ℕ} {o : Outcome} {a : List ℕ}
-    → Verdict response k bs points budget o a → Split k bs o
+    → Judgement response k bs points budget o a → Split k bs o
 split (underived u) = not-all (not-derived u) refl
 split (points-refused s e) = derived (shown-derived s) (omega arith)
 split {k = k} {bs} {points} {budget} (evaluated {n = n} s e) = derived (shown-derived s) (ran-other n budget (ranWith k (termsOf bs) points n budget))

@@ -1,3 +1,4 @@
+pub mod Areas
 pub mod Stages
 pub mod Small
 pub mod Sorts

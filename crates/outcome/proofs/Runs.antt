@@ -15,10 +15,10 @@ use Rattle.terms.specs.Labels.{Terms}
 use Rattle.terms.specs.Sorts.{Definition}
 use Rattle.terms.specs.Values.{valuesAt}
 use Rattle.terms.specs.declared.Value.{Value}
-use Rattle.meaning.specs.Points.{pointAt}
-use Rattle.meaning.specs.Running.{allPassed, isTrue, leftOf, runPoints, runTerms}
-use Rattle.meaning.specs.declared.Ran.{Ran}
-use Rattle.meaning.specs.declared.Ran.the-variants.{Passed, False, Ended}
+use Rattle.running.specs.Points.{pointAt}
+use Rattle.running.specs.Running.{allPassed, isTrue, leftOf, runPoints, runTerms}
+use Rattle.running.specs.declared.Ran.{Ran}
+use Rattle.running.specs.declared.Ran.the-variants.{Passed, False, Ended}
 use Rattle.outcome.specs.Units.{summed}
 
 module _ (defs funs : List Definition) where

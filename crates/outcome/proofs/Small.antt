@@ -2,11 +2,11 @@
 use Prim.Native.Nat.{ℕ, _≤_}
 use native.Mathlib.Omega.{arith}
 use mathlib.Core.List.{List}
-use Rattle.meaning.specs.declared.Ran.{Ran}
-use Rattle.meaning.specs.declared.Ran.the-variants.{Passed, False, Ended}
+use Rattle.running.specs.declared.Ran.{Ran}
+use Rattle.running.specs.declared.Ran.the-variants.{Passed, False, Ended}
 use Rattle.script.specs.Script.{Known}
 use Rattle.response.specs.Response.{Body}
-use Rattle.outcome.specs.Checked.{Checked, Verdict, evaluated, judged, missized, points-refused, response-refused, script-refused, underived}
+use Rattle.outcome.specs.Checked.{Checked, Judgement, evaluated, judged, missized, points-refused, response-refused, script-refused, underived}
 use Rattle.outcome.specs.Derived.{termsOf}
 use Rattle.outcome.specs.Evaluated.{ranOutcome, ranWith}
 use Rattle.outcome.specs.declared.Outcome.{Outcome}
@@ -20,7 +20,7 @@ ran-small n budget (Ended point constraint left) = omega arith
 
 -- A verdict on texts that pass.
 verdict-small : {response : List ℕ} {k : Known} {bs : List Body} {points : List ℕ} {budget : ℕ} {o : Outcome} {a : List ℕ}
-    → Verdict response k bs points budget o a → (o .number ≤ 16) × (o .text ≤ 3)
+    → Judgement response k bs points budget o a → (o .number ≤ 16) × (o .text ≤ 3)
 verdict-small (underived u) = omega arith
 verdict-small (points-refused s e) = omega arith
 verdict-small {k = k} {bs} {points} {budget} (evaluated {n = n} s e) = ran-small n budget (ranWith k (termsOf bs) points n budget)

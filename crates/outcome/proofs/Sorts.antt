@@ -11,7 +11,7 @@ use Rattle.terms.specs.Values.{sortsIn}
 use Rattle.terms.specs.declared.Value.{Value}
 use Rattle.terms.proofs.Bodies.{sorts-more}
 use Rattle.terms.proofs.Sound.{pointScope}
-use Rattle.naming.specs.Scopes.{Defined, Function, signatureOf, sortsOf}
+use Rattle.naming.specs.Scopes.{Defined, Function, signatureOf, namedSorts}
 use Rattle.faults.specs.Faults.{scopeOf}
 use Rattle.script.specs.Script.{Known, constraintView}
 use Rattle.script.specs.Tables.{definedSignatures, definitionsOf}
@@ -33,7 +33,7 @@ seen-by-all : (defs : List Defined) (f : Function) (t : Terms) → termSorts (sc
     → BodySorted (definitionsOf defs) (record { signature = signatureOf f; body = t })
 seen-by-all defs f t h =
     let later = length defs - f .before in
-    let sees : List Signature → Scope = λ known. record { names = sortsOf (f .arguments); defined = known; functions = [] } in
+    let sees : List Signature → Scope = λ known. record { names = namedSorts (f .arguments); defined = known; functions = [] } in
     let whole : definedSignatures (take later defs) ++ definedSignatures (drop later defs) ≡ signatures (definitionsOf defs) =
     sym (map-append (λ (d : Defined). d .definition .signature) (take later defs) (drop later defs))
     ∙ ap definedSignatures (take-append-drop later defs) ∙ sym (defined-signatures defs) in
@@ -85,5 +85,5 @@ terms-signatures-same k sorted = completed-signatures [] sorted ∙ turned-back 
 
 -- What a constraint sees at a point of the variables' sorts is what it saw in the script.
 pub terms-point-scope : (k : Known) {ts : List Terms} → TermsSorted (k .defined) (inScriptOrder (k .functions)) ts → (point : List Value)
-    → sortsIn point ≡ sortsOf (k .variables) → pointScope (definitionsOf (k .defined)) (functionsWith k ts) point ≡ scopeOf (constraintView k) .terms
+    → sortsIn point ≡ namedSorts (k .variables) → pointScope (definitionsOf (k .defined)) (functionsWith k ts) point ≡ scopeOf (constraintView k) .terms
 terms-point-scope k sorted point same = rw (same, defined-signatures (k .defined), terms-signatures-same k sorted)

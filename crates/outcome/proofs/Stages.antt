@@ -10,13 +10,13 @@ use lib.ListN.{length}
 use Rattle.forest.proofs.Options.{never}
 use Rattle.readings.specs.Limits.{responseLimits, scriptLimits}
 use Rattle.grammar.specs.Answer.{areaSize}
-use Rattle.meaning.specs.declared.Ran.{Ran}
-use Rattle.meaning.specs.declared.Ran.the-variants.{Passed, False, Ended}
+use Rattle.running.specs.declared.Ran.{Ran}
+use Rattle.running.specs.declared.Ran.the-variants.{Passed, False, Ended}
 use Rattle.script.specs.Script.{Known}
 use Rattle.response.specs.Response.{Body}
 use Rattle.texts.specs.Outcome.{ResponseOutcome, ScriptOutcome, given, responseOutcome, said, scriptOutcome}
 use Rattle.texts.proofs.Numbers.{Numbered, inResponse, inScript, response-numbered, script-numbered}
-use Rattle.outcome.specs.Checked.{Checked, Passing, Verdict, judged, missized, mostNumbers, refusal, response-refused, script-refused, sizeAnswer}
+use Rattle.outcome.specs.Checked.{Checked, Passing, Judgement, judged, missized, mostNumbers, refusal, response-refused, script-refused, sizeAnswer}
 use Rattle.outcome.specs.Checked.{unshown}
 use Rattle.outcome.specs.Demands.{Showing, accepted, budget-ended, constraint-false}
 use Rattle.outcome.specs.Derived.{blankArea}
@@ -127,14 +127,14 @@ module _ {script response points : List ℕ} {budget : ℕ} {area : List ℕ} wh
 
   -- Where both pass, the verdict on them is.
   pub of-passing : {k : Known} {bs : List Body} {o : Outcome} {a : List ℕ} → Passing script response points area k bs
-      → Checked script response points budget area o a → Verdict response k bs points budget o a
+      → Checked script response points budget area o a → Judgement response k bs points budget o a
   of-passing p (missized h) = never (sym (p .sized) ∙ h)
   of-passing p (script-refused z h) = not-said (sym h ∙ p .says)
   of-passing p (response-refused z s h) = not-given (sym (of-known script response s (p .says) h) ∙ p .gives)
   of-passing {bs = bs} {o} {a} p (judged {bs = cs} q v) =
       let x = of-known script response (q .says) (p .says) (q .gives) in
       let same : cs ≡ bs = cc (p .gives) in
-      subst₂ (λ (k : Known) (bs : List Body). Verdict response k bs points budget o a) (one-known script (q .says) (p .says)) same v
+      subst₂ (λ (k : Known) (bs : List Body). Judgement response k bs points budget o a) (one-known script (q .says) (p .says)) same v
 
 -- A number that is none of the three shows nothing.
 pub not-showing : {n : ℕ} → (n ≡ 0 → ⊥) × (n ≡ 14 → ⊥) × (n ≡ 15 → ⊥) → Showing n → ⊥

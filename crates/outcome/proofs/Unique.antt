@@ -3,10 +3,10 @@ use Prim.Native.Nat.{ℕ}
 use native.Mathlib.Omega.{arith}
 use mathlib.Core.List.{List}
 use mathlib.Core.Path.{_≡_, ap, subst, sym, _∙_}
-use Rattle.meaning.specs.declared.PointList.the-variants.{Good, Bad}
+use Rattle.running.specs.declared.PointList.the-variants.{Good, Bad}
 use Rattle.script.specs.Script.{Known}
 use Rattle.response.specs.Response.{Body}
-use Rattle.outcome.specs.Checked.{Checked, Verdict, evaluated, judged, missized, points-refused, response-refused, script-refused, underived}
+use Rattle.outcome.specs.Checked.{Checked, Judgement, evaluated, judged, missized, points-refused, response-refused, script-refused, underived}
 use Rattle.outcome.specs.Demands.{Alike, AreaStated, both-show, shows, shows-none, the-same}
 use Rattle.outcome.specs.Derived.{termsOf}
 use Rattle.outcome.specs.Evaluated.{ranOutcome, ranWith}
@@ -21,7 +21,7 @@ not-good e = let z : _≡_ {A = ℕ} 0 1 = cc in absurd (omega arith)
 
 -- One verdict on texts that pass.
 one-verdict : {response : List ℕ} {k : Known} {bs : List Body} {points : List ℕ} {budget : ℕ} {o other : Outcome} {a b : List ℕ}
-    → Verdict response k bs points budget o a → Verdict response k bs points budget other b → o ≡ other
+    → Judgement response k bs points budget o a → Judgement response k bs points budget other b → o ≡ other
 one-verdict (underived u) (underived v) = let h = first-only u v in cc
 one-verdict (underived u) (points-refused s e) = absurd (not-derived u (shown-derived s))
 one-verdict (underived u) (evaluated s e) = absurd (not-derived u (shown-derived s))

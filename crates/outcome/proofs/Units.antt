@@ -6,14 +6,14 @@ use mathlib.Core.List.{List}
 use mathlib.Core.Path.{_≡_, ap}
 use lib.ListN.{take}
 use Rattle.terms.specs.Labels.{Terms}
-use Rattle.meaning.specs.Points.{pointsOf}
-use Rattle.meaning.specs.declared.PointList.the-variants.{Good}
-use Rattle.meaning.specs.declared.Ran.{Ran}
-use Rattle.naming.specs.Scopes.{sortsOf}
+use Rattle.running.specs.Points.{pointsOf}
+use Rattle.running.specs.declared.PointList.the-variants.{Good}
+use Rattle.running.specs.declared.Ran.{Ran}
+use Rattle.naming.specs.Scopes.{namedSorts}
 use Rattle.script.specs.Script.{Known}
 use Rattle.script.specs.Tables.{definitionsOf}
 use Rattle.response.specs.Response.{Body}
-use Rattle.outcome.specs.Checked.{Checked, Passing, Verdict, evaluated, judged, missized, points-refused, response-refused, script-refused, underived}
+use Rattle.outcome.specs.Checked.{Checked, Passing, Judgement, evaluated, judged, missized, points-refused, response-refused, script-refused, underived}
 use Rattle.outcome.specs.Demands.{InOrder, Showing, UnitsStated}
 use Rattle.outcome.specs.Derived.{termsOf}
 use Rattle.outcome.specs.Evaluated.{functionsWith, ranOutcome, ranWith}
@@ -25,7 +25,7 @@ use Rattle.outcome.proofs.Stages.{missized-one, of-passing, ran-showing
 module _ (k : Known) (ts : List Terms) (points : List ℕ) (n budget : ℕ) where
   -- What a run over all points finds.
   abbrev Found : Ran → Type 0
-  Found ran = PointsFound (definitionsOf (k .defined)) (functionsWith k ts) (sortsOf (k .variables)) points (k .constraints) n 0 budget ran
+  Found ran = PointsFound (definitionsOf (k .defined)) (functionsWith k ts) (namedSorts (k .variables)) points (k .constraints) n 0 budget ran
 
   -- The summed cost of all constraints at one point.
   abbrev whole : ℕ
@@ -49,7 +49,7 @@ module _ (k : Known) (ts : List Terms) (points : List ℕ) (n budget : ℕ) wher
       omega arith
 
   -- The order of a run.
-  ran-order : pointsOf (sortsOf (k .variables)) points ≡ Good n → {ran : Ran} → Found ran → InOrder k ts points (ranOutcome n budget ran)
+  ran-order : pointsOf (namedSorts (k .variables)) points ≡ Good n → {ran : Ran} → Found ran → InOrder k ts points (ranOutcome n budget ran)
   ran-order good (all-passed e true-at) =
       record {
         accepted = λ z. (good, record { points-before = λ q d h. true-at q (omega arith) (omega arith) d; constraints-before = λ d h. absurd (omega arith) });
@@ -80,18 +80,18 @@ module _ (k : Known) (ts : List Terms) (points : List ℕ) (n budget : ℕ) wher
 
   -- What the run over all points finds.
   found : Found (ranWith k ts points n budget)
-  found = points-found (definitionsOf (k .defined)) (functionsWith k ts) (sortsOf (k .variables)) points (k .constraints) n 0 budget
+  found = points-found (definitionsOf (k .defined)) (functionsWith k ts) (namedSorts (k .variables)) points (k .constraints) n 0 budget
 
 -- The units of a verdict.
 verdict-units : {response : List ℕ} {k : Known} {bs : List Body} {points : List ℕ} {budget : ℕ} {o : Outcome} {a : List ℕ}
-    → Verdict response k bs points budget o a → UnitsStated k (termsOf bs) budget o
+    → Judgement response k bs points budget o a → UnitsStated k (termsOf bs) budget o
 verdict-units (underived u) = omega arith
 verdict-units (points-refused s e) = omega arith
 verdict-units {k = k} {bs} {points} {budget} (evaluated {n = n} s e) = ran-units k (termsOf bs) points n budget (found k (termsOf bs) points n budget)
 
 -- The order of a verdict.
 verdict-order : {response : List ℕ} {k : Known} {bs : List Body} {points : List ℕ} {budget : ℕ} {o : Outcome} {a : List ℕ}
-    → Verdict response k bs points budget o a → InOrder k (termsOf bs) points o
+    → Judgement response k bs points budget o a → InOrder k (termsOf bs) points o
 verdict-order (underived u) =
     record { accepted = λ z. absurd (omega arith); constraint-false = λ z. absurd (omega arith); budget-ended = λ z. absurd (omega arith) }
 verdict-order (points-refused s e) =

@@ -5,11 +5,11 @@ use mathlib.Core.Bool.{Bool, true, false, cond}
 use mathlib.Core.List.{List, [], _∷_, _++_}
 use mathlib.Core.Path.{_≡_}
 use lib.ListN.{getD}
-use Rattle.meaning.specs.Steps.{SortsSmall}
+use Rattle.running.specs.Steps.{SortsSmall}
 use Rattle.lexemes.specs.Lists.{Items, inside, is, item, nameOf}
 use Rattle.sorts.specs.Written.{sortOf, sortPlace}
 use Rattle.sorts.specs.declared.Fault.the-variants.{TooWide}
-use Rattle.naming.specs.Scopes.{Named, sortsOf}
+use Rattle.naming.specs.Scopes.{Named, namedSorts}
 use Rattle.heading.specs.Heads.{allowed}
 use Rattle.script.specs.Script.{Known, knownAfter, limitPlace}
 use Rattle.script.proofs.Places.{Below, inside-below, item-below, sort-narrow}
@@ -17,7 +17,7 @@ use Rattle.texts.specs.Outcome.{said, scriptOutcome}
 use Rattle.texts.proofs.Keeping.{script-keeps}
 
 -- One variable more.
-small-more : (vs : List Named) (v : Named) → ((i : ℕ) → getD (sortsOf vs) i 0 ≤ 64) → v .sort ≤ 64 → (i : ℕ) → getD (sortsOf (vs ++ v ∷ [])) i 0 ≤ 64
+small-more : (vs : List Named) (v : Named) → ((i : ℕ) → getD (namedSorts vs) i 0 ≤ 64) → v .sort ≤ 64 → (i : ℕ) → getD (namedSorts (vs ++ v ∷ [])) i 0 ≤ 64
 small-more [] v all h zero = h
 small-more [] v all h (suc i) = omega arith
 small-more (u ∷ vs) v all h zero = all 0
@@ -25,7 +25,7 @@ small-more (u ∷ vs) v all h (suc i) = small-more vs v (λ j. all (suc j)) h i
 
 -- So it stays after a command within its limits.
 small-after : (nowhere : ℕ) (k : Known) (at : ℕ) (c : Items) → 0 < nowhere → Below nowhere c → nowhere ≤ limitPlace allowed nowhere k at c
-    → SortsSmall (sortsOf (k .variables)) → SortsSmall (sortsOf (knownAfter k c .variables))
+    → SortsSmall (namedSorts (k .variables)) → SortsSmall (namedSorts (knownAfter k c .variables))
 unfolding knownAfter limitPlace
 small-after nowhere k at c some-word below limited small = go (is "declare-var" (item 0 c)) _ _ limited
   where
@@ -33,13 +33,13 @@ small-after nowhere k at c some-word below limited small = go (is "declare-var" 
     sort = sortOf (item 2 c) (inside 2 c)
 
     go : (declares : Bool) (past others : ℕ) → nowhere ≤ cond declares (min past (sortPlace TooWide nowhere (item 2 c) (inside 2 c))) others
-        → SortsSmall (sortsOf (cond declares (k .variables ++ record { name = nameOf (item 1 c); sort = sort } ∷ []) (k .variables)))
+        → SortsSmall (namedSorts (cond declares (k .variables ++ record { name = nameOf (item 1 c); sort = sort } ∷ []) (k .variables)))
     go true past others h =
         let numeral = item-below some-word 2 (inside 2 c) (inside-below nowhere 2 c below) .first in
         record { small = small-more (k .variables) _ (small .small) (sort-narrow nowhere (item 2 c) (inside 2 c) numeral (omega arith)) }
     go false past others h = small
 
 -- "Sorts: `Bool`, `(_ BitVec n)`, n from 1 to 64": so are those of the variables of a script that passes.
-pub variables-small : (script : List ℕ) {k : Known} → scriptOutcome script ≡ said k → SortsSmall (sortsOf (k .variables))
+pub variables-small : (script : List ℕ) {k : Known} → scriptOutcome script ≡ said k → SortsSmall (namedSorts (k .variables))
 variables-small script e =
-    script-keeps (λ (k : Known). SortsSmall (sortsOf (k .variables))) small-after script e (record { small = λ i. omega arith })
+    script-keeps (λ (k : Known). SortsSmall (namedSorts (k .variables))) small-after script e (record { small = λ i. omega arith })

@@ -8,13 +8,13 @@ use lib.Dec.{eqb, ltb}
 use lib.ListN.{length}
 use Rattle.readings.specs.Limits.{responseLimits, scriptLimits}
 use Rattle.grammar.specs.Answer.{areaSize}
-use Rattle.meaning.specs.Points.{pointsOf}
-use Rattle.meaning.specs.declared.PointList.the-variants.{Good, Bad}
-use Rattle.naming.specs.Scopes.{sortsOf}
+use Rattle.running.specs.Points.{pointsOf}
+use Rattle.running.specs.declared.PointList.the-variants.{Good, Bad}
+use Rattle.naming.specs.Scopes.{namedSorts}
 use Rattle.script.specs.Script.{Known}
 use Rattle.response.specs.Response.{Body, inScriptOrder}
 use Rattle.texts.specs.Outcome.{ResponseOutcome, ScriptOutcome, given, offsetOf, responseOutcome, said, scriptOutcome}
-use Rattle.outcome.specs.Derived.{FirstUnderived, Shown, blankArea, shownArea, termsOf}
+use Rattle.outcome.specs.Derived.{FirstUnderived, ListsShown, blankArea, shownArea, termsOf}
 use Rattle.outcome.specs.Evaluated.{ranOutcome, ranWith}
 use Rattle.outcome.specs.declared.Outcome.{Outcome}
 
@@ -45,14 +45,14 @@ pub record Passing (script response points area : List ℕ) (k : Known) (bs : Li
   pub gives : responseOutcome k response ≡ given bs
 
 -- Of texts that pass: "then 13 (first such function), 16 (length first), and evaluation", and the area afterwards.
-pub data Verdict (response : List ℕ) (k : Known) (bs : List Body) (points : List ℕ) (budget : ℕ) : Outcome → (areaAfter : List ℕ) → Type 0 where
+pub data Judgement (response : List ℕ) (k : Known) (bs : List Body) (points : List ℕ) (budget : ℕ) : Outcome → (areaAfter : List ℕ) → Type 0 where
   underived : {j : ℕ} {b : Body} → FirstUnderived (inScriptOrder (k .functions)) bs j b
-      → Verdict response k bs points budget (record { number = 13; text = 1; place = offsetOf response (b .first); second = j; units = 0 }) blankArea
-  points-refused : {lists : List (List ℕ)} {place : ℕ} → Shown (inScriptOrder (k .functions)) (termsOf bs) lists
-      → pointsOf (sortsOf (k .variables)) points ≡ Bad place → Verdict response k bs points budget (refusal 16 2 place) blankArea
-  evaluated : {lists : List (List ℕ)} {n : ℕ} → Shown (inScriptOrder (k .functions)) (termsOf bs) lists
-      → pointsOf (sortsOf (k .variables)) points ≡ Good n
-      → Verdict response k bs points budget (ranOutcome n budget (ranWith k (termsOf bs) points n budget)) (shownArea lists)
+      → Judgement response k bs points budget (record { number = 13; text = 1; place = offsetOf response (b .first); second = j; units = 0 }) blankArea
+  points-refused : {lists : List (List ℕ)} {place : ℕ} → ListsShown (inScriptOrder (k .functions)) (termsOf bs) lists
+      → pointsOf (namedSorts (k .variables)) points ≡ Bad place → Judgement response k bs points budget (refusal 16 2 place) blankArea
+  evaluated : {lists : List (List ℕ)} {n : ℕ} → ListsShown (inScriptOrder (k .functions)) (termsOf bs) lists
+      → pointsOf (namedSorts (k .variables)) points ≡ Good n
+      → Judgement response k bs points budget (ranOutcome n budget (ranWith k (termsOf bs) points n budget)) (shownArea lists)
 
 -- The answer and the area afterwards. "Order: 1 ..; script words ..; commands ..; response words likewise; 10 and 11 ..; the response's commands likewise ..;
 -- then 13 .."
@@ -64,4 +64,4 @@ pub data Checked (script response points : List ℕ) (budget : ℕ) (area : List
       → responseOutcome k response ≡ ResponseOutcome.faulty number offset
       → Checked script response points budget area (refusal number 1 offset) blankArea
   judged : {k : Known} {bs : List Body} {answer : Outcome} {areaAfter : List ℕ} → Passing script response points area k bs
-      → Verdict response k bs points budget answer areaAfter → Checked script response points budget area answer areaAfter
+      → Judgement response k bs points budget answer areaAfter → Checked script response points budget area answer areaAfter

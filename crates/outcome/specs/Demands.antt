@@ -10,16 +10,16 @@ use Rattle.bits.specs.Sorts.{AllFit, bool}
 use Rattle.terms.specs.Labels.{Terms}
 use Rattle.terms.specs.Values.{numbersIn, sortsIn, value, valuesAt}
 use Rattle.terms.specs.declared.Value.{Value}
-use Rattle.meaning.specs.Points.{pointAt, pointsOf}
-use Rattle.meaning.specs.Running.{isTrue}
-use Rattle.meaning.specs.declared.PointList.the-variants.{Good}
-use Rattle.naming.specs.Scopes.{sortsOf}
+use Rattle.running.specs.Points.{pointAt, pointsOf}
+use Rattle.running.specs.Running.{isTrue}
+use Rattle.running.specs.declared.PointList.the-variants.{Good}
+use Rattle.naming.specs.Scopes.{namedSorts}
 use Rattle.script.specs.Script.{Known}
 use Rattle.script.specs.Tables.{definitionsOf}
 use Rattle.response.specs.Response.{Body, inScriptOrder}
 use Rattle.texts.specs.Outcome.{offsetOf}
 use Rattle.outcome.specs.Checked.{Passing, unshown}
-use Rattle.outcome.specs.Derived.{Derived, FirstUnderived, Shown, shownArea, termsOf}
+use Rattle.outcome.specs.Derived.{Derived, FirstUnderived, ListsShown, shownArea, termsOf}
 use Rattle.outcome.specs.Evaluated.{functionsWith}
 use Rattle.outcome.specs.Units.{spentBy, summed}
 use Rattle.outcome.specs.declared.Outcome.{Outcome}
@@ -36,7 +36,7 @@ pub record DerivationsShown (script response points area areaAfter : List ℕ) :
   pub bs : List Body
   pub lists : List (List ℕ)
   pub passing : Passing script response points area k bs
-  pub shown : Shown (inScriptOrder (k .functions)) (termsOf bs) lists
+  pub shown : ListsShown (inScriptOrder (k .functions)) (termsOf bs) lists
   pub is : areaAfter ≡ shownArea lists
 
 -- "These three show the derivations; after any other answer each entry is 65,535, except that an area of wrong size is unchanged."
@@ -78,7 +78,7 @@ spentOn k ts p c = spentBy (definitionsOf (k .defined)) (functionsWith k ts) (k 
 -- The values of constraint c at point p, where the functions of the script have these terms for bodies.
 abbrev pub valuesOn : Known → List Terms → (points : List ℕ) → (p c : ℕ) → Option (List Value)
 valuesOn k ts points p c =
-    valuesAt (definitionsOf (k .defined)) (functionsWith k ts) (pointAt (sortsOf (k .variables)) points p) (getD (k .constraints) c none)
+    valuesAt (definitionsOf (k .defined)) (functionsWith k ts) (pointAt (namedSorts (k .variables)) points p) (getD (k .constraints) c none)
 
 -- "the units spent: the summed cost of evaluations done, a false one included"; "One whose cost exceeds what the budget has left isn't begun."
 pub record UnitsStated (k : Known) (ts : List Terms) (budget : ℕ) (o : Outcome) : Type 0 where
@@ -91,7 +91,7 @@ pub record UnitsStated (k : Known) (ts : List Terms) (budget : ℕ) (o : Outcome
 -- A point of the list and a constraint, by their numbers.
 pub record Named (k : Known) (points : List ℕ) (p c : ℕ) : Type 0 where
   pub n : ℕ
-  pub whole : pointsOf (sortsOf (k .variables)) points ≡ Good n
+  pub whole : pointsOf (namedSorts (k .variables)) points ≡ Good n
   pub point : p < n
   pub constraint : c < length (k .constraints)
 
@@ -102,14 +102,14 @@ pub record TrueBefore (k : Known) (ts : List Terms) (points : List ℕ) (p c : �
 
 -- "for each point, each constraint in script order; the first false one ends the work with answer 14".
 pub record InOrder (k : Known) (ts : List Terms) (points : List ℕ) (o : Outcome) : Type 0 where
-  pub accepted : o .number ≡ 0 → (pointsOf (sortsOf (k .variables)) points ≡ Good (o .second)) × TrueBefore k ts points (o .second) 0
+  pub accepted : o .number ≡ 0 → (pointsOf (namedSorts (k .variables)) points ≡ Good (o .second)) × TrueBefore k ts points (o .second) 0
   pub constraint-false : o .number ≡ 14 → Named k points (o .place) (o .second) × TrueBefore k ts points (o .place) (o .second)
       × (isTrue (valuesOn k ts points (o .place) (o .second)) ≡ false)
   pub budget-ended : o .number ≡ 15 → Named k points (o .place) (o .second) × TrueBefore k ts points (o .place) (o .second)
 
 -- A "point of the right sorts": a value for each variable, of the variable's sort.
 pub record RightSorts (k : Known) (point : List Value) : Type 0 where
-  pub sorts : sortsIn point ≡ sortsOf (k .variables)
+  pub sorts : sortsIn point ≡ namedSorts (k .variables)
   pub values : AllFit (sortsIn point) (numbersIn point)
 
 -- "one truth value": one value, and it is false or true.
@@ -123,7 +123,7 @@ Affords k ts n budget = n * summed (definitionsOf (k .defined)) (functionsWith k
 
 -- "the answer can only be accepted or a named false constraint": every constraint is true at every point; or the constraint named is false at the point named.
 pub data Decided (k : Known) (ts : List Terms) (points : List ℕ) (o : Outcome) : Type 0 where
-  all-true : o .number ≡ 0 → pointsOf (sortsOf (k .variables)) points ≡ Good (o .second)
+  all-true : o .number ≡ 0 → pointsOf (namedSorts (k .variables)) points ≡ Good (o .second)
       → ((p c : ℕ) → p < o .second → c < length (k .constraints) → valuesOn k ts points p c ≡ some (value bool 1 ∷ [])) → Decided k ts points o
   named-false : o .number ≡ 14 → Named k points (o .place) (o .second)
       → valuesOn k ts points (o .place) (o .second) ≡ some (value bool 0 ∷ []) → Decided k ts points o

@@ -19,10 +19,10 @@ pub data Derived : List Function → List Terms → Type 0 where
       → Derived (f ∷ fs) (t ∷ ts)
 
 -- The same by the lists that are shown: "No non-terminal is used twice at the same place of the body, so 256 × 16 entries suffice."
-pub data Shown : List Function → List Terms → (lists : List (List ℕ)) → Type 0 where
-  no-more : Shown [] [] []
+pub data ListsShown : List Function → List Terms → (lists : List (List ℕ)) → Type 0 where
+  no-more : ListsShown [] [] []
   also : {f : Function} {t : Terms} {fs : List Function} {ts : List Terms} {ds : List ℕ} {lists : List (List ℕ)} → Simple (f .grammar) [] start t ds
-      → length ds ≤ listSize → Shown fs ts lists → Shown (f ∷ fs) (t ∷ ts) (ds ∷ lists)
+      → length ds ≤ listSize → ListsShown fs ts lists → ListsShown (f ∷ fs) (t ∷ ts) (ds ∷ lists)
 
 -- "13 (first such function)": function j is the first whose grammar derives its body by no list of rules, of any length; b is that body.
 pub data FirstUnderived : List Function → List Body → (j : ℕ) → (b : Body) → Type 0 where

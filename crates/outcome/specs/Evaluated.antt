@@ -3,10 +3,10 @@ use Prim.Native.Nat.{ℕ, _-_}
 use mathlib.Core.List.{List, [], _∷_}
 use Rattle.terms.specs.Labels.{Terms}
 use Rattle.terms.specs.Sorts.{Definition}
-use Rattle.meaning.specs.Running.{runPoints}
-use Rattle.meaning.specs.declared.Ran.{Ran}
-use Rattle.meaning.specs.declared.Ran.the-variants.{Passed, False, Ended}
-use Rattle.naming.specs.Scopes.{Function, signatureOf, sortsOf}
+use Rattle.running.specs.Running.{runPoints}
+use Rattle.running.specs.declared.Ran.{Ran}
+use Rattle.running.specs.declared.Ran.the-variants.{Passed, False, Ended}
+use Rattle.naming.specs.Scopes.{Function, signatureOf, namedSorts}
 use Rattle.script.specs.Script.{Known}
 use Rattle.script.specs.Tables.{definitionsOf}
 use Rattle.response.specs.Response.{inScriptOrder}
@@ -25,7 +25,7 @@ functionsWith k ts = completed (inScriptOrder (k .functions)) ts []
 -- What the run over n points finds, where the functions have these terms for bodies.
 abbrev pub ranWith : Known → List Terms → (points : List ℕ) → (n budget : ℕ) → Ran
 ranWith k ts points n budget =
-    runPoints (definitionsOf (k .defined)) (functionsWith k ts) (sortsOf (k .variables)) points (k .constraints) n 0 budget
+    runPoints (definitionsOf (k .defined)) (functionsWith k ts) (namedSorts (k .variables)) points (k .constraints) n 0 budget
 
 -- 0: "accepted", with "points done"; 14: "constraint false" and 15: "budget ended", each with its "point; constraint". "the units spent: the summed cost of
 -- evaluations done, a false one included".

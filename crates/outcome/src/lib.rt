@@ -1,4 +1,6 @@
 //! What the checker answers for a script, a response, a list of points and a budget, and what follows from that.
+ghost use mathlib.Core.Path.{_≡_};
+ghost use Rattle.outcome.specs.Checked.{refusal};
 
 // The number of an answer; which text it speaks of (0 the script, 1 the response, 2 the points, 3 none or the area); its place and its second number; and the
 // units spent.
@@ -8,4 +10,17 @@ pub struct Outcome {
     pub place: usize,
     pub second: usize,
     pub units: u64,
+}
+
+// An answer that names a text and a place.
+pub fn refusal(number: usize, text: usize, place: usize) -> Outcome
+    ensures { λ r. ⌜ r ≡ refusal number text place ⌝ }
+{
+    Outcome {
+        number,
+        text,
+        place,
+        second: 0,
+        units: 0,
+    }
 }

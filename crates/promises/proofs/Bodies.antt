@@ -16,10 +16,10 @@ use Rattle.terms.specs.Sorts.{Scope, labelSort, sortOver, sortsOf}
 use Rattle.grammar.specs.Derivation.{Item, nonTerminal, the}
 use Rattle.grammar.specs.Sorts.{formSorts, itemSort}
 use Rattle.reserved.specs.Reserved.{isWord}
-use Rattle.words.specs.Trees.{Lexeme, wordOf}
+use Rattle.scanning.specs.Trees.{Lexeme, wordOf}
 use Rattle.lexemes.specs.Lists.{Items}
 use Rattle.gathering.specs.Terms.{Raw, constant, cut, number, pattern, rawTerm, word}
-use Rattle.naming.specs.Scopes.{Named, View, definedNames, formOf, functionNames, isNamed, itemOr, means, namesOf, sortsOf as sortsIn, symbolMeans}
+use Rattle.naming.specs.Scopes.{Named, View, definedNames, formsOf, functionNames, isNamed, itemOr, means, namesOf, namedSorts as sortsIn, symbolMeans}
 use Rattle.faults.specs.Faults.{bodyFault, oneSort, rawSorts, scopeOf, termFault}
 use Rattle.script.specs.Script.{labelOf, termOf, termsIn}
 use Rattle.script.proofs.Places.{WordsBelow, no-fault}
@@ -75,8 +75,8 @@ module _ (scope : Scope) where
 
   -- The terms that are read have the sorts of the forms.
   terms-sorts : (view : View) (F : Forest Raw) → AllWritten F
-      → formSorts (record { terms = scope; nonTerminals = [] }) (formOf view F) ≡ sortsOf scope (termsIn (formOf view F))
-  unfolding formOf formSorts sortsOf termsIn
+      → formSorts (record { terms = scope; nonTerminals = [] }) (formsOf view F) ≡ sortsOf scope (termsIn (formsOf view F))
+  unfolding formsOf formSorts sortsOf termsIn
   terms-sorts view none w = refl
   terms-sorts view (tree r ops more) (also-written w o m) =
       rw (terms-sorts view ops o, terms-sorts view more m, over-labelled (node-labelled view r w))
@@ -105,6 +105,6 @@ module _ {nowhere : ℕ} (view : View) (s : ℕ) (l : Lexeme) (ops : Items) (bel
   pub body-sorted : view .nonTerminals ≡ [] → nowhere ≤ bodyFault nowhere view s l ops → sortsOf (scopeOf view .terms) (termOf view l ops) ≡ some (s ∷ [])
   body-sorted e h =
       let terms = scopeOf view .terms in
-      let sorts : List Named → Option (List ℕ) = λ ns. formSorts (record { terms = terms; nonTerminals = sortsIn ns }) (formOf view (rawTerm l ops)) in
+      let sorts : List Named → Option (List ℕ) = λ ns. formSorts (record { terms = terms; nonTerminals = sortsIn ns }) (formsOf view (rawTerm l ops)) in
       sym (terms-sorts terms view (rawTerm l ops) (terms-written false (tree l ops none)))
       ∙ subst (λ (ns : List Named). sorts ns ≡ some (s ∷ [])) e (raw-sort h)

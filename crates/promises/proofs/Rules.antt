@@ -11,10 +11,10 @@ use borrow.Author.Tests.{eqb-true, ne-eqb}
 use Rattle.forest.specs.Forest.{count, none, tree}
 use Rattle.grammar.specs.Derivation.{Rule, formOf, headOf, rule}
 use Rattle.grammar.specs.Sorts.{formSorts}
-use Rattle.words.specs.Trees.{wordOf}
+use Rattle.scanning.specs.Trees.{wordOf}
 use Rattle.lexemes.specs.Lists.{Items, inside, item}
 use Rattle.declaring.specs.New.{namedBy}
-use Rattle.naming.specs.Scopes.{Named, View, formOf as formIn, sortsOf}
+use Rattle.naming.specs.Scopes.{Named, View, formsOf as formIn, namedSorts}
 use Rattle.rules.specs.Rules.{Ruled, rulesIn, rulesOf}
 use Rattle.faults.specs.Faults.{oneSort, rawSorts, ruleMisfit, scopeOf}
 use Rattle.sorts.specs.Written.{sortOf}
@@ -66,11 +66,11 @@ module _ (view : View) where
 
     -- Each rule without a misfit has its non-terminal's sort.
     pub rules-sorted : {rs : List Ruled} → AllPlaced nowhere most rs → nowhere ≤ ruleMisfit nowhere view rs → (r : ℕ) → r < length (said rs)
-        → formSorts (scopeOf view) (formOf (said rs) r) ≡ some (getD (sortsOf (view .nonTerminals)) (headOf (said rs) r) 0 ∷ [])
+        → formSorts (scopeOf view) (formOf (said rs) r) ≡ some (getD (namedSorts (view .nonTerminals)) (headOf (said rs) r) 0 ∷ [])
     unfolding formOf headOf ruleMisfit
     rules-sorted no-rule f r h = absurd (omega arith)
     rules-sorted (also {r = x} p more) f zero h =
-        let same = oneSort (rawSorts view (x .side)) (getD (sortsOf (view .nonTerminals)) (x .head) 0) in
+        let same = oneSort (rawSorts view (x .side)) (getD (namedSorts (view .nonTerminals)) (x .head) 0) in
         one-sort (rawSorts view (x .side)) _ (no-fault same (p .first) (omega arith))
     rules-sorted (also p more) f (suc r) h = rules-sorted more (omega arith) r (omega arith)
 
@@ -87,7 +87,7 @@ listed h (n ∷ more) (tree l ops groups) b f = let later = listed h more groups
 pub starts : {nowhere close : ℕ} (result : ℕ) → close < nowhere → (pairs : Items) → Below nowhere pairs
     → nowhere ≤ cond (eqb (count pairs) 0) close
     (cond (eqb (sortOf (item 1 (inside 0 pairs)) (inside 1 (inside 0 pairs))) result) nowhere (wordOf (item 0 (inside 0 pairs))))
-    → (0 < length (namedBy pairs)) × (getD (sortsOf (namedBy pairs)) 0 0 ≡ result)
+    → (0 < length (namedBy pairs)) × (getD (namedSorts (namedBy pairs)) 0 0 ≡ result)
 unfolding Below count inside namedBy
 starts result h none b f = absurd (omega arith)
 starts result h (tree l ops more) b f =

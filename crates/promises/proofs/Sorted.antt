@@ -14,15 +14,15 @@ use Rattle.terms.specs.Sorts.{AllSorted, sortOver, sortsOf as termSorts, withSo
 use Rattle.grammar.specs.Derivation.{Derives, nonTerminal}
 use Rattle.grammar.specs.Sorts.{formSorts, itemSort}
 use Rattle.grammar.proofs.Sorts.{derived-sorts}
-use Rattle.words.specs.Trees.{wordOf}
+use Rattle.scanning.specs.Trees.{wordOf}
 use Rattle.lexemes.specs.Lists.{Items, isList}
 use Rattle.lexemes.specs.Standing.{Source, Stands}
 use Rattle.naming.specs.Scopes.{Defined, Function, Named}
-use Rattle.shapes.specs.Carried.{notCarried}
+use Rattle.carrying.specs.Carried.{notCarried}
 use Rattle.shapes.specs.Shapes.{commandShape}
 use Rattle.heading.specs.Heads.{Counts}
 use Rattle.script.specs.Script.{Known, Read, andThen, grammarPlace, judged, tested, knownAfter, limitPlace, namePlace, outOfPlace, passed, readAll, refused}
-use Rattle.script.specs.Script.{sortingPlace, start}
+use Rattle.script.specs.Script.{sortingPlace, nothingKnown}
 use Rattle.promises.specs.Sorted.{AllBool, AllRulesSorted, RulesSorted, Sorted, grammarScope}
 use Rattle.promises.proofs.After.{after-command}
 use Rattle.promises.proofs.Commands.{command}
@@ -82,10 +82,11 @@ module _ (counts : Counts) (nowhere : ℕ) where
       passed-sound more (below .2) (subst Sound (fine .is) after) (next .2)
 
   -- Every rule, body and constraint of a script that passes has its sort, where its items stand before word `nowhere`.
-  pub passed-sorted : {s : Source} {i : ℕ} (items : Items) {k : Known} → Stands s i items nowhere → readAll counts nowhere start items ≡ passed k → Sorted k
+  pub passed-sorted : {s : Source} {i : ℕ} (items : Items) {k : Known} → Stands s i items nowhere
+      → readAll counts nowhere nothingKnown items ≡ passed k → Sorted k
   unfolding AllBefore AllBool AllRulesSorted AllSorted
   passed-sorted items stands h =
-      let first : Sound start = record { sorted = record { bodies = tt; functions = tt; constraints = tt }; before = tt } in
+      let first : Sound nothingKnown = record { sorted = record { bodies = tt; functions = tt; constraints = tt }; before = tt } in
       passed-sound items (stands-below nowhere stands (omega arith)) first h .sorted
 
 -- The rules of each of the functions are sorted.

@@ -10,7 +10,7 @@ use Rattle.terms.specs.Labels.{Terms}
 use Rattle.terms.specs.Sorts.{AllSorted, Scope, sortsOf as termSorts}
 use Rattle.grammar.specs.Derivation.{formOf, headOf}
 use Rattle.sorting.specs.Forms.{FormScope, formSorts}
-use Rattle.naming.specs.Scopes.{Defined, Function, sortsOf}
+use Rattle.naming.specs.Scopes.{Defined, Function, namedSorts}
 use Rattle.faults.specs.Faults.{scopeOf}
 use Rattle.script.specs.Script.{Known, constraintView}
 
@@ -25,11 +25,11 @@ grammarScope defs f = scopeOf (record {
 
 -- Each rule of a function's grammar has its non-terminal's sort, and the first non-terminal the function's.
 pub record RulesSorted (defs : List Defined) (f : Function) : Type 0 where
-  pub start : (0 < length (f .nonTerminals)) × (getD (sortsOf (f .nonTerminals)) 0 0 ≡ f .result)
+  pub start : (0 < length (f .nonTerminals)) × (getD (namedSorts (f .nonTerminals)) 0 0 ≡ f .result)
   pub heads : (r : ℕ) → r < length (f .grammar .rules) → headOf (f .grammar .rules) r < length (f .nonTerminals)
   pub rules : (r : ℕ) → r < length (f .grammar .rules)
-      → formSorts (grammarScope defs f) (formOf (f .grammar .rules) r) ≡ some (getD (sortsOf (f .nonTerminals)) (headOf (f .grammar .rules) r) 0 ∷ [])
-  pub arguments : f .grammar .arguments ≡ sortsOf (f .arguments)
+      → formSorts (grammarScope defs f) (formOf (f .grammar .rules) r) ≡ some (getD (namedSorts (f .nonTerminals)) (headOf (f .grammar .rules) r) 0 ∷ [])
+  pub arguments : f .grammar .arguments ≡ namedSorts (f .arguments)
 
 -- The same of every function.
 unfoldable pub AllRulesSorted : (defs : List Defined) → List Function → Type 0

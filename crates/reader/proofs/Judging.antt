@@ -8,12 +8,12 @@ use mathlib.Core.Path.{_≡_, refl, _∙_}
 use lib.Dec.{eqb, ltb}
 use borrow.Author.Tests.{le-ltb, ltb-false, ltb-true}
 use Rattle.lexemes.specs.Lists.{Items}
-use Rattle.shapes.specs.Carried.{notCarried}
+use Rattle.carrying.specs.Carried.{notCarried}
 use Rattle.shapes.specs.Shapes.{commandShape}
 use Rattle.heading.specs.Heads.{Counts}
 use Rattle.script.specs.Limits.{commandPast}
 use Rattle.script.specs.Script.{Known, Read, grammarPlace, judged, limitPlace, namePlace, outOfPlace, passed, refused, sortingPlace, tested}
-use Rattle.script.specs.Tables.{Says, TablesHold}
+use Rattle.script.specs.Tables.{KnownHeld, Says}
 use Rattle.script.specs.declared.Verdict.{Verdict}
 use Rattle.reader.specs.Steps.{Reads}
 use Rattle.reader.specs.declared.Step.{Step}
@@ -78,11 +78,11 @@ module _ (counts : Counts) (nowhere : ℕ) (k : Known) (at : ℕ) (c : Items) (s
       go false place more e s = ltb-false place nowhere e
 
   -- A step that goes by the verdict of the tests reads what they say.
-  pub reads-by : (v : Verdict) (s : Step) (names places nodes forms : List ℕ) → Says v (tested counts nowhere k at c said)
-      → s .number ≡ v .number → s .place ≡ v .place → (v .number ≡ 0 → TablesHold names places nodes forms (s .progress) said)
-      → Reads (tested counts nowhere k at c said) names places nodes forms s
+  pub reads-by : (v : Verdict) (s : Step) (names places nodes : List ℕ) → Says v (tested counts nowhere k at c said)
+      → s .number ≡ v .number → s .place ≡ v .place → (v .number ≡ 0 → KnownHeld names places nodes (s .progress) said)
+      → Reads (tested counts nowhere k at c said) names places nodes s
   unfolding tested
-  reads-by v s names places nodes forms says number place tables =
+  reads-by v s names places nodes says number place tables =
       go
       (ltb (limitPlace counts nowhere k at c) nowhere)
       (ltb (namePlace nowhere k c) nowhere)
@@ -96,7 +96,7 @@ module _ (counts : Counts) (nowhere : ℕ) (k : Known) (at : ℕ) (c : Items) (s
     where
       go : (w x y z : Bool) (l n m g : ℕ)
           → Says v (cond w (refused 4 l) (cond x (refused 7 n) (cond y (refused 8 m) (cond z (refused 9 g) (passed said)))))
-          → Reads (cond w (refused 4 l) (cond x (refused 7 n) (cond y (refused 8 m) (cond z (refused 9 g) (passed said))))) names places nodes forms s
+          → Reads (cond w (refused 4 l) (cond x (refused 7 n) (cond y (refused 8 m) (cond z (refused 9 g) (passed said))))) names places nodes s
       go true x y z l n m g h = (number ∙ h .0, place ∙ h .1)
       go false true y z l n m g h = (number ∙ h .0, place ∙ h .1)
       go false false true z l n m g h = (number ∙ h .0, place ∙ h .1)

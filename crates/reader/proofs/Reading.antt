@@ -8,11 +8,11 @@ use borrow.Author.Tests.{not-false}
 use Rattle.forest.proofs.Bools.{or-left}
 use Rattle.lexemes.specs.Table.{codeAt}
 use Rattle.lexemes.specs.Standing.{ListAt}
-use Rattle.shapes.specs.Carried.{notCarried}
+use Rattle.carrying.specs.Carried.{notCarried}
 use Rattle.shapes.specs.Shapes.{commandShape}
 use Rattle.heading.specs.Heads.{allowed}
 use Rattle.script.specs.Script.{Read, judged, knownAfter, outOfPlace, refused}
-use Rattle.script.specs.Tables.{TablesHold}
+use Rattle.script.specs.Tables.{KnownHeld}
 use Rattle.script.specs.declared.Progress.{Progress}
 use Rattle.script.specs.declared.Verdict.{Verdict}
 use Rattle.reader.specs.Steps.{CommandRead, CommandTested, Commanded, Few, Reads, Shaped, Stepped, outOfPlaceBy, saidBy}
@@ -21,21 +21,21 @@ use Rattle.reader.proofs.Words.{ends-in, listed, tests, word-fits}
 use Rattle.reader.proofs.After.{out-by}
 use Rattle.reader.proofs.Judging.{judged-misplaced, judged-placed, judged-uncarried, reads-by}
 
-module _ {text words lexemes names raw places nodes forms : List ℕ} {p : Progress} {i nowhere : ℕ} where
+module _ {text lexemes names raw places nodes : List ℕ} {p : Progress} {i nowhere : ℕ} where
   -- The word of the command has a number.
-  pub word-near : Commanded text words lexemes names raw places nodes forms p i nowhere → i + 1 < 4096
+  pub word-near : Commanded text lexemes names raw places nodes p i nowhere → i + 1 < 4096
   word-near c = word-fits (c .here)
 
   -- A refusal of the command itself.
-  refusal : (c : Commanded text words lexemes names raw places nodes forms p i nowhere) {s : Step} (number : ℕ) → 0 < number
+  refusal : (c : Commanded text lexemes names raw places nodes p i nowhere) {s : Step} (number : ℕ) → 0 < number
       → s ≡ record { number = number; place = i; progress = p }
       → judged allowed nowhere (c .known) i (c .here .command) (knownAfter (c .known) (c .here .command)) ≡ refused number i
-      → CommandRead c names raw places nodes forms s
+      → CommandRead c names raw places nodes s
   refusal c {s} number some e is =
       let number-is : s .number ≡ number = ap (λ (t : Step). t .number) e in
       let place-is : s .place ≡ i = ap (λ (t : Step). t .place) e in
       record {
-        reads = subst⁻¹ (λ (r : Read). Reads r names places nodes forms s) is (number-is, place-is);
+        reads = subst⁻¹ (λ (r : Read). Reads r names places nodes s) is (number-is, place-is);
         roomy = c .roomy;
         nodes-within = λ z. absurd (omega arith);
         forms-within = λ z. absurd (omega arith);
@@ -44,7 +44,7 @@ module _ {text words lexemes names raw places nodes forms : List ℕ} {p : Progr
   module _ {uncarried : Bool} (found : (x : ListAt lexemes i) → uncarried ≡ notCarried (x .operands)) where
     -- 6.
     pub read-uncarried : uncarried ≡ true → {s : Step} → s ≡ record { number = 6; place = i; progress = p }
-        → (c : Commanded text words lexemes names raw places nodes forms p i nowhere) → CommandRead c names raw places nodes forms s
+        → (c : Commanded text lexemes names raw places nodes p i nowhere) → CommandRead c names raw places nodes s
     read-uncarried taken e c =
         refusal c 6 (omega arith) e
         (judged-uncarried allowed nowhere (c .known) i (c .here .command) _ (sym (found (listed (c .here))) ∙ taken))
@@ -52,36 +52,36 @@ module _ {text words lexemes names raw places nodes forms : List ℕ} {p : Progr
     module _ (left : uncarried ≡ false) {code : ℕ} (coded : code ≡ codeAt lexemes (i + 1)) {shape : Bool}
         (shapes : (x : ListAt lexemes i) → shape ≡ commandShape (x .operands)) {out : Bool} (placed : out ≡ outOfPlaceBy p code) where
       -- The command is carried.
-      carried : (c : Commanded text words lexemes names raw places nodes forms p i nowhere) → notCarried (c .here .command) ≡ false
+      carried : (c : Commanded text lexemes names raw places nodes p i nowhere) → notCarried (c .here .command) ≡ false
       carried c = sym (found (listed (c .here))) ∙ left
 
       -- The second test is that of its shape and its place.
-      test-is : (c : Commanded text words lexemes names raw places nodes forms p i nowhere)
+      test-is : (c : Commanded text lexemes names raw places nodes p i nowhere)
           → not shape || out ≡ not (commandShape (c .here .command)) || outOfPlace (c .known) (c .here .command)
       test-is c = ap₂ (λ (a b : Bool). not a || b) (shapes (listed (c .here))) (placed ∙ out-by (c .tables .counted) (tests (c .here) coded))
 
       -- 5.
       pub read-misplaced : not shape || out ≡ true → {s : Step} → s ≡ record { number = 5; place = i; progress = p }
-          → (c : Commanded text words lexemes names raw places nodes forms p i nowhere) → CommandRead c names raw places nodes forms s
+          → (c : Commanded text lexemes names raw places nodes p i nowhere) → CommandRead c names raw places nodes s
       read-misplaced taken e c =
           refusal c 5 (omega arith) e
           (judged-misplaced allowed nowhere (c .known) i (c .here .command) _ (carried c) (sym (test-is c) ∙ taken))
 
       module _ (right : not shape || out ≡ false) where
         -- The command is of its shape and in its place.
-        abbrev pub in-shape : Commanded text words lexemes names raw places nodes forms p i nowhere
-            → Shaped text words lexemes names raw places nodes forms p code i nowhere
+        abbrev pub in-shape : Commanded text lexemes names raw places nodes p i nowhere
+            → Shaped text lexemes names raw places nodes p code i nowhere
         in-shape c = record {
           commanded = c;
           shaped = sym (shapes (listed (c .here))) ∙ not-false shape (or-left (not shape) out right);
           coded = coded;
         }
 
-        module _ {namesAfter rawAfter placesAfter nodesAfter formsAfter : List ℕ} {v : Verdict}
-            (tested : (c : Shaped text words lexemes names raw places nodes forms p code i nowhere)
-            → CommandTested c namesAfter rawAfter placesAfter nodesAfter formsAfter v) where
+        module _ {namesAfter rawAfter placesAfter nodesAfter : List ℕ} {v : Verdict}
+            (tested : (c : Shaped text lexemes names raw places nodes p code i nowhere)
+            → CommandTested c namesAfter rawAfter placesAfter nodesAfter v) where
           -- The numbers after it are within their bounds.
-          pub few-after : Commanded text words lexemes names raw places nodes forms p i nowhere → v .number ≡ 0 → Few (saidBy p code (v .rows))
+          pub few-after : Commanded text lexemes names raw places nodes p i nowhere → v .number ≡ 0 → Few (saidBy p code (v .rows))
           few-after c z =
               let t = tested (in-shape c) in
               let n = t .tables z .counted in
@@ -96,18 +96,18 @@ module _ {text words lexemes names raw places nodes forms : List ℕ} {p : Progr
               }
 
           -- The command is read by its own tests.
-          pub read-tested : {s : Step} → Stepped p code v s → (c : Commanded text words lexemes names raw places nodes forms p i nowhere)
-              → CommandRead c namesAfter rawAfter placesAfter nodesAfter formsAfter s
+          pub read-tested : {s : Step} → Stepped p code v s → (c : Commanded text lexemes names raw places nodes p i nowhere)
+              → CommandRead c namesAfter rawAfter placesAfter nodesAfter s
           read-tested {s} step c =
               let t = tested (in-shape c) in
               let said = knownAfter (c .known) (c .here .command) in
               let placed-is = judged-placed allowed nowhere (c .known) i (c .here .command) said (carried c) (sym (test-is c) ∙ right) in
               let zero : s .number ≡ 0 → v .number ≡ 0 = λ z. sym (step .number-is) ∙ z in
-              let tables : v .number ≡ 0 → TablesHold namesAfter placesAfter nodesAfter formsAfter (s .progress) said
-              = λ z. subst⁻¹ (λ (q : Progress). TablesHold namesAfter placesAfter nodesAfter formsAfter q said) (step .progress-is z) (t .tables z) in
+              let tables : v .number ≡ 0 → KnownHeld namesAfter placesAfter nodesAfter (s .progress) said
+              = λ z. subst⁻¹ (λ (q : Progress). KnownHeld namesAfter placesAfter nodesAfter q said) (step .progress-is z) (t .tables z) in
               record {
-                reads = subst⁻¹ (λ (r : Read). Reads r namesAfter placesAfter nodesAfter formsAfter s) placed-is
-                    (reads-by allowed nowhere (c .known) i (c .here .command) said v s namesAfter placesAfter nodesAfter formsAfter
+                reads = subst⁻¹ (λ (r : Read). Reads r namesAfter placesAfter nodesAfter s) placed-is
+                    (reads-by allowed nowhere (c .known) i (c .here .command) said v s namesAfter placesAfter nodesAfter
                     (t .verdict-is) (step .number-is) (step .place-is) tables);
                 roomy = t .roomy;
                 nodes-within = λ z. rw (step .progress-is (zero z)) (t .nodes-within (zero z));

@@ -1,24 +1,26 @@
 -- The test of a command by its code: what each command asks, and what it gives.
-use Prim.Native.Nat.{ℕ, _≤_, _<_}
+use Prim.Native.Nat.{ℕ, _*_, _-_, _≤_, _<_}
 use Prim.Native.String.{String}
 use native.Mathlib.Omega.{arith}
 use mathlib.Core.Bool.{true}
-use mathlib.Core.List.{List}
+use mathlib.Core.List.{List, _++_}
 use mathlib.Core.Path.{_≡_, refl, ap, subst, subst⁻¹}
-use lib.ListN.{length}
+use lib.ListN.{drop, length, length-drop, take}
+use lib.Seq.{length-take-le}
 use borrow.Author.Tests.{ne-eqb}
 use Rattle.lexemes.specs.Lists.{Items, is, item}
 use Rattle.heading.specs.Heads.{allowed}
 use Rattle.script.specs.Script.{Known, knownAfter, limitPlace, tested}
-use Rattle.script.specs.Tables.{CommandOf, Says, TablesHold}
+use Rattle.script.specs.Tables.{CommandOf, Says, TablesHold, formsPlace}
 use Rattle.script.specs.declared.Progress.{Progress}
 use Rattle.script.specs.declared.Verdict.{Verdict}
 use Rattle.variables.specs.Steps.{Declared, Declaring}
 use Rattle.defining.specs.Steps.{Constrained, Constraining, Defined, Defining}
 use Rattle.synthesizing.specs.Steps.{Synthesized, Synthesizing}
-use Rattle.reader.specs.Steps.{CommandTested, Roomy, Shaped, saidBy}
+use Rattle.reader.specs.Steps.{CommandTested, Shaped, saidBy}
 use Rattle.reader.proofs.Words.{Tests, ends-in, tests}
 use Rattle.reader.proofs.After.{counted-after, names-kept, places-kept, same-constraints, same-defined, same-functions, same-variables}
+use Rattle.reader.proofs.Parts.{Parts, all-lent, formsLent, parts-behind, parts-front, parts-same}
 use Rattle.reader.proofs.Judging.{fewer, others-pass, within-limits}
 
 -- The tables hold what is known, in no more rows than words before the one given.
@@ -27,8 +29,8 @@ pub record Held (names places nodes forms : List ℕ) (q : Progress) (k : Known)
   pub nodes-within : q .nodes ≤ close
   pub forms-within : q .forms ≤ close
 
-module _ {text words lexemes names raw places nodes forms : List ℕ} {p : Progress} {code i nowhere : ℕ}
-    (c : Shaped text words lexemes names raw places nodes forms p code i nowhere) where
+module _ {text lexemes names raw places nodes : List ℕ} {p : Progress} {code i nowhere : ℕ}
+    (c : Shaped text lexemes names raw places nodes p code i nowhere) where
   -- What is known before the command.
   abbrev pub known : Known
   known = c .commanded .known
@@ -45,75 +47,81 @@ module _ {text words lexemes names raw places nodes forms : List ℕ} {p : Progr
   pub command-is : {m : ℕ} → code ≡ m → Tests command m
   command-is e = subst (λ (m : ℕ). Tests command m) e (tests (c .commanded .here) (c .coded))
 
+  -- The part for terms is whole.
+  terms-whole : formsPlace ≤ length nodes
+  terms-whole = omega (arith, c .commanded .roomy .nodes-room)
+
   -- A test of the command from what holds of its code.
-  by-code : {m : ℕ} → code ≡ m → {namesAfter rawAfter placesAfter nodesAfter formsAfter : List ℕ} {v : Verdict}
+  by-code : {m : ℕ} → code ≡ m → {namesAfter rawAfter placesAfter nodesAfter terms forms : List ℕ} {v : Verdict}
       → Says v (tested allowed nowhere known i command later)
-      → Roomy rawAfter nodesAfter formsAfter nowhere
-      → (v .number ≡ 0 → Held namesAfter placesAfter nodesAfter formsAfter (saidBy p m (v .rows)) later (c .commanded .here .close))
-      → CommandTested c namesAfter rawAfter placesAfter nodesAfter formsAfter v
-  by-code e {namesAfter} {rawAfter} {placesAfter} {nodesAfter} {formsAfter} {v} says roomy held =
-      let holds : v .number ≡ 0 → Held namesAfter placesAfter nodesAfter formsAfter (saidBy p code (v .rows)) later (c .commanded .here .close)
-      = λ z. subst⁻¹ (λ (m : ℕ). Held namesAfter placesAfter nodesAfter formsAfter (saidBy p m (v .rows)) later (c .commanded .here .close)) e (held z) in
+      → length rawAfter ≡ length raw → Parts nodes nodesAfter terms forms
+      → (v .number ≡ 0 → Held namesAfter placesAfter terms forms (saidBy p m (v .rows)) later (c .commanded .here .close))
+      → CommandTested c namesAfter rawAfter placesAfter nodesAfter v
+  by-code e {namesAfter} {rawAfter} {placesAfter} {nodesAfter} {terms} {forms} {v} says raw-long parts held =
+      let roomy = c .commanded .roomy in
+      let holds : v .number ≡ 0 → Held namesAfter placesAfter terms forms (saidBy p code (v .rows)) later (c .commanded .here .close)
+      = λ z. subst⁻¹ (λ (m : ℕ). Held namesAfter placesAfter terms forms (saidBy p m (v .rows)) later (c .commanded .here .close)) e (held z) in
       record {
         verdict-is = says;
-        tables = λ z. holds z .tables;
-        roomy = roomy;
+        tables = λ z. rw (parts .terms-are, parts .forms-are) (holds z .tables);
+        roomy = record { raw-room = omega (arith, roomy .raw-room); nodes-room = omega (arith, roomy .nodes-room, parts .long) };
         nodes-within = λ z. holds z .nodes-within;
         forms-within = λ z. holds z .forms-within;
       }
 
   -- The command, by its word.
-  abbrev pub command-of : {word : String} → is word (item 0 command) ≡ true → CommandOf word text words lexemes p i nowhere
+  abbrev pub command-of : {word : String} → is word (item 0 command) ≡ true → CommandOf word text lexemes p i nowhere
   command-of by = record { here = c .commanded .here; by = by; shaped = c .shaped; known = known; counted = c .commanded .tables .counted }
 
+  -- A row for each word of the text among the terms.
+  pub terms-room : 4 * nowhere ≤ length (take formsPlace nodes)
+  terms-room = omega (arith, c .commanded .here .few, length-take-le formsPlace nodes terms-whole)
+
+  -- And among the forms.
+  pub forms-room : 4 * nowhere ≤ length (formsLent nodes)
+  forms-room = omega (arith, c .commanded .roomy .nodes-room, ap length (all-lent nodes), length-drop formsPlace nodes)
+
   -- What `declare-var` asks.
-  abbrev pub declaring : code ≡ 9 → Declaring text words lexemes names p i nowhere
+  abbrev pub declaring : code ≡ 9 → Declaring text lexemes names p i nowhere
   declaring e = record {
     of = command-of (command-is e .declares);
     names-hold = c .commanded .tables .names-hold;
   }
 
   -- What `define-fun` asks.
-  abbrev pub defining : code ≡ 10 → Defining text words lexemes names raw places nodes p i nowhere
+  abbrev pub defining : code ≡ 10 → Defining text lexemes names raw places (take formsPlace nodes) p i nowhere
   defining e = record {
     of = command-of (command-is e .defines);
     names-hold = c .commanded .tables .names-hold;
     places-hold = c .commanded .tables .places-hold;
     raw-room = c .commanded .roomy .raw-room;
-    nodes-room = c .commanded .roomy .nodes-room;
+    nodes-room = terms-room;
     within = c .commanded .nodes-within;
   }
 
   -- What `synth-fun` asks.
-  abbrev pub synthesizing : code ≡ 11 → Synthesizing text words lexemes names raw places forms p i nowhere
+  abbrev pub synthesizing : code ≡ 11 → Synthesizing text lexemes names raw places (formsLent nodes) p i nowhere
   synthesizing e = record {
     of = command-of (command-is e .synthesizes);
     names-hold = c .commanded .tables .names-hold;
-    nodes = nodes;
+    nodes = take formsPlace nodes;
     places-hold = c .commanded .tables .places-hold;
-    grammars-hold = c .commanded .tables .grammars-hold;
+    grammars-hold = rw (all-lent nodes) (c .commanded .tables .grammars-hold);
     raw-room = c .commanded .roomy .raw-room;
-    forms-room = c .commanded .roomy .forms-room;
+    forms-room = forms-room;
     within = c .commanded .forms-within;
   }
 
   -- What `constraint` asks.
-  abbrev pub constraining : code ≡ 12 → Constraining text words lexemes names raw places nodes p i nowhere
+  abbrev pub constraining : code ≡ 12 → Constraining text lexemes names raw places (take formsPlace nodes) p i nowhere
   constraining e = record {
     of = command-of (command-is e .constrains);
     names-hold = c .commanded .tables .names-hold;
     places-hold = c .commanded .tables .places-hold;
     raw-room = c .commanded .roomy .raw-room;
-    nodes-room = c .commanded .roomy .nodes-room;
+    nodes-room = terms-room;
     within = c .commanded .nodes-within;
   }
-
-  -- Tables that are as long have as much room.
-  as-roomy : {rawAfter nodesAfter formsAfter : List ℕ} → length rawAfter ≡ length raw → length nodesAfter ≡ length nodes → length formsAfter ≡ length forms
-      → Roomy rawAfter nodesAfter formsAfter nowhere
-  as-roomy r n f =
-      let roomy = c .commanded .roomy in
-      record { raw-room = omega arith; nodes-room = omega arith; forms-room = omega arith }
 
   -- A command that passes is not past a limit.
   limits : (v : Verdict) → Says v (tested allowed nowhere known i command later) → v .number ≡ 0 → nowhere ≤ limitPlace allowed nowhere known i command
@@ -124,11 +132,11 @@ module _ {text words lexemes names raw places nodes forms : List ℕ} {p : Progr
   ahead = let e = ends-in (c .commanded .here) in omega arith
 
   -- What a `declare-var` gives.
-  pub declared : (e : code ≡ 9) {namesAfter : List ℕ} {v : Verdict} → Declared (declaring e) namesAfter v → CommandTested c namesAfter raw places nodes forms v
+  pub declared : (e : code ≡ 9) {namesAfter : List ℕ} {v : Verdict} → Declared (declaring e) namesAfter v → CommandTested c namesAfter raw places nodes v
   unfolding limitPlace
-  declared e {namesAfter} {v} g = by-code e (g .verdict-is) (c .commanded .roomy) held
+  declared e {namesAfter} {v} g = by-code e (g .verdict-is) refl (parts-same nodes) held
     where
-      held : v .number ≡ 0 → Held namesAfter places nodes forms (saidBy p 9 (v .rows)) later (c .commanded .here .close)
+      held : v .number ≡ 0 → Held namesAfter places (take formsPlace nodes) (drop formsPlace nodes) (saidBy p 9 (v .rows)) later (c .commanded .here .close)
       held z =
           let before = c .commanded in
           let n = before .tables .counted in
@@ -150,13 +158,13 @@ module _ {text words lexemes names raw places nodes forms : List ℕ} {p : Progr
           }
 
   -- What a `define-fun` gives.
-  pub defined : (e : code ≡ 10) {namesAfter rawAfter placesAfter nodesAfter : List ℕ} {v : Verdict}
-      → Defined (defining e) namesAfter rawAfter placesAfter nodesAfter v
-      → CommandTested c namesAfter rawAfter placesAfter nodesAfter forms v
+  pub defined : (e : code ≡ 10) {namesAfter rawAfter placesAfter terms : List ℕ} {v : Verdict}
+      → Defined (defining e) namesAfter rawAfter placesAfter terms v
+      → CommandTested c namesAfter rawAfter placesAfter (terms ++ drop formsPlace nodes) v
   unfolding limitPlace
-  defined e {namesAfter} {rawAfter} {placesAfter} {nodesAfter} {v} g = by-code e (g .verdict-is) (as-roomy (g .raw-long) (g .nodes-long) refl) held
+  defined e {namesAfter} {rawAfter} {placesAfter} {terms} {v} g = by-code e (g .verdict-is) (g .raw-long) (parts-front terms-whole (g .nodes-long)) held
     where
-      held : v .number ≡ 0 → Held namesAfter placesAfter nodesAfter forms (saidBy p 10 (v .rows)) later (c .commanded .here .close)
+      held : v .number ≡ 0 → Held namesAfter placesAfter terms (drop formsPlace nodes) (saidBy p 10 (v .rows)) later (c .commanded .here .close)
       held z =
           let before = c .commanded in
           let n = before .tables .counted in
@@ -177,13 +185,13 @@ module _ {text words lexemes names raw places nodes forms : List ℕ} {p : Progr
           }
 
   -- What a `synth-fun` gives.
-  pub synthesized : (e : code ≡ 11) {namesAfter rawAfter placesAfter formsAfter : List ℕ} {v : Verdict}
-      → Synthesized (synthesizing e) namesAfter rawAfter placesAfter formsAfter v
-      → CommandTested c namesAfter rawAfter placesAfter nodes formsAfter v
+  pub synthesized : (e : code ≡ 11) {namesAfter rawAfter placesAfter forms : List ℕ} {v : Verdict}
+      → Synthesized (synthesizing e) namesAfter rawAfter placesAfter forms v
+      → CommandTested c namesAfter rawAfter placesAfter (take formsPlace nodes ++ (forms ++ drop (length nodes - formsPlace) (drop formsPlace nodes))) v
   unfolding limitPlace
-  synthesized e {namesAfter} {rawAfter} {placesAfter} {formsAfter} {v} g = by-code e (g .verdict-is) (as-roomy (g .raw-long) refl (g .forms-long)) held
+  synthesized e {namesAfter} {rawAfter} {placesAfter} {forms} {v} g = by-code e (g .verdict-is) (g .raw-long) (parts-behind terms-whole (g .forms-long)) held
     where
-      held : v .number ≡ 0 → Held namesAfter placesAfter nodes formsAfter (saidBy p 11 (v .rows)) later (c .commanded .here .close)
+      held : v .number ≡ 0 → Held namesAfter placesAfter (take formsPlace nodes) forms (saidBy p 11 (v .rows)) later (c .commanded .here .close)
       held z =
           let before = c .commanded in
           let n = before .tables .counted in
@@ -197,20 +205,20 @@ module _ {text words lexemes names raw places nodes forms : List ℕ} {p : Progr
               names-hold = g .names-hold z;
               places-hold = g .places-hold z;
               grammars-hold = g .grammars-hold z;
-              forms-room = omega (arith, g .within z, g .forms-long, before .roomy .forms-room);
+              forms-room = omega (arith, g .within z, g .forms-long, forms-room);
             };
             nodes-within = omega (arith, before .nodes-within);
             forms-within = g .within z;
           }
 
   -- What a `constraint` gives.
-  pub constrained : (e : code ≡ 12) {rawAfter placesAfter nodesAfter : List ℕ} {v : Verdict}
-      → Constrained (constraining e) rawAfter placesAfter nodesAfter v
-      → CommandTested c names rawAfter placesAfter nodesAfter forms v
+  pub constrained : (e : code ≡ 12) {rawAfter placesAfter terms : List ℕ} {v : Verdict}
+      → Constrained (constraining e) rawAfter placesAfter terms v
+      → CommandTested c names rawAfter placesAfter (terms ++ drop formsPlace nodes) v
   unfolding limitPlace
-  constrained e {rawAfter} {placesAfter} {nodesAfter} {v} g = by-code e (g .verdict-is) (as-roomy (g .raw-long) (g .nodes-long) refl) held
+  constrained e {rawAfter} {placesAfter} {terms} {v} g = by-code e (g .verdict-is) (g .raw-long) (parts-front terms-whole (g .nodes-long)) held
     where
-      held : v .number ≡ 0 → Held names placesAfter nodesAfter forms (saidBy p 12 (v .rows)) later (c .commanded .here .close)
+      held : v .number ≡ 0 → Held names placesAfter terms (drop formsPlace nodes) (saidBy p 12 (v .rows)) later (c .commanded .here .close)
       held z =
           let before = c .commanded in
           let n = before .tables .counted in
@@ -233,7 +241,7 @@ module _ {text words lexemes names raw places nodes forms : List ℕ} {p : Progr
 
   -- What the other commands give.
   pub others : (code ≡ 9 → ⊥) → (code ≡ 10 → ⊥) → (code ≡ 11 → ⊥) → (code ≡ 12 → ⊥) → {v : Verdict} → v ≡ record { number = 0; place = i; rows = 0 }
-      → CommandTested c names raw places nodes forms v
+      → CommandTested c names raw places nodes v
   others n9 n10 n11 n12 {v} e =
       let before = c .commanded in
       let n = before .tables .counted in
@@ -246,7 +254,7 @@ module _ {text words lexemes names raw places nodes forms : List ℕ} {p : Progr
       let functions = same-functions known t e11 in
       let defined = same-defined known t e10 in
       let zero : v .number ≡ 0 = ap (λ (w : Verdict). w .number) e in
-      by-code refl (rw (others-pass allowed nowhere known i command later t e9 e10 e11 e12) zero) (before .roomy) (λ z. record {
+      by-code refl (rw (others-pass allowed nowhere known i command later t e9 e10 e11 e12) zero) refl (parts-same nodes) (λ z. record {
         tables = record {
           counted =
               counted-after known t (v .rows) n

@@ -28,11 +28,11 @@ pub record Ends (lexemes : List ℕ) (i close nowhere : ℕ) : Type 0 where
   pub closes : close < nowhere
   pub next : nextAt lexemes i ≡ close + 1
 
-module _ {text words lexemes : List ℕ} {i nowhere : ℕ} where
+module _ {text lexemes : List ℕ} {i nowhere : ℕ} where
   -- A command is a list.
-  abbrev pub listed : CommandAt text words lexemes i nowhere → ListAt lexemes i
+  abbrev pub listed : CommandAt text lexemes i nowhere → ListAt lexemes i
   listed h = record {
-    source = sourceOf text words lexemes;
+    source = sourceOf text lexemes;
     same = refl;
     close = h .close;
     operands = h .command;
@@ -42,7 +42,7 @@ module _ {text words lexemes : List ℕ} {i nowhere : ℕ} where
   }
 
   -- Which command it is.
-  pub tests : (h : CommandAt text words lexemes i nowhere) → {code : ℕ} → code ≡ codeAt lexemes (i + 1) → Tests (h .command) code
+  pub tests : (h : CommandAt text lexemes i nowhere) → {code : ℕ} → code ≡ codeAt lexemes (i + 1) → Tests (h .command) code
   unfolding after codeFor
   tests h {code} e =
       let front : frontCode (h .command) ≡ code = sym (first-code (listed h)) ∙ sym e in
@@ -56,7 +56,7 @@ module _ {text words lexemes : List ℕ} {i nowhere : ℕ} where
       }
 
   -- Each command ends so.
-  pub ends-in : (h : CommandAt text words lexemes i nowhere) → Ends lexemes i (h .close) nowhere
+  pub ends-in : (h : CommandAt text lexemes i nowhere) → Ends lexemes i (h .close) nowhere
   ends-in h =
       let x = held (listed h) in
       let same : h .close ≡ x .close = ap closeOf (x .label) in
@@ -67,5 +67,5 @@ module _ {text words lexemes : List ℕ} {i nowhere : ℕ} where
       }
 
   -- A command's word has a number.
-  pub word-fits : CommandAt text words lexemes i nowhere → i + 1 < 4096
+  pub word-fits : CommandAt text lexemes i nowhere → i + 1 < 4096
   word-fits h = let e = ends-in h in omega (arith, h .few)

@@ -12,57 +12,55 @@ use Rattle.lexemes.specs.Standing.{Stands}
 use Rattle.naming.specs.Steps.{Names, sourceOf}
 use Rattle.faults.specs.Steps.{Lawful}
 use Rattle.heading.specs.Heads.{allowed}
-use Rattle.script.specs.Script.{Known, Read, judged, knownAfter, passed, readAll, refused, start, tested}
-use Rattle.script.specs.Tables.{CommandAt, Says, TablesHold, placesLength}
+use Rattle.script.specs.Script.{Known, Read, judged, knownAfter, passed, readAll, refused, nothingKnown, tested}
+use Rattle.script.specs.Tables.{CommandAt, KnownHeld, Says, formsPlace, placesLength}
 use Rattle.script.specs.declared.Progress.{Progress}
 use Rattle.script.specs.declared.Verdict.{Verdict}
 use Rattle.reader.specs.declared.Step.{Step}
 
 -- What was read: a refusal with its number and word; or what is known, which the tables hold.
-abbrev pub Reads : Read → (names places nodes forms : List ℕ) → Step → Type 0
-Reads (refused number place) names places nodes forms s = (s .number ≡ number) × (s .place ≡ place)
-Reads (passed k) names places nodes forms s = (s .number ≡ 0) × TablesHold names places nodes forms (s .progress) k
+abbrev pub Reads : Read → (names places nodes : List ℕ) → Step → Type 0
+Reads (refused number place) names places nodes s = (s .number ≡ number) × (s .place ≡ place)
+Reads (passed k) names places nodes s = (s .number ≡ 0) × KnownHeld names places nodes (s .progress) k
 
--- A row for each word of a text in each table of rows.
-pub record Roomy (raw nodes forms : List ℕ) (nowhere : ℕ) : Type 0 where
+-- A row for each word of a text in the table of what is gathered, and one behind the terms in that of nodes.
+pub record Roomy (raw nodes : List ℕ) (nowhere : ℕ) : Type 0 where
   pub raw-room : 4 * nowhere ≤ length raw
-  pub nodes-room : 4 * nowhere ≤ length nodes
-  pub forms-room : 4 * nowhere ≤ length forms
+  pub nodes-room : formsPlace + 4 * nowhere ≤ length nodes
 
 -- A command stands at word i; the tables hold what is known before it, in no more rows than words before it.
-pub record Commanded (text words lexemes names raw places nodes forms : List ℕ) (p : Progress) (i nowhere : ℕ) : Type 0 where
-  pub here : CommandAt text words lexemes i nowhere
+pub record Commanded (text lexemes names raw places nodes : List ℕ) (p : Progress) (i nowhere : ℕ) : Type 0 where
+  pub here : CommandAt text lexemes i nowhere
   pub known : Known
-  pub tables : TablesHold names places nodes forms p known
-  pub roomy : Roomy raw nodes forms nowhere
+  pub tables : KnownHeld names places nodes p known
+  pub roomy : Roomy raw nodes nowhere
   pub nodes-within : p .nodes ≤ i
   pub forms-within : p .forms ≤ i
 
 -- The command is judged, and where it passes, the tables hold what is known after it.
-pub record CommandRead {text words lexemes names raw places nodes forms : List ℕ} {p : Progress} {i nowhere : ℕ}
-    (c : Commanded text words lexemes names raw places nodes forms p i nowhere) (namesAfter rawAfter placesAfter nodesAfter formsAfter : List ℕ) (s : Step)
+pub record CommandRead {text lexemes names raw places nodes : List ℕ} {p : Progress} {i nowhere : ℕ}
+    (c : Commanded text lexemes names raw places nodes p i nowhere) (namesAfter rawAfter placesAfter nodesAfter : List ℕ) (s : Step)
     : Type 0 where
-  pub reads : Reads (judged allowed nowhere (c .known) i (c .here .command) (knownAfter (c .known) (c .here .command))) namesAfter placesAfter nodesAfter
-      formsAfter s
-  pub roomy : Roomy rawAfter nodesAfter formsAfter nowhere
+  pub reads : Reads (judged allowed nowhere (c .known) i (c .here .command) (knownAfter (c .known) (c .here .command))) namesAfter placesAfter nodesAfter s
+  pub roomy : Roomy rawAfter nodesAfter nowhere
   pub nodes-within : s .number ≡ 0 → s .progress .nodes ≤ c .here .close
   pub forms-within : s .number ≡ 0 → s .progress .forms ≤ c .here .close
 
 -- The items of a lawful text of at most 4,096 words stand in its tables, and the tables for what is known have their sizes.
-pub record ScriptAt (text words lexemes names raw places nodes forms : List ℕ) (nowhere : ℕ) : Type 0 where
+pub record ScriptAt (text lexemes names raw places nodes : List ℕ) (nowhere : ℕ) : Type 0 where
   pub items : Items
-  pub stands : Stands (sourceOf text words lexemes) 0 items nowhere
-  pub lawful : Lawful (sourceOf text words lexemes) nowhere
+  pub stands : Stands (sourceOf text lexemes) 0 items nowhere
+  pub lawful : Lawful (sourceOf text lexemes) nowhere
   pub few : nowhere ≤ 4096
   pub table : Names names
   pub long : length places ≡ placesLength
-  pub roomy : Roomy raw nodes forms nowhere
+  pub roomy : Roomy raw nodes nowhere
 
--- The script is read: its first faulty command, or the tables hold what it says.
-abbrev pub ScriptRead : {text words lexemes names raw places nodes forms : List ℕ} {nowhere : ℕ}
-    → ScriptAt text words lexemes names raw places nodes forms nowhere → (namesAfter placesAfter nodesAfter formsAfter : List ℕ) → Step → Type 0
-ScriptRead {nowhere = nowhere} p namesAfter placesAfter nodesAfter formsAfter s =
-    Reads (readAll allowed nowhere start (p .items)) namesAfter placesAfter nodesAfter formsAfter s
+-- The script is read: its first faulty command, or the tables hold what it says, in no more rows of terms than words.
+pub record ScriptRead {text lexemes names raw places nodes : List ℕ} {nowhere : ℕ} (p : ScriptAt text lexemes names raw places nodes nowhere)
+    (namesAfter placesAfter nodesAfter : List ℕ) (s : Step) : Type 0 where
+  pub reads : Reads (readAll allowed nowhere nothingKnown (p .items)) namesAfter placesAfter nodesAfter s
+  pub nodes-within : s .number ≡ 0 → s .progress .nodes ≤ nowhere
 
 -- What is said before the first command, in numbers.
 abbrev pub nothingSaid : Progress
@@ -106,19 +104,19 @@ pub record Stepped (p : Progress) (code : ℕ) (v : Verdict) (s : Step) : Type 0
   pub progress-is : v .number ≡ 0 → s .progress ≡ saidBy p code (v .rows)
 
 -- A command of its shape stands at word i, the code is that of its word, and the tables hold what is known before it.
-pub record Shaped (text words lexemes names raw places nodes forms : List ℕ) (p : Progress) (code i nowhere : ℕ) : Type 0 where
-  pub commanded : Commanded text words lexemes names raw places nodes forms p i nowhere
+pub record Shaped (text lexemes names raw places nodes : List ℕ) (p : Progress) (code i nowhere : ℕ) : Type 0 where
+  pub commanded : Commanded text lexemes names raw places nodes p i nowhere
   pub shaped : commandShape (commanded .here .command) ≡ true
   pub coded : code ≡ codeAt lexemes (i + 1)
 
 -- The command is tested, and where it passes, the tables hold what is known after it.
-pub record CommandTested {text words lexemes names raw places nodes forms : List ℕ} {p : Progress} {code i nowhere : ℕ}
-    (c : Shaped text words lexemes names raw places nodes forms p code i nowhere) (namesAfter rawAfter placesAfter nodesAfter formsAfter : List ℕ) (v : Verdict)
+pub record CommandTested {text lexemes names raw places nodes : List ℕ} {p : Progress} {code i nowhere : ℕ}
+    (c : Shaped text lexemes names raw places nodes p code i nowhere) (namesAfter rawAfter placesAfter nodesAfter : List ℕ) (v : Verdict)
     : Type 0 where
   pub verdict-is : let known = c .commanded .known in let command = c .commanded .here .command in
       Says v (tested allowed nowhere known i command (knownAfter known command))
   pub tables : v .number ≡ 0
-      → TablesHold namesAfter placesAfter nodesAfter formsAfter (saidBy p code (v .rows)) (knownAfter (c .commanded .known) (c .commanded .here .command))
-  pub roomy : Roomy rawAfter nodesAfter formsAfter nowhere
+      → KnownHeld namesAfter placesAfter nodesAfter (saidBy p code (v .rows)) (knownAfter (c .commanded .known) (c .commanded .here .command))
+  pub roomy : Roomy rawAfter nodesAfter nowhere
   pub nodes-within : v .number ≡ 0 → saidBy p code (v .rows) .nodes ≤ c .commanded .here .close
   pub forms-within : v .number ≡ 0 → saidBy p code (v .rows) .forms ≤ c .commanded .here .close

@@ -3,6 +3,7 @@ use crate::Step;
 use crate::steps::answer;
 use crate::steps::out_of_place;
 use crate::steps::step_by;
+use carrying::not_carried;
 use defining::commands::constrain;
 use defining::commands::define_fun;
 use lexemes::code_at;
@@ -10,9 +11,9 @@ use lexemes::codes::CONSTRAINT;
 use lexemes::codes::DECLARE_VAR;
 use lexemes::codes::DEFINE_FUN;
 use lexemes::codes::SYNTH_FUN;
+use script::FORMS;
 use script::Progress;
 use script::Verdict;
-use shapes::carried::not_carried;
 use shapes::commands::command_shape;
 use synthesizing::command::synth_fun;
 use variables::command::declare_var;
@@ -33,55 +34,50 @@ fn passing(place: usize) -> Verdict
 // Tests the command of the code at a word, which is of its shape: 4, 7, 8 and 9.
 fn test_command(
     text: &[u8],
-    words: &[u32],
     lexemes: &[u64],
     names: &mut [u8],
     raw: &mut [u64],
     places: &mut [u64],
     nodes: &mut [u64],
-    forms: &mut [u64],
     progress: Progress,
     code: u64,
     at: usize,
     nowhere: usize,
 ) -> Verdict
-    requires { ⌜ Shaped (now text) (now words) (now lexemes) (now names) (now raw) (now places) (now nodes) (now forms) progress code at nowhere ⌝ }
-    ensures { λ r. ⌜ ((c : Shaped (now (text .entry)) (now (words .entry)) (now (lexemes .entry)) (now (names .entry)) (now (raw .entry)) (now (places .entry)) (now (nodes .entry)) (now (forms .entry)) progress code at nowhere) → CommandTested c (now (names .exit)) (now (raw .exit)) (now (places .exit)) (now (nodes .exit)) (now (forms .exit)) r) ⌝ }
+    requires { ⌜ Shaped (now text) (now lexemes) (now names) (now raw) (now places) (now nodes) progress code at nowhere ⌝ }
+    ensures { λ r. ⌜ ((c : Shaped (now (text .entry)) (now (lexemes .entry)) (now (names .entry)) (now (raw .entry)) (now (places .entry)) (now (nodes .entry)) progress code at nowhere) → CommandTested c (now (names .exit)) (now (raw .exit)) (now (places .exit)) (now (nodes .exit)) r) ⌝ }
 {
     match code {
-        DECLARE_VAR => declare_var(text, words, lexemes, names, progress, at, nowhere),
+        DECLARE_VAR => declare_var(text, lexemes, names, progress, at, nowhere),
         DEFINE_FUN => define_fun(
             text,
-            words,
             lexemes,
             names,
             raw,
             places,
-            nodes,
+            &mut nodes[..FORMS],
             progress,
             at,
             nowhere,
         ),
         SYNTH_FUN => synth_fun(
             text,
-            words,
             lexemes,
             names,
             raw,
             places,
-            forms,
+            &mut nodes[FORMS..],
             progress,
             at,
             nowhere,
         ),
         CONSTRAINT => constrain(
             text,
-            words,
             lexemes,
             names,
             raw,
             places,
-            nodes,
+            &mut nodes[..FORMS],
             progress,
             at,
             nowhere,
@@ -93,19 +89,17 @@ fn test_command(
 // Reads the command at a word: 6, 5, then 4, 7, 8 and 9 by its own tests.
 pub fn read_command(
     text: &[u8],
-    words: &[u32],
     lexemes: &[u64],
     names: &mut [u8],
     raw: &mut [u64],
     places: &mut [u64],
     nodes: &mut [u64],
-    forms: &mut [u64],
     progress: Progress,
     at: usize,
     nowhere: usize,
 ) -> Step
-    requires { ⌜ Commanded (now text) (now words) (now lexemes) (now names) (now raw) (now places) (now nodes) (now forms) progress at nowhere ⌝ }
-    ensures { λ r. ⌜ ((c : Commanded (now (text .entry)) (now (words .entry)) (now (lexemes .entry)) (now (names .entry)) (now (raw .entry)) (now (places .entry)) (now (nodes .entry)) (now (forms .entry)) progress at nowhere) → CommandRead c (now (names .exit)) (now (raw .exit)) (now (places .exit)) (now (nodes .exit)) (now (forms .exit)) r) ⌝ }
+    requires { ⌜ Commanded (now text) (now lexemes) (now names) (now raw) (now places) (now nodes) progress at nowhere ⌝ }
+    ensures { λ r. ⌜ ((c : Commanded (now (text .entry)) (now (lexemes .entry)) (now (names .entry)) (now (raw .entry)) (now (places .entry)) (now (nodes .entry)) progress at nowhere) → CommandRead c (now (names .exit)) (now (raw .exit)) (now (places .exit)) (now (nodes .exit)) r) ⌝ }
 {
     if not_carried(lexemes, at) {
         return answer(6, at, progress);
@@ -116,13 +110,11 @@ pub fn read_command(
     }
     let verdict = test_command(
         text,
-        words,
         lexemes,
         names,
         raw,
         places,
         nodes,
-        forms,
         progress,
         code,
         at,

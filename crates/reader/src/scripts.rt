@@ -38,17 +38,15 @@ fn end_of_script(progress: Progress, nowhere: usize) -> Step
 // Reads the commands of a script of so many words, up to the first faulty one.
 pub fn read_script(
     text: &[u8],
-    words: &[u32],
     lexemes: &[u64],
     names: &mut [u8],
     raw: &mut [u64],
     places: &mut [u64],
     nodes: &mut [u64],
-    forms: &mut [u64],
     nowhere: usize,
 ) -> Step
-    requires { ⌜ ScriptAt (now text) (now words) (now lexemes) (now names) (now raw) (now places) (now nodes) (now forms) nowhere ⌝ }
-    ensures { λ r. ⌜ ((p : ScriptAt (now (text .entry)) (now (words .entry)) (now (lexemes .entry)) (now (names .entry)) (now (raw .entry)) (now (places .entry)) (now (nodes .entry)) (now (forms .entry)) nowhere) → ScriptRead p (now (names .exit)) (now (places .exit)) (now (nodes .exit)) (now (forms .exit)) r) ⌝ }
+    requires { ⌜ ScriptAt (now text) (now lexemes) (now names) (now raw) (now places) (now nodes) nowhere ⌝ }
+    ensures { λ r. ⌜ ((p : ScriptAt (now (text .entry)) (now (lexemes .entry)) (now (names .entry)) (now (raw .entry)) (now (places .entry)) (now (nodes .entry)) nowhere) → ScriptRead p (now (names .exit)) (now (places .exit)) (now (nodes .exit)) r) ⌝ }
 {
     let mut progress = nothing_said();
     let mut at = 0;
@@ -58,13 +56,11 @@ pub fn read_script(
         }
         let step = read_command(
             text,
-            words,
             lexemes,
             names,
             raw,
             places,
             nodes,
-            forms,
             progress,
             at,
             nowhere,

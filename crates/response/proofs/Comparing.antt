@@ -10,18 +10,18 @@ use lib.Seq.{drop-at, getD-drop, length-take-le, sets, sets-eq}
 use borrow.Author.Tests.{le-ltb, lt-ltb}
 use Rattle.forest.specs.Forest.{Node, nodesOf, size, tree}
 use Rattle.forest.specs.Rows.{numberAt}
-use Rattle.words.specs.Trees.{Lexeme, list}
+use Rattle.scanning.specs.Trees.{Lexeme, list}
 use Rattle.lexemes.specs.Lists.{Items, inside, item}
 use Rattle.lexemes.specs.Standing.{ListAt, Stands}
 use Rattle.lexemes.specs.Table.{nextAt}
 use Rattle.lexemes.proofs.Listed.{as-item}
 use Rattle.lexemes.proofs.Standing.{by-itself, forward}
 use Rattle.grammar.specs.Tables.{formTable}
-use Rattle.sorting.specs.Tables.{RowIs, RowsAre, SortsAre, functionRow as signatureOfFunction}
+use Rattle.sorting.specs.Tables.{RowIs, RowsAre, SortsAre, functionSignature as signatureOfFunction}
 use Rattle.gathering.specs.Table.{rawTable, uncountedTable}
 use Rattle.gathering.specs.Terms.{Raw, rawTerm}
 use Rattle.gathering.proofs.Saying.{say-terms}
-use Rattle.naming.specs.Scopes.{Named as Argument, View, formOf, inOrder, signatureOf}
+use Rattle.naming.specs.Scopes.{Named as Argument, View, formsOf, inOrder, signatureOf}
 use Rattle.naming.specs.Steps.{Sees, sourceOf}
 use Rattle.naming.specs.Table.{functionRow, namesFrom, ownArgumentRow}
 use Rattle.naming.specs.Unknown.{unknownIn}
@@ -54,28 +54,28 @@ known-names nowhere view xs e h = omega (arith, unknown-below nowhere view xs)
 
 -- The forms of a term that are written from a row on stand there.
 pub forms-written : (view : View) (l : Lexeme) (ops : Items) (nodes : List ℕ) {nodesAfter : List ℕ} (base : ℕ)
-    → nodesAfter ≡ sets nodes (4 * base) (formTable (formOf view (rawTerm l ops))) → view .nonTerminals ≡ [] → 4 * (base + size (rawTerm l ops)) ≤ length nodes
+    → nodesAfter ≡ sets nodes (4 * base) (formTable (formsOf view (rawTerm l ops))) → view .nonTerminals ≡ [] → 4 * (base + size (rawTerm l ops)) ≤ length nodes
     → drop (4 * base) nodesAfter
-    ≡ formTable (formOf view (rawTerm l ops)) ++ drop (4 * base + length (formTable (formOf view (rawTerm l ops)))) nodes
+    ≡ formTable (formsOf view (rawTerm l ops)) ++ drop (4 * base + length (formTable (formsOf view (rawTerm l ops)))) nodes
 forms-written view l ops nodes base written closed room =
-    let table = formTable (formOf view (rawTerm l ops)) in
-    let long : length (formTable (formOf view (rawTerm l ops))) ≡ 4 * size (rawTerm l ops) =
+    let table = formTable (formsOf view (rawTerm l ops)) in
+    let long : length (formTable (formsOf view (rawTerm l ops))) ≡ 4 * size (rawTerm l ops) =
     ap length (term-table view closed l ops) ∙ length-table (termOf view l ops) ∙ ap (λ (n : ℕ). 4 * n) (term-size view closed l ops) in
     rw (written, sets-eq table nodes (4 * base) (omega arith), append-assoc (take (4 * base) nodes) table (drop (4 * base + length table) nodes))
     (drop-at (take (4 * base) nodes) (table ++ drop (4 * base + length table) nodes) (4 * base) (length-take-le (4 * base) nodes (omega arith)))
 
-module _ {text words lexemes names raw places nodes : List ℕ} {p : Progress} {at j base nowhere : ℕ}
-    (a : Answering text words lexemes names raw places nodes p at j base nowhere) where
+module _ {text lexemes names raw places nodes : List ℕ} {p : Progress} {at j base nowhere : ℕ}
+    (a : Answering text lexemes names raw places nodes p at j base nowhere) where
   -- The command's list.
   abbrev pub command-list : ListAt lexemes at
   command-list = record {
-    source = sourceOf text words lexemes;
+    source = sourceOf text lexemes;
     same = refl;
     close = a .close;
     operands = a .command;
     more = a .more;
     end = a .end;
-    stands = subst (λ (F : Items). Stands (sourceOf text words lexemes) at F (a .end)) (a .is) (a .reading .stands);
+    stands = subst (λ (F : Items). Stands (sourceOf text lexemes) at F (a .end)) (a .is) (a .reading .stands);
   }
 
   -- Its function is number j.
@@ -155,16 +155,16 @@ module _ {text words lexemes names raw places nodes : List ℕ} {p : Progress} {
         few-nonTerminals = omega arith;
       }
 
-module _ {text words lexemes names raw places nodes : List ℕ} {p : Progress} {at j rows base nowhere : ℕ} where
+module _ {text lexemes names raw places nodes : List ℕ} {p : Progress} {at j rows base nowhere : ℕ} where
   -- There is room for its nodes.
-  pub rows-room : Comparing text words lexemes names raw places nodes p at j rows base nowhere → 4 * (base + rows) ≤ length nodes
+  pub rows-room : Comparing text lexemes names raw places nodes p at j rows base nowhere → 4 * (base + rows) ≤ length nodes
   rows-room q =
       let a = q .asked in
       let r = a .reading in
       omega (arith, a .based, r .low, q .gathered .few, next-within (r .lawful .ends) (as-item (command-list a)), r .nodes-room)
 
   -- There are no more than there are sorts in the column.
-  pub rows-few : Comparing text words lexemes names raw places nodes p at j rows base nowhere → rows ≤ length noSorts
+  pub rows-few : Comparing text lexemes names raw places nodes p at j rows base nowhere → rows ≤ length noSorts
   rows-few q =
       let a = q .asked in
       let r = a .reading in
@@ -172,8 +172,8 @@ module _ {text words lexemes names raw places nodes : List ℕ} {p : Progress} {
 
   module _ {arguments : ℕ} (ea : arguments ≡ getD places (320 + 10 * j) 0) {result : ℕ} (er : result ≡ getD places (320 + 10 * j + 1) 0) where
     -- Its header may be compared.
-    abbrev pub header-compared : Comparing text words lexemes names raw places nodes p at j rows base nowhere
-        → Compared text words lexemes names at j arguments result
+    abbrev pub header-compared : Comparing text lexemes names raw places nodes p at j rows base nowhere
+        → Compared text lexemes names at j arguments result
     header-compared q =
         let a = q .asked in
         let mine = own a in
@@ -196,9 +196,9 @@ module _ {text words lexemes names raw places nodes : List ℕ} {p : Progress} {
           result-is = result-is a ea er;
         }
 
-    module _ {header : ℕ} (eh : (x : Compared text words lexemes names at j arguments result) → Differs x nowhere header) where
+    module _ {header : ℕ} (eh : (x : Compared text lexemes names at j arguments result) → Differs x nowhere header) where
       -- It differs.
-      pub header-differs : header < nowhere → (q : Comparing text words lexemes names raw places nodes p at j rows base nowhere)
+      pub header-differs : header < nowhere → (q : Comparing text lexemes names raw places nodes p at j rows base nowhere)
           → Matched q nodes (record { number = 12; place = header; rows = rows })
       unfolding matched
       header-differs h q =
@@ -212,8 +212,8 @@ module _ {text words lexemes names raw places nodes : List ℕ} {p : Progress} {
 
       module _ (hh : nowhere ≤ header) {seen : Seen} (ev : seen ≡ seenBy places p j) where
         -- Its names may be looked up.
-        abbrev pub names-sought : Comparing text words lexemes names raw places nodes p at j rows base nowhere
-            → Naming text words lexemes names raw nodes seen rows base nowhere
+        abbrev pub names-sought : Comparing text lexemes names raw places nodes p at j rows base nowhere
+            → Naming text lexemes names raw nodes seen rows base nowhere
         names-sought q =
             let a = q .asked in
             let g = q .gathered in
@@ -236,9 +236,9 @@ module _ {text words lexemes names raw places nodes : List ℕ} {p : Progress} {
             }
 
         module _ {rawAfter nodesAfter : List ℕ} {name : ℕ}
-            (en : (x : Naming text words lexemes names raw nodes seen rows base nowhere) → Named x rawAfter nodesAfter name) where
+            (en : (x : Naming text lexemes names raw nodes seen rows base nowhere) → Named x rawAfter nodesAfter name) where
           -- A name in it is not known.
-          pub name-unknown : name < nowhere → (q : Comparing text words lexemes names raw places nodes p at j rows base nowhere)
+          pub name-unknown : name < nowhere → (q : Comparing text lexemes names raw places nodes p at j rows base nowhere)
               → Matched q nodesAfter (record { number = 7; place = name; rows = rows })
           unfolding matched
           name-unknown h q =
@@ -253,7 +253,7 @@ module _ {text words lexemes names raw places nodes : List ℕ} {p : Progress} {
 
           module _ (hn : nowhere ≤ name) where
             -- Its sorts may be looked for.
-            abbrev pub sort-sought : Comparing text words lexemes names raw places nodes p at j rows base nowhere
+            abbrev pub sort-sought : Comparing text lexemes names raw places nodes p at j rows base nowhere
                 → BodySought rawAfter (drop (4 * base) nodesAfter) places noSorts rows result nowhere
             sort-sought q =
                 let a = q .asked in
@@ -266,7 +266,7 @@ module _ {text words lexemes names raw places nodes : List ℕ} {p : Progress} {
                 let n = en (names-sought q) in
                 record {
                   sought = record {
-                    source = sourceOf text words lexemes;
+                    source = sourceOf text lexemes;
                     lawful = a .reading .lawful;
                     F = rawTerm l ops;
                     rest = g .rest;
@@ -277,7 +277,7 @@ module _ {text words lexemes names raw places nodes : List ℕ} {p : Progress} {
                         (a .reading .lawful .ends) b);
                     view = view;
                     known = known-names nowhere view (nodesOf (rawTerm l ops)) (n .unknown-is) hn;
-                    more = drop (4 * base + length (formTable (formOf view (rawTerm l ops)))) nodes;
+                    more = drop (4 * base + length (formTable (formsOf view (rawTerm l ops)))) nodes;
                     is-forms = forms-written view l ops nodes base (n .nodes-are) refl (rw (g .counted) at (rows-room q));
                     signed = view-signed a;
                     room = rows-few q;
@@ -290,13 +290,13 @@ module _ {text words lexemes names raw places nodes : List ℕ} {p : Progress} {
 
             module _ {sort : ℕ} (es : (x : BodySought rawAfter (drop (4 * base) nodesAfter) places noSorts rows result nowhere) → BodyFound x sort) where
               -- The word at fault is that of the function's sort.
-              sort-is : (q : Comparing text words lexemes names raw places nodes p at j rows base nowhere)
+              sort-is : (q : Comparing text lexemes names raw places nodes p at j rows base nowhere)
                   → sort ≡ bodyFault nowhere (responseView (q .asked .known .defined) (q .asked .function)) (q .asked .function .result) (item 4
                   (q .asked .command)) (inside 4 (q .asked .command))
               sort-is q = let r = result-is (q .asked) ea er in rw (← r) (es (sort-sought q))
 
               -- A sort in it is at fault.
-              pub sort-differs : sort < nowhere → (q : Comparing text words lexemes names raw places nodes p at j rows base nowhere)
+              pub sort-differs : sort < nowhere → (q : Comparing text lexemes names raw places nodes p at j rows base nowhere)
                   → Matched q nodesAfter (record { number = 8; place = sort; rows = rows })
               unfolding matched
               sort-differs h q =
@@ -311,7 +311,7 @@ module _ {text words lexemes names raw places nodes : List ℕ} {p : Progress} {
                   }
 
               -- It passes.
-              pub matches : nowhere ≤ sort → (q : Comparing text words lexemes names raw places nodes p at j rows base nowhere)
+              pub matches : nowhere ≤ sort → (q : Comparing text lexemes names raw places nodes p at j rows base nowhere)
                   → Matched q nodesAfter (record { number = 0; place = sort; rows = rows })
               unfolding matched
               matches h q =

@@ -13,7 +13,7 @@ use Rattle.lexemes.specs.Standing.{Between, ListAt, Stands}
 use Rattle.lexemes.specs.Table.{codeAt, nextAt}
 use Rattle.lexemes.proofs.ByCode.{codeFor, front-word}
 use Rattle.lexemes.proofs.Listed.{between, first-code}
-use Rattle.shapes.specs.Carried.{anyUncarried}
+use Rattle.carrying.specs.Carried.{anyUncarried}
 use Rattle.shapes.specs.Shapes.{defineFunShape}
 use Rattle.sorts.specs.Steps.{HeaderAt}
 use Rattle.gathering.specs.Terms.{nodeWord, rawTerm}

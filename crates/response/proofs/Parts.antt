@@ -8,7 +8,7 @@ use lib.Dec.{eqb}
 use Rattle.forest.specs.Forest.{count, none, size, tree}
 use Rattle.forest.specs.Lists.{sameBytes}
 use Rattle.forest.proofs.Bools.{and-right, apart}
-use Rattle.words.specs.Trees.{Lexeme, list, literal, numeral, symbol, wordOf}
+use Rattle.scanning.specs.Trees.{Lexeme, list, literal, numeral, symbol, wordOf}
 use Rattle.lexemes.specs.Lists.{Items, inside, is, isList, isSymbol, item}
 use Rattle.lexemes.specs.Standing.{ItemAt, ListAt}
 use Rattle.lexemes.specs.Table.{codeAt, nextAt}

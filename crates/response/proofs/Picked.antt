@@ -1,17 +1,21 @@
--- Functions in script order: function j of them, and what the tables have of it; and the `define-fun`s that stand before it.
+-- Functions in script order: function j of them, and what the tables have of it and of its body; and the `define-fun`s that stand before it.
 use Prim.Native.Nat.{ℕ, zero, suc, _+_, _-_, _≤_, _<_}
 use native.Mathlib.Numerals.{add-one}
 use native.Mathlib.Omega.{arith}
 use mathlib.Core.Path.{_≡_, refl, sym, ap, _∙_, subst}
 use mathlib.Core.List.{List, [], _∷_, _++_, map}
-use lib.ListN.{drop, length, length-append, length-map}
+use lib.ListN.{drop, getD, length, length-append, length-map}
 use lib.Seq.{drop-nil}
+use Rattle.forest.proofs.Lists.{within as below}
+use Rattle.terms.specs.Labels.{Terms}
+use Rattle.meaning.specs.Tables.{TermStands, mostDefined}
 use Rattle.sorting.specs.Tables.{RowIs, RowsAre}
-use Rattle.naming.specs.Scopes.{Defined, Function, definedNames, functionNames, inOrder, namesOf, signatureOf, sortsOf}
+use Rattle.naming.specs.Scopes.{Defined, Function, definedNames, functionNames, inOrder, namesOf, signatureOf, namedSorts}
 use Rattle.naming.specs.Table.{nameIn, namesFrom, ownArgumentRow, sortsFrom}
 use Rattle.naming.proofs.Putting.{last-row}
-use Rattle.script.specs.Tables.{ArgumentsHold, GrammarHeld, GrammarsHold, definedSignatures}
-use Rattle.response.specs.Response.{inScriptOrder}
+use Rattle.script.specs.Tables.{ArgumentsHold, GrammarHeld, GrammarsHold, bodiesPlace, definedSignatures, firstsPlace}
+use Rattle.response.specs.Response.{Body, inScriptOrder}
+use Rattle.response.specs.Steps.{ResponseAt}
 
 -- The function is number j of functions that stand the last first.
 pub data At : (fs : List Function) → (j : ℕ) → Function → Type 0 where
@@ -67,7 +71,7 @@ last-same (a ∷ xs) (b ∷ ys) x y e =
 -- What the table of names has of a function's arguments.
 pub record Own (names : List ℕ) (j : ℕ) (f : Function) : Type 0 where
   pub names-are : namesFrom names (ownArgumentRow j) (length (f .arguments)) ≡ namesOf (f .arguments)
-  pub sorts-are : sortsFrom names (ownArgumentRow j) (length (f .arguments)) ≡ sortsOf (f .arguments)
+  pub sorts-are : sortsFrom names (ownArgumentRow j) (length (f .arguments)) ≡ namedSorts (f .arguments)
   pub few : length (f .arguments) ≤ 8
 
 -- The last of names in rows, and those before it.
@@ -105,6 +109,12 @@ unfolding GrammarsHold
 grammar-at (last e) held = rw e (held .0)
 grammar-at (before a) held = grammar-at a (held .1)
 
+-- What every function has, function j has.
+pub each : {Has : Function → Type 0} {All : List Function → Type 0} → ((f : Function) (others : List Function) → All (f ∷ others) → Has f × All others)
+    → {fs : List Function} {j : ℕ} {f : Function} → At fs j f → All fs → Has f
+each parts (last {f} {earlier} e) all = parts f earlier all .0
+each {Has = Has} {All = All} parts (before {f} {g} {earlier} a) all = each {Has = Has} {All = All} parts a (parts f earlier all .1)
+
 -- It is one of them.
 pub at-below : {fs : List Function} {j : ℕ} {f : Function} → At fs j f → j < length fs
 at-below (last e) = omega arith
@@ -126,3 +136,19 @@ unfolding RowsAre
 rows-before places base zero defs h = h
 rows-before places base (suc n) [] h = h
 rows-before places base (suc n) (d ∷ earlier) h = rows-before places base n earlier (h .1)
+
+-- The body of function j begins at its node, and its first word stands in the table.
+pub record BodyAt (all : Terms) (places : List ℕ) (j : ℕ) (b : Body) : Type 0 where
+  pub begins : TermStands all (getD places (bodiesPlace + mostDefined + j) 0) (b .term)
+  pub first-is : getD places (firstsPlace + j) 0 ≡ b .first
+
+-- Of bodies from that of function m on, the one that has n before it.
+pub body-at : {all : Terms} {places : List ℕ} (m n j : ℕ) (bs : List Body) {b : Body} {more : List Body} → j ≡ m + n → ResponseAt all places m bs
+    → drop n bs ≡ b ∷ more → BodyAt all places j b
+unfolding ResponseAt
+body-at m n j [] {b} {more} e held is = absurd (omega (arith, below [] n b more is))
+body-at m zero j (c ∷ bs) {b} e held is =
+    let same : c ≡ b = cc in
+    let here : j ≡ m = omega arith in
+    rw (here, ← same) (record { begins = held .0; first-is = held .1 })
+body-at m (suc n) j (c ∷ bs) e held is = body-at (m + 1) n j bs (omega arith) (held .2) is

@@ -7,7 +7,7 @@ use mathlib.Core.List.{List, [], _∷_, _++_}
 use lib.ListN.{drop, length, length-drop}
 use lib.Seq.{drop-drop}
 use Rattle.forest.specs.Forest.{none, tree}
-use Rattle.words.specs.Trees.{Lexeme, list, wordOf}
+use Rattle.scanning.specs.Trees.{Lexeme, list, wordOf}
 use Rattle.lexemes.specs.Lists.{Items, isList}
 use Rattle.lexemes.specs.Standing.{ItemAt, ListAt, Stands}
 use Rattle.lexemes.specs.Table.{codeAt, nextAt, openCode}
@@ -76,45 +76,45 @@ drop-next (f ∷ fs) (suc n) h =
     let e : suc n + 1 ≡ suc (n + 1) = omega arith in
     record { function = r .function; later = r .later; is = r .is; behind = rw e (r .behind) }
 
-module _ {text words lexemes names raw places nodes : List ℕ} {p : Progress} {at close j rows nowhere : ℕ} where
+module _ {text lexemes names raw places nodes : List ℕ} {p : Progress} {at close j rows nowhere : ℕ} where
   -- The item at the word.
-  abbrev item-here : (a : AnyReading text words lexemes names raw places nodes p at close j rows nowhere) → Tree (a .reading .items) → ItemAt lexemes at
+  abbrev item-here : (a : AnyReading text lexemes names raw places nodes p at close j rows nowhere) → Tree (a .reading .items) → ItemAt lexemes at
   item-here a t = record {
-    source = sourceOf text words lexemes;
+    source = sourceOf text lexemes;
     same = refl;
     label = t .l;
     operands = t .ops;
     more = t .rest;
     end = close;
-    stands = subst (λ (F : Items). Stands (sourceOf text words lexemes) at F close) (t .is) (a .reading .stands);
+    stands = subst (λ (F : Items). Stands (sourceOf text lexemes) at F close) (t .is) (a .reading .stands);
   }
 
   -- The rows that are taken are within the table of nodes.
-  pub base-room : AnyReading text words lexemes names raw places nodes p at close j rows nowhere → p .nodes + rows ≤ length nodes
+  pub base-room : AnyReading text lexemes names raw places nodes p at close j rows nowhere → p .nodes + rows ≤ length nodes
   base-room a =
       let r = a .reading in
       let x = item-here a (some-left (r .stands) (a .some)) in
       omega (arith, r .low, r .nodes-room, r .lawful .ends at (omega (arith, at-item x .code, code-pos (x .label))))
 
   -- It is a list.
-  record Listed (a : AnyReading text words lexemes names raw places nodes p at close j rows nowhere) : Type 0 where
+  record Listed (a : AnyReading text lexemes names raw places nodes p at close j rows nowhere) : Type 0 where
     last : ℕ
     command : Items
     more : Items
     is : a .reading .items ≡ tree (list at last) command more
-    stands : Stands (sourceOf text words lexemes) (nextAt lexemes at) more close
+    stands : Stands (sourceOf text lexemes) (nextAt lexemes at) more close
 
   -- Its shape and limits may be tested.
-  abbrev list-of : (a : AnyReading text words lexemes names raw places nodes p at close j rows nowhere) → Listed a → ListIn lexemes raw at nowhere
+  abbrev list-of : (a : AnyReading text lexemes names raw places nodes p at close j rows nowhere) → Listed a → ListIn lexemes raw at nowhere
   list-of a l = record {
     here = record {
-      source = sourceOf text words lexemes;
+      source = sourceOf text lexemes;
       same = refl;
       close = l .last;
       operands = l .command;
       more = l .more;
       end = close;
-      stands = subst (λ (F : Items). Stands (sourceOf text words lexemes) at F close) (l .is) (a .reading .stands);
+      stands = subst (λ (F : Items). Stands (sourceOf text lexemes) at F close) (l .is) (a .reading .stands);
     };
     ends = a .reading .lawful .ends;
     room = a .reading .raw-room;
@@ -122,7 +122,7 @@ module _ {text words lexemes names raw places nodes : List ℕ} {p : Progress} {
 
   module _ {code : ℕ} (ec : code ≡ codeAt lexemes at) where
     -- It is no list.
-    pub word-read : (code ≡ openCode → ⊥) → (a : AnyReading text words lexemes names raw places nodes p at close j rows nowhere)
+    pub word-read : (code ≡ openCode → ⊥) → (a : AnyReading text lexemes names raw places nodes p at close j rows nowhere)
         → ItemRead a places nodes (record { number = 5; place = at; rows = 0 })
     word-read other a =
         let r = a .reading in
@@ -139,7 +139,7 @@ module _ {text words lexemes names raw places nodes : List ℕ} {p : Progress} {
 
     module _ (eo : code ≡ openCode) where
       -- A list stands there.
-      listed : (a : AnyReading text words lexemes names raw places nodes p at close j rows nowhere) → Listed a
+      listed : (a : AnyReading text lexemes names raw places nodes p at close j rows nowhere) → Listed a
       listed a =
           let t = some-left (a .reading .stands) (a .some) in
           let x = item-here a t in
@@ -153,12 +153,12 @@ module _ {text words lexemes names raw places nodes : List ℕ} {p : Progress} {
           }
 
       -- Its shape and limits are asked for.
-      pub extra-list : AnyReading text words lexemes names raw places nodes p at close j rows nowhere → ListIn lexemes raw at nowhere
+      pub extra-list : AnyReading text lexemes names raw places nodes p at close j rows nowhere → ListIn lexemes raw at nowhere
       extra-list a = list-of a (listed a)
 
       -- No function is left.
       pub extra-read : j ≡ p .functions → {v : Verdict} → ((x : ListIn lexemes raw at nowhere) → Extra x v)
-          → (a : AnyReading text words lexemes names raw places nodes p at close j rows nowhere) → ItemRead a places nodes v
+          → (a : AnyReading text lexemes names raw places nodes p at close j rows nowhere) → ItemRead a places nodes v
       extra-read ej by a =
           let l = listed a in
           let e = by (list-of a l) in
@@ -175,14 +175,14 @@ module _ {text words lexemes names raw places nodes : List ℕ} {p : Progress} {
 
       module _ (ne : j ≡ p .functions → ⊥) {base : ℕ} (eb : base ≡ p .nodes + rows) where
         -- The next function.
-        next-function : (a : AnyReading text words lexemes names raw places nodes p at close j rows nowhere) → Next (inScriptOrder (a .known .functions)) j
+        next-function : (a : AnyReading text lexemes names raw places nodes p at close j rows nowhere) → Next (inScriptOrder (a .known .functions)) j
         next-function a =
             drop-next (inScriptOrder (a .known .functions)) j
             (omega (arith, a .reading .passed, a .reading .counted .functions-are, order-length (a .known .functions)))
 
         -- The list is for it.
-        abbrev for-next : (a : AnyReading text words lexemes names raw places nodes p at close j rows nowhere) → Listed a
-            → Next (inScriptOrder (a .known .functions)) j → Answering text words lexemes names raw places nodes p at j base nowhere
+        abbrev for-next : (a : AnyReading text lexemes names raw places nodes p at close j rows nowhere) → Listed a
+            → Next (inScriptOrder (a .known .functions)) j → Answering text lexemes names raw places nodes p at j base nowhere
         for-next a l n = record {
           known = a .known;
           end = close;
@@ -199,14 +199,14 @@ module _ {text words lexemes names raw places nodes : List ℕ} {p : Progress} {
         }
 
         -- It is asked for.
-        pub body-asked : AnyReading text words lexemes names raw places nodes p at close j rows nowhere
-            → Answering text words lexemes names raw places nodes p at j base nowhere
+        pub body-asked : AnyReading text lexemes names raw places nodes p at close j rows nowhere
+            → Answering text lexemes names raw places nodes p at j base nowhere
         body-asked a = for-next a (listed a) (next-function a)
 
         -- It is read.
         pub body-read : {placesAfter nodesAfter : List ℕ} {v : Verdict}
-            → ((q : Answering text words lexemes names raw places nodes p at j base nowhere) → Taken q placesAfter nodesAfter v)
-            → (a : AnyReading text words lexemes names raw places nodes p at close j rows nowhere) → ItemRead a placesAfter nodesAfter v
+            → ((q : Answering text lexemes names raw places nodes p at j base nowhere) → Taken q placesAfter nodesAfter v)
+            → (a : AnyReading text lexemes names raw places nodes p at close j rows nowhere) → ItemRead a placesAfter nodesAfter v
         body-read {placesAfter} {nodesAfter} {v} by a =
             let l = listed a in
             let n = next-function a in

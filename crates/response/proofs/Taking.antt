@@ -8,7 +8,7 @@ use lib.ListN.{drop, getD, length, set}
 use lib.Seq.{sets}
 use Rattle.forest.specs.Forest.{join, size, tree}
 use Rattle.terms.specs.Labels.{Terms}
-use Rattle.meaning.specs.Tables.{Stands as TermStands}
+use Rattle.meaning.specs.Tables.{TermStands}
 use Rattle.lexemes.specs.Lists.{Items, inside, item}
 use Rattle.lexemes.specs.Table.{nextAt}
 use Rattle.lexemes.proofs.Standing.{by-itself}
@@ -34,13 +34,13 @@ judged-is : (nowhere : ℕ) (defs : List Defined) (f : Function) (at : ℕ) (c :
 unfolding judgedBody matched outlined
 judged-is nowhere defs f at c later = refl
 
-module _ {text words lexemes names raw places nodes : List ℕ} {p : Progress} {at j base nowhere : ℕ} where
+module _ {text lexemes names raw places nodes : List ℕ} {p : Progress} {at j base nowhere : ℕ} where
   -- Its shape and limits may be tested.
-  abbrev pub list-in : Answering text words lexemes names raw places nodes p at j base nowhere → ListIn lexemes raw at nowhere
+  abbrev pub list-in : Answering text lexemes names raw places nodes p at j base nowhere → ListIn lexemes raw at nowhere
   list-in a = record { here = command-list a; ends = a .reading .lawful .ends; room = a .reading .raw-room }
 
   -- The tables hold what is known in `base` rows.
-  abbrev held-in : (a : Answering text words lexemes names raw places nodes p at j base nowhere) → PlacesHold places nodes base (a .known)
+  abbrev held-in : (a : Answering text lexemes names raw places nodes p at j base nowhere) → PlacesHold places nodes base (a .known)
   held-in a =
       let h = a .reading .places-hold in
       record {
@@ -58,7 +58,7 @@ module _ {text words lexemes names raw places nodes : List ℕ} {p : Progress} {
 
   module _ {rawAfter : List ℕ} {v : Verdict} (eo : (x : ListIn lexemes raw at nowhere) → Outlined x rawAfter v) where
     -- It is refused by its shape or a limit.
-    pub outline-stops : (v .number ≡ 0 → ⊥) → (a : Answering text words lexemes names raw places nodes p at j base nowhere) → Taken a places nodes v
+    pub outline-stops : (v .number ≡ 0 → ⊥) → (a : Answering text lexemes names raw places nodes p at j base nowhere) → Taken a places nodes v
     outline-stops ne a = record {
       stops = λ some later. judged-is nowhere (a .known .defined) (a .function) at (a .command) later ∙ eo (list-in a) .stops some _;
       goes-on = λ z. absurd (ne z);
@@ -69,8 +69,8 @@ module _ {text words lexemes names raw places nodes : List ℕ} {p : Progress} {
 
     module _ (z : v .number ≡ 0) where
       -- The same, with the nodes of its body gathered.
-      abbrev pub to-compare : Answering text words lexemes names raw places nodes p at j base nowhere
-          → Comparing text words lexemes names rawAfter places nodes p at j (v .rows) base nowhere
+      abbrev pub to-compare : Answering text lexemes names raw places nodes p at j base nowhere
+          → Comparing text lexemes names rawAfter places nodes p at j (v .rows) base nowhere
       to-compare a =
           let r = a .reading in
           let o = eo (list-in a) in
@@ -107,9 +107,9 @@ module _ {text words lexemes names raw places nodes : List ℕ} {p : Progress} {
           }
 
       module _ {nodesAfter : List ℕ} {h : Verdict}
-          (eh : (q : Comparing text words lexemes names rawAfter places nodes p at j (v .rows) base nowhere) → Matched q nodesAfter h) where
+          (eh : (q : Comparing text lexemes names rawAfter places nodes p at j (v .rows) base nowhere) → Matched q nodesAfter h) where
         -- It is refused by 12, 7 or 8.
-        pub matched-stops : (h .number ≡ 0 → ⊥) → (a : Answering text words lexemes names raw places nodes p at j base nowhere) → Taken a places nodesAfter h
+        pub matched-stops : (h .number ≡ 0 → ⊥) → (a : Answering text lexemes names raw places nodes p at j base nowhere) → Taken a places nodesAfter h
         matched-stops ne a = record {
           stops = λ some later.
               judged-is nowhere (a .known .defined) (a .function) at (a .command) later ∙ eo (list-in a) .goes-on z _ ∙ eh (to-compare a) .stops some _;
@@ -121,7 +121,7 @@ module _ {text words lexemes names raw places nodes : List ℕ} {p : Progress} {
 
         module _ (zh : h .number ≡ 0) where
           -- The nodes of its body are written behind the others.
-          grown : (a : Answering text words lexemes names raw places nodes p at j base nowhere)
+          grown : (a : Answering text lexemes names raw places nodes p at j base nowhere)
               → Grown nodes base (h .rows) (bodyOf (a .known .defined) (a .function) (a .command) .term) nodesAfter
           grown a =
               let q = to-compare a in
@@ -135,7 +135,7 @@ module _ {text words lexemes names raw places nodes : List ℕ} {p : Progress} {
               let sized = term-size view refl l ops in
               let taken = m .taken in
               record {
-                plain = term-plain view refl l ops (sourceOf text words lexemes) (a .reading .lawful) (say-terms false (by-itself refl (b .stands)) shape);
+                plain = term-plain view refl l ops (sourceOf text lexemes) (a .reading .lawful) (say-terms false (by-itself refl (b .stands)) shape);
                 label = _;
                 operands = _;
                 single = term-tree view refl l ops;
@@ -147,7 +147,7 @@ module _ {text words lexemes names raw places nodes : List ℕ} {p : Progress} {
           module _ {placesAfter : List ℕ} {first : ℕ} (ef : first ≡ bodyAt lexemes at)
               (put : placesAfter ≡ set (set places (592 + j) base) (2744 + j) first) where
             -- Its body stands in the tables.
-            body-taken : (a : Answering text words lexemes names raw places nodes p at j base nowhere)
+            body-taken : (a : Answering text lexemes names raw places nodes p at j base nowhere)
                 → OneMore places base (a .known) (a .reading .places-hold .all) j (bodyOf (a .known .defined) (a .function)
                 (a .command)) placesAfter nodesAfter (h .rows)
             body-taken a =
@@ -168,7 +168,7 @@ module _ {text words lexemes names raw places nodes : List ℕ} {p : Progress} {
                 }
 
             -- It passes.
-            pub body-passes : (a : Answering text words lexemes names raw places nodes p at j base nowhere) → Taken a placesAfter nodesAfter h
+            pub body-passes : (a : Answering text lexemes names raw places nodes p at j base nowhere) → Taken a placesAfter nodesAfter h
             body-passes a =
                 let counted = a .reading .counted in
                 let few = to-compare a .gathered .few in

@@ -8,9 +8,9 @@ use mathlib.Core.List.{List, [], _∷_, _++_}
 use lib.ListN.{drop, getD, length, length-append}
 use Rattle.forest.specs.Forest.{count, none, tree}
 use Rattle.forest.specs.Lists.{sameBytes}
-use Rattle.words.specs.Trees.{Lexeme, list, wordOf}
+use Rattle.scanning.specs.Trees.{Lexeme, list, wordOf}
 use Rattle.terms.specs.Labels.{Terms}
-use Rattle.meaning.specs.Tables.{Stands as TermStands}
+use Rattle.meaning.specs.Tables.{TermStands}
 use Rattle.lexemes.specs.Lists.{Items, isList}
 use Rattle.lexemes.specs.Standing.{ItemAt, Stands}
 use Rattle.lexemes.specs.Table.{codeAt, nextAt, openCode}
@@ -25,7 +25,7 @@ use Rattle.script.specs.Script.{Known}
 use Rattle.script.specs.Tables.{GrammarsHold, PlacesHold, functionsPlace}
 use Rattle.script.specs.declared.Progress.{Progress}
 use Rattle.script.specs.declared.Verdict.{Verdict}
-use Rattle.response.specs.Response.{Answered, Body, answered, bodies, ending, inScriptOrder, judgedAll, refused, withBody}
+use Rattle.response.specs.Response.{Answered, Body, answered, bodies, nothingBehind, inScriptOrder, judgedAll, refused, withBody}
 use Rattle.response.specs.Steps.{Answers, AnyReading, BodiesHeld, ItemRead, Reading, Responded, Responding, ResponseAt}
 use Rattle.response.proofs.Picked.{order-length}
 use Rattle.response.proofs.Reading.{drop-next, drop-none}
@@ -79,7 +79,7 @@ response-more all places m j (a ∷ bs) b e held node first =
 
 -- A response that begins with a list.
 answered-list : (nowhere : ℕ) (defs : List Defined) (fs : List Function) (at close : ℕ) (c more : Items)
-    → answered allowed nowhere defs fs (tree (list at close) c more) ≡ judgedAll allowed nowhere defs close fs c (ending more)
+    → answered allowed nowhere defs fs (tree (list at close) c more) ≡ judgedAll allowed nowhere defs close fs c (nothingBehind more)
 unfolding answered count sameBytes
 answered-list nowhere defs fs at close c more = refl
 
@@ -109,54 +109,54 @@ rebased e h = record {
   constraints-at = h .constraints-at;
 }
 
-module _ {text words lexemes names raw₀ places₀ nodes₀ : List ℕ} {p : Progress} {nowhere : ℕ} where
+module _ {text lexemes names raw₀ places₀ nodes₀ : List ℕ} {p : Progress} {nowhere : ℕ} where
   -- So many bodies were read, and what is left gives the response.
-  pub record Turn (q : Responding text words lexemes names raw₀ places₀ nodes₀ p nowhere) (raw places nodes : List ℕ) (close at j rows : ℕ) : Type 0 where
-    pub reading : Reading text words lexemes names raw places nodes p at close j rows nowhere (q .known)
+  pub record Turn (q : Responding text lexemes names raw₀ places₀ nodes₀ p nowhere) (raw places nodes : List ℕ) (close at j rows : ℕ) : Type 0 where
+    pub reading : Reading text lexemes names raw places nodes p at close j rows nowhere (q .known)
     pub same-forms : reading .forms ≡ q .forms
     pub done : List Body
     pub counted : length done ≡ j
     pub bodies-at : ResponseAt (reading .places-hold .all) places 0 done
     pub more : Items
-    pub behind : Stands (sourceOf text words lexemes) (close + 1) more nowhere
+    pub behind : Stands (sourceOf text lexemes) (close + 1) more nowhere
     pub owed : answered allowed nowhere (q .known .defined) (inScriptOrder (q .known .functions)) (q .items)
         ≡ withBodies done
-        (judgedAll allowed nowhere (q .known .defined) close (drop j (inScriptOrder (q .known .functions))) (reading .items) (ending more))
+        (judgedAll allowed nowhere (q .known .defined) close (drop j (inScriptOrder (q .known .functions))) (reading .items) (nothingBehind more))
 
 -- The loop's invariant.
-pub record Going (text words lexemes names raw₀ places₀ nodes₀ : List ℕ) (p : Progress) (nowhere : ℕ) (raw places nodes : List ℕ) (close at j rows : ℕ)
+pub record Going (text lexemes names raw₀ places₀ nodes₀ : List ℕ) (p : Progress) (nowhere : ℕ) (raw places nodes : List ℕ) (close at j rows : ℕ)
     : Type 0 where
-  pub given : Responding text words lexemes names raw₀ places₀ nodes₀ p nowhere
+  pub given : Responding text lexemes names raw₀ places₀ nodes₀ p nowhere
   pub same-raw : length raw ≡ length raw₀
   pub same-places : length places ≡ length places₀
   pub same-nodes : length nodes ≡ length nodes₀
   pub few : j ≤ 8
-  pub each : (q : Responding text words lexemes names raw₀ places₀ nodes₀ p nowhere) → Turn q raw places nodes close at j rows
+  pub each : (q : Responding text lexemes names raw₀ places₀ nodes₀ p nowhere) → Turn q raw places nodes close at j rows
 
-module _ {text words lexemes names raw₀ places₀ nodes₀ : List ℕ} {p : Progress} {nowhere : ℕ} where
+module _ {text lexemes names raw₀ places₀ nodes₀ : List ℕ} {p : Progress} {nowhere : ℕ} where
   -- The first item.
-  abbrev pub first-item : (q : Responding text words lexemes names raw₀ places₀ nodes₀ p nowhere) → Tree (q .items) → ItemAt lexemes 0
+  abbrev pub first-item : (q : Responding text lexemes names raw₀ places₀ nodes₀ p nowhere) → Tree (q .items) → ItemAt lexemes 0
   first-item q t = record {
-    source = sourceOf text words lexemes;
+    source = sourceOf text lexemes;
     same = refl;
     label = t .l;
     operands = t .ops;
     more = t .rest;
     end = nowhere;
-    stands = subst (λ (F : Items). Stands (sourceOf text words lexemes) 0 F nowhere) (t .is) (q .stands);
+    stands = subst (λ (F : Items). Stands (sourceOf text lexemes) 0 F nowhere) (t .is) (q .stands);
   }
 
   module _ {next : ℕ} (en : next ≡ nextAt lexemes 0) (eo : codeAt lexemes 0 ≡ openCode) where
     -- There is one.
-    first-some : (q : Responding text words lexemes names raw₀ places₀ nodes₀ p nowhere) → Tree (q .items)
+    first-some : (q : Responding text lexemes names raw₀ places₀ nodes₀ p nowhere) → Tree (q .items)
     first-some q = some-left (q .stands) (q .lawful .ends 0 (omega (arith, eo)))
 
     -- It ends behind its first word.
-    pub first-ahead : Responding text words lexemes names raw₀ places₀ nodes₀ p nowhere → 1 ≤ next
+    pub first-ahead : Responding text lexemes names raw₀ places₀ nodes₀ p nowhere → 1 ≤ next
     first-ahead q = omega (arith, en, at-item (first-item q (first-some q)) .ahead)
 
     -- Nothing is read at the start.
-    start-turn : (q : Responding text words lexemes names raw₀ places₀ nodes₀ p nowhere) → Turn q raw₀ places₀ nodes₀ (next - 1) 1 0 0
+    start-turn : (q : Responding text lexemes names raw₀ places₀ nodes₀ p nowhere) → Turn q raw₀ places₀ nodes₀ (next - 1) 1 0 0
     unfolding ResponseAt withBodies
     start-turn q =
         let t = first-some q in
@@ -190,37 +190,37 @@ module _ {text words lexemes names raw₀ places₀ nodes₀ : List ℕ} {p : Pr
           more = t .rest;
           behind = rw past (at-item x .rest);
           owed = ap (answered allowed nowhere defs order) is ∙ answered-list nowhere defs order 0 (h .close) (t .ops) (t .rest)
-              ∙ ap (λ (n : ℕ). judgedAll allowed nowhere defs n order (t .ops) (ending (t .rest))) (sym ends);
+              ∙ ap (λ (n : ℕ). judgedAll allowed nowhere defs n order (t .ops) (nothingBehind (t .rest))) (sym ends);
         }
 
     -- The loop may start.
-    pub going-start : Responding text words lexemes names raw₀ places₀ nodes₀ p nowhere
-        → Going text words lexemes names raw₀ places₀ nodes₀ p nowhere raw₀ places₀ nodes₀ (next - 1) 1 0 0
+    pub going-start : Responding text lexemes names raw₀ places₀ nodes₀ p nowhere
+        → Going text lexemes names raw₀ places₀ nodes₀ p nowhere raw₀ places₀ nodes₀ (next - 1) 1 0 0
     going-start q =
         record { given = q; same-raw = refl; same-places = refl; same-nodes = refl; few = omega arith; each = start-turn }
 
   module _ {raw places nodes : List ℕ} {close at j rows : ℕ}
-      (g : Going text words lexemes names raw₀ places₀ nodes₀ p nowhere raw places nodes close at j rows) where
+      (g : Going text lexemes names raw₀ places₀ nodes₀ p nowhere raw places nodes close at j rows) where
     module _ (some : at < close) where
       -- An item is left.
-      abbrev left-of : (q : Responding text words lexemes names raw₀ places₀ nodes₀ p nowhere)
-          → AnyReading text words lexemes names raw places nodes p at close j rows nowhere
+      abbrev left-of : (q : Responding text lexemes names raw₀ places₀ nodes₀ p nowhere)
+          → AnyReading text lexemes names raw places nodes p at close j rows nowhere
       left-of q = record { known = q .known; reading = g .each q .reading; some = some }
 
       -- It may be read.
-      pub item-asked : AnyReading text words lexemes names raw places nodes p at close j rows nowhere
+      pub item-asked : AnyReading text lexemes names raw places nodes p at close j rows nowhere
       item-asked = left-of (g .given)
 
       module _ {placesAfter nodesAfter : List ℕ} {v : Verdict}
-          (by : (a : AnyReading text words lexemes names raw places nodes p at close j rows nowhere) → ItemRead a placesAfter nodesAfter v) where
+          (by : (a : AnyReading text lexemes names raw places nodes p at close j rows nowhere) → ItemRead a placesAfter nodesAfter v) where
         -- It is refused.
-        pub item-stops : (v .number ≡ 0 → ⊥) → length nodesAfter ≡ length nodes → (q : Responding text words lexemes names raw₀ places₀ nodes₀ p nowhere)
+        pub item-stops : (v .number ≡ 0 → ⊥) → length nodesAfter ≡ length nodes → (q : Responding text lexemes names raw₀ places₀ nodes₀ p nowhere)
             → Responded q placesAfter nodesAfter v
         item-stops ne same q =
             let t = g .each q in
             let i = by (left-of q) in
             let is : answered allowed nowhere (q .known .defined) (inScriptOrder (q .known .functions)) (q .items) ≡ refused (v .number) (v .place) =
-            t .owed ∙ ap (withBodies (t .done)) (i .stops ne (ending (t .more))) ∙ with-refused (t .done) (v .number) (v .place) in
+            t .owed ∙ ap (withBodies (t .done)) (i .stops ne (nothingBehind (t .more))) ∙ with-refused (t .done) (v .number) (v .place) in
             record {
               answers = subst (λ (x : Answered). Answers x placesAfter nodesAfter (p .nodes) (q .known) v) (sym is) (refl, refl);
               grammars-hold = subst (λ (f : List ℕ). GrammarsHold (drop functionsPlace placesAfter) f (p .forms) (q .known .functions)) (t .same-forms)
@@ -239,19 +239,19 @@ module _ {text words lexemes names raw₀ places₀ nodes₀ : List ℕ} {p : Pr
               let r = g .each (g .given) .reading in
               let t = some-left (r .stands) some in
               let x : ItemAt lexemes at = record {
-                source = sourceOf text words lexemes;
+                source = sourceOf text lexemes;
                 same = refl;
                 label = t .l;
                 operands = t .ops;
                 more = t .rest;
                 end = close;
-                stands = subst (λ (F : Items). Stands (sourceOf text words lexemes) at F close) (t .is) (r .stands);
+                stands = subst (λ (F : Items). Stands (sourceOf text lexemes) at F close) (t .is) (r .stands);
               } in
               omega (arith, en, at-item x .ahead)
 
           -- The turn of the loop.
           pub going-turn : {rawAfter : List ℕ} → length rawAfter ≡ length raw → length placesAfter ≡ length places → length nodesAfter ≡ length nodes
-              → Going text words lexemes names raw₀ places₀ nodes₀ p nowhere rawAfter placesAfter nodesAfter close next (j + 1) (rows + v .rows)
+              → Going text lexemes names raw₀ places₀ nodes₀ p nowhere rawAfter placesAfter nodesAfter close next (j + 1) (rows + v .rows)
           going-turn {rawAfter} same-raw same-places same-nodes = record {
             given = g .given;
             same-raw = same-raw ∙ g .same-raw;
@@ -289,17 +289,17 @@ module _ {text words lexemes names raw₀ places₀ nodes₀ : List ℕ} {p : Pr
                       (one .first-is);
                   more = t .more;
                   behind = t .behind;
-                  owed = t .owed ∙ ap (withBodies (t .done)) (k .goes-on (ending (t .more))) ∙ sym (with-last (t .done) (k .body) _);
+                  owed = t .owed ∙ ap (withBodies (t .done)) (k .goes-on (nothingBehind (t .more))) ∙ sym (with-last (t .done) (k .body) _);
                 };
           }
 
     module _ (over : close ≤ at) where
       -- No item is left.
-      ended : (q : Responding text words lexemes names raw₀ places₀ nodes₀ p nowhere) → g .each q .reading .items ≡ none
+      ended : (q : Responding text lexemes names raw₀ places₀ nodes₀ p nowhere) → g .each q .reading .items ≡ none
       ended q = none-left (g .each q .reading .stands) over
 
       -- A refusal at the end.
-      refused-end : (q : Responding text words lexemes names raw₀ places₀ nodes₀ p nowhere) {number place : ℕ} (more : ℕ)
+      refused-end : (q : Responding text lexemes names raw₀ places₀ nodes₀ p nowhere) {number place : ℕ} (more : ℕ)
           → answered allowed nowhere (q .known .defined) (inScriptOrder (q .known .functions)) (q .items) ≡ refused number place
           → Responded q places nodes (record { number = number; place = place; rows = more })
       refused-end q {number} {place} more is =
@@ -313,7 +313,7 @@ module _ {text words lexemes names raw₀ places₀ nodes₀ : List ℕ} {p : Pr
           }
 
       -- Functions are left.
-      pub list-short : j < p .functions → (q : Responding text words lexemes names raw₀ places₀ nodes₀ p nowhere)
+      pub list-short : j < p .functions → (q : Responding text lexemes names raw₀ places₀ nodes₀ p nowhere)
           → Responded q places nodes (record { number = 12; place = close; rows = rows })
       list-short less q =
           let t = g .each q in
@@ -321,15 +321,15 @@ module _ {text words lexemes names raw₀ places₀ nodes₀ : List ℕ} {p : Pr
           let n = drop-next (inScriptOrder (q .known .functions)) j (omega (arith, t .reading .counted .functions-are, order-length (q .known .functions))) in
           let none-is = ended q in
           let first = n .is in
-          let last : judgedAll allowed nowhere (q .known .defined) close (drop j (inScriptOrder (q .known .functions))) (t .reading .items) (ending
+          let last : judgedAll allowed nowhere (q .known .defined) close (drop j (inScriptOrder (q .known .functions))) (t .reading .items) (nothingBehind
           (t .more)) ≡ refused 12 close =
-          rw (none-is, first) (missing nowhere (q .known .defined) close (n .function) (n .later) (ending (t .more))) in
+          rw (none-is, first) (missing nowhere (q .known .defined) close (n .function) (n .later) (nothingBehind (t .more))) in
           refused-end q rows (t .owed ∙ ap (withBodies (t .done)) last ∙ with-refused (t .done) 12 close)
 
       module _ (whole : p .functions ≤ j) where
         -- What is left is what stands behind the list.
-        ending-left : (q : Responding text words lexemes names raw₀ places₀ nodes₀ p nowhere)
-            → answered allowed nowhere (q .known .defined) (inScriptOrder (q .known .functions)) (q .items) ≡ withBodies (g .each q .done) (ending
+        ending-left : (q : Responding text lexemes names raw₀ places₀ nodes₀ p nowhere)
+            → answered allowed nowhere (q .known .defined) (inScriptOrder (q .known .functions)) (q .items) ≡ withBodies (g .each q .done) (nothingBehind
             (g .each q .more))
         ending-left q =
             let t = g .each q in
@@ -341,27 +341,27 @@ module _ {text words lexemes names raw₀ places₀ nodes₀ : List ℕ} {p : Pr
                   (q .known .functions),
             )) in
             let none-is = ended q in
-            let last : judgedAll allowed nowhere (q .known .defined) close (drop j (inScriptOrder (q .known .functions))) (t .reading .items) (ending
-            (t .more)) ≡ ending (t .more) =
-            rw (none-is, empty) (complete nowhere (q .known .defined) close (ending (t .more))) in
+            let last : judgedAll allowed nowhere (q .known .defined) close (drop j (inScriptOrder (q .known .functions))) (t .reading .items) (nothingBehind
+            (t .more)) ≡ nothingBehind (t .more) =
+            rw (none-is, empty) (complete nowhere (q .known .defined) close (nothingBehind (t .more))) in
             t .owed ∙ ap (withBodies (t .done)) last
 
         -- Something does.
-        pub more-behind : close + 1 < nowhere → (q : Responding text words lexemes names raw₀ places₀ nodes₀ p nowhere)
+        pub more-behind : close + 1 < nowhere → (q : Responding text lexemes names raw₀ places₀ nodes₀ p nowhere)
             → Responded q places nodes (record { number = 5; place = close + 1; rows = rows })
         more-behind h q =
             let t = g .each q in
             let s = some-left (t .behind) h in
-            let here = placed (subst (λ (F : Items). Stands (sourceOf text words lexemes) (close + 1) F nowhere) (s .is) (t .behind)) in
-            let last : ending (t .more) ≡ refused 5 (close + 1) = ap ending (s .is) ∙ ap (refused 5) here in
+            let here = placed (subst (λ (F : Items). Stands (sourceOf text lexemes) (close + 1) F nowhere) (s .is) (t .behind)) in
+            let last : nothingBehind (t .more) ≡ refused 5 (close + 1) = ap nothingBehind (s .is) ∙ ap (refused 5) here in
             refused-end q rows (ending-left q ∙ ap (withBodies (t .done)) last ∙ with-refused (t .done) 5 (close + 1))
 
         -- Nothing does.
-        pub list-whole : nowhere ≤ close + 1 → (q : Responding text words lexemes names raw₀ places₀ nodes₀ p nowhere)
+        pub list-whole : nowhere ≤ close + 1 → (q : Responding text lexemes names raw₀ places₀ nodes₀ p nowhere)
             → Responded q places nodes (record { number = 0; place = nowhere; rows = rows })
         list-whole h q =
             let t = g .each q in
-            let last : ending (t .more) ≡ bodies [] = ap ending (none-left (t .behind) h) in
+            let last : nothingBehind (t .more) ≡ bodies [] = ap nothingBehind (none-left (t .behind) h) in
             let is = ending-left q ∙ ap (withBodies (t .done)) last ∙ with-all (t .done) in
             record {
               answers = subst (λ (x : Answered). Answers x places nodes (p .nodes) (q .known) (record { number = 0; place = nowhere; rows = rows })) (sym is)

@@ -9,7 +9,7 @@ use lib.ListN.{length}
 use borrow.Author.Tests.{eq-eqb, ltb-false, ltb-true, ne-eqb}
 use Rattle.forest.specs.Forest.{count, none, tree}
 use Rattle.forest.proofs.Laws.{Tree}
-use Rattle.words.specs.Trees.{Lexeme, wordOf}
+use Rattle.scanning.specs.Trees.{Lexeme, wordOf}
 use Rattle.lexemes.specs.Lists.{Items, is, isList}
 use Rattle.lexemes.specs.Standing.{ItemAt, Source, Stands}
 use Rattle.lexemes.specs.Table.{codeAt, codeOf, nextAt, openCode}
@@ -55,9 +55,9 @@ alone-by {nowhere = nowhere} l c {more} some stands = go (ltb 1 nowhere) refl
         let is = none-left stands h in
         rw is (sym (eq-eqb nowhere 1 (omega arith)))
 
-module _ {text words lexemes names raw places nodes : List ℕ} {p : Progress} {nowhere : ℕ} where
+module _ {text lexemes names raw places nodes : List ℕ} {p : Progress} {nowhere : ℕ} where
   -- A response that is refused at once.
-  refused-whole : (q : Responding text words lexemes names raw places nodes p nowhere) {number place : ℕ}
+  refused-whole : (q : Responding text lexemes names raw places nodes p nowhere) {number place : ℕ}
       → answered allowed nowhere (q .known .defined) (inScriptOrder (q .known .functions)) (q .items) ≡ refused number place
       → Responded q places nodes (record { number = number; place = place; rows = 0 })
   refused-whole q {number} {place} is = record {
@@ -68,14 +68,14 @@ module _ {text words lexemes names raw places nodes : List ℕ} {p : Progress} {
   }
 
   -- There is no word.
-  pub nothing-said : nowhere ≡ 0 → (q : Responding text words lexemes names raw places nodes p nowhere)
+  pub nothing-said : nowhere ≡ 0 → (q : Responding text lexemes names raw places nodes p nowhere)
       → Responded q places nodes (record { number = 5; place = nowhere; rows = 0 })
   unfolding answered
   nothing-said e q = let is = none-left (q .stands) (omega arith) in refused-whole q (rw is)
 
   module _ (some : nowhere ≡ 0 → ⊥) {code : ℕ} (ec : code ≡ codeAt lexemes 0) (other : code ≡ openCode → ⊥) where
     -- A word gives what its code says.
-    word-said : (q : Responding text words lexemes names raw places nodes p nowhere)
+    word-said : (q : Responding text lexemes names raw places nodes p nowhere)
         → answered allowed nowhere (q .known .defined) (inScriptOrder (q .known .functions)) (q .items) ≡ wordGives code (eqb nowhere 1)
     word-said q =
         let first : 0 < nowhere = omega arith in
@@ -91,17 +91,17 @@ module _ {text words lexemes names raw places nodes : List ℕ} {p : Progress} {
         ∙ ap (λ (n : ℕ). wordGives n (eqb nowhere 1)) (sym (h .code) ∙ sym ec)
 
     -- The one word `fail`.
-    pub fail-said : eqb code 6 && eqb nowhere 1 ≡ true → (q : Responding text words lexemes names raw places nodes p nowhere)
+    pub fail-said : eqb code 6 && eqb nowhere 1 ≡ true → (q : Responding text lexemes names raw places nodes p nowhere)
         → Responded q places nodes (record { number = 10; place = 0; rows = 0 })
     fail-said t q = refused-whole q (word-said q ∙ rw t)
 
     module _ (nf : eqb code 6 && eqb nowhere 1 ≡ false) where
       -- The one word `infeasible`.
-      pub infeasible-said : eqb code 7 && eqb nowhere 1 ≡ true → (q : Responding text words lexemes names raw places nodes p nowhere)
+      pub infeasible-said : eqb code 7 && eqb nowhere 1 ≡ true → (q : Responding text lexemes names raw places nodes p nowhere)
           → Responded q places nodes (record { number = 11; place = 0; rows = 0 })
       infeasible-said t q = refused-whole q (word-said q ∙ rw (nf, t))
 
       -- Anything else.
-      pub other-said : eqb code 7 && eqb nowhere 1 ≡ false → (q : Responding text words lexemes names raw places nodes p nowhere)
+      pub other-said : eqb code 7 && eqb nowhere 1 ≡ false → (q : Responding text lexemes names raw places nodes p nowhere)
           → Responded q places nodes (record { number = 5; place = 0; rows = 0 })
       other-said t q = refused-whole q (word-said q ∙ rw (nf, t))

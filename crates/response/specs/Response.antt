@@ -6,9 +6,9 @@ use lib.Dec.{eqb, ltb}
 use lib.ListN.{drop, length}
 use Rattle.forest.specs.Forest.{count, none, tree}
 use Rattle.terms.specs.Labels.{Terms}
-use Rattle.words.specs.Trees.{wordOf}
+use Rattle.scanning.specs.Trees.{wordOf}
 use Rattle.headers.specs.Tokens.{differing, headerOf, headerTokens, wordsIn}
-use Rattle.shapes.specs.Carried.{anyUncarried}
+use Rattle.carrying.specs.Carried.{anyUncarried}
 use Rattle.heading.specs.Heads.{Counts, headerPast}
 use Rattle.script.specs.Limits.{nodePast}
 use Rattle.lexemes.specs.Lists.{Items, closeOf, inside, is, isList, item}
@@ -75,9 +75,9 @@ judgedAll counts nowhere defs close (f ∷ fs) (tree l c more) after =
     cond (isList l) (judgedBody counts nowhere defs f (wordOf l) c later) (refused 5 (wordOf l))
 
 -- Behind the outer list nothing may stand.
-abbrev pub ending : Items → Answered
-ending none = bodies []
-ending (tree l c more) = refused 5 (wordOf l)
+abbrev pub nothingBehind : Items → Answered
+nothingBehind none = bodies []
+nothingBehind (tree l c more) = refused 5 (wordOf l)
 
 -- "10 and 11 (the text is that one word)"
 abbrev pub isAlone : (items : Items) → Bool
@@ -89,7 +89,7 @@ answered counts nowhere defs fs none = refused 5 nowhere
 answered counts nowhere defs fs (tree l c more) =
     cond (is "fail" l && isAlone (tree l c more)) (refused 10 0)
     (cond (is "infeasible" l && isAlone (tree l c more)) (refused 11 0)
-    (cond (isList l) (judgedAll counts nowhere defs (closeOf l) fs c (ending more))
+    (cond (isList l) (judgedAll counts nowhere defs (closeOf l) fs c (nothingBehind more))
     (refused 5 (wordOf l))))
 
 -- Functions that stand the last first, in script order.

@@ -7,18 +7,18 @@ use lib.Dec.{ltb}
 use lib.ListN.{drop, getD, length}
 use lib.Seq.{sets}
 use Rattle.forest.specs.Forest.{size, tree}
-use Rattle.words.specs.Trees.{list, wordOf}
+use Rattle.scanning.specs.Trees.{list, wordOf}
 use Rattle.terms.specs.Labels.{Terms}
-use Rattle.meaning.specs.Tables.{mostDefined, Stands as TermStands}
+use Rattle.meaning.specs.Tables.{mostDefined, TermStands}
 use Rattle.grammar.specs.Tables.{formTable}
 use Rattle.lexemes.specs.Lists.{Items, inside, is, item}
 use Rattle.lexemes.specs.Standing.{ListAt, Stands}
 use Rattle.lexemes.specs.Table.{codeAt, nextAt}
-use Rattle.shapes.specs.Carried.{anyUncarried}
+use Rattle.carrying.specs.Carried.{anyUncarried}
 use Rattle.shapes.specs.Shapes.{defineFunShape}
 use Rattle.gathering.specs.Table.{uncountedTable}
 use Rattle.gathering.specs.Terms.{rawTerm}
-use Rattle.naming.specs.Scopes.{Defined, Function, formOf}
+use Rattle.naming.specs.Scopes.{Defined, Function, formsOf}
 use Rattle.naming.specs.Steps.{sourceOf}
 use Rattle.naming.specs.declared.Seen.{Seen}
 use Rattle.faults.specs.Faults.{bodyFault}
@@ -50,10 +50,10 @@ Answers (refused number place) places nodes rows k v = (v .number ≡ number) ×
 Answers (bodies bs) places nodes rows k v = (v .number ≡ 0) × BodiesHeld places nodes (rows + v .rows) k bs
 
 -- The items of a response's text stand in its tables; the tables hold what the script says, and there is a row for each word of the response.
-pub record Responding (text words lexemes names raw places nodes : List ℕ) (p : Progress) (nowhere : ℕ) : Type 0 where
+pub record Responding (text lexemes names raw places nodes : List ℕ) (p : Progress) (nowhere : ℕ) : Type 0 where
   pub items : Items
-  pub stands : Stands (sourceOf text words lexemes) 0 items nowhere
-  pub lawful : Lawful (sourceOf text words lexemes) nowhere
+  pub stands : Stands (sourceOf text lexemes) 0 items nowhere
+  pub lawful : Lawful (sourceOf text lexemes) nowhere
   pub few : nowhere ≤ 4096
   pub known : Known
   pub forms : List ℕ
@@ -62,8 +62,8 @@ pub record Responding (text words lexemes names raw places nodes : List ℕ) (p 
   pub nodes-room : 4 * (p .nodes + nowhere) ≤ length nodes
 
 -- The response is read; the rules and forms of the script's grammars are what they were.
-pub record Responded {text words lexemes names raw places nodes : List ℕ} {p : Progress} {nowhere : ℕ}
-    (q : Responding text words lexemes names raw places nodes p nowhere) (placesAfter nodesAfter : List ℕ) (v : Verdict) : Type 0 where
+pub record Responded {text lexemes names raw places nodes : List ℕ} {p : Progress} {nowhere : ℕ}
+    (q : Responding text lexemes names raw places nodes p nowhere) (placesAfter nodesAfter : List ℕ) (v : Verdict) : Type 0 where
   pub answers : Answers (answered allowed nowhere (q .known .defined) (inScriptOrder (q .known .functions)) (q .items)) placesAfter nodesAfter (p .nodes)
       (q .known) v
   pub grammars-hold : GrammarsHold (drop functionsPlace placesAfter) (q .forms) (p .forms) (q .known .functions)
@@ -129,10 +129,10 @@ pub record Extra {lexemes raw : List ℕ} {i nowhere : ℕ} (x : ListIn lexemes 
 -- The items from word i to before word e are left of a response of so many words, for the functions from function j on; what is known of the script stands
 -- in the
 -- tables, and so do the bodies before, in so many rows.
-pub record Reading (text words lexemes names raw places nodes : List ℕ) (p : Progress) (i e j rows nowhere : ℕ) (k : Known) : Type 0 where
+pub record Reading (text lexemes names raw places nodes : List ℕ) (p : Progress) (i e j rows nowhere : ℕ) (k : Known) : Type 0 where
   pub items : Items
-  pub stands : Stands (sourceOf text words lexemes) i items e
-  pub lawful : Lawful (sourceOf text words lexemes) nowhere
+  pub stands : Stands (sourceOf text lexemes) i items e
+  pub lawful : Lawful (sourceOf text lexemes) nowhere
   pub few : nowhere ≤ 4096
   pub counted : Counted p k
   pub names-hold : NamesHold names k
@@ -145,12 +145,12 @@ pub record Reading (text words lexemes names raw places nodes : List ℕ) (p : P
   pub nodes-room : 4 * (p .nodes + nowhere) ≤ length nodes
 
 -- A `define-fun` for function j stands at word i, and what is known of the script stands in the tables, in `base` rows.
-pub record Answering (text words lexemes names raw places nodes : List ℕ) (p : Progress) (i j base nowhere : ℕ) : Type 0 where
+pub record Answering (text lexemes names raw places nodes : List ℕ) (p : Progress) (i j base nowhere : ℕ) : Type 0 where
   pub known : Known
   pub end : ℕ
   pub rows : ℕ
   pub based : base ≡ p .nodes + rows
-  pub reading : Reading text words lexemes names raw places nodes p i end j rows nowhere known
+  pub reading : Reading text lexemes names raw places nodes p i end j rows nowhere known
   pub close : ℕ
   pub command : Items
   pub more : Items
@@ -160,8 +160,8 @@ pub record Answering (text words lexemes names raw places nodes : List ℕ) (p :
   pub next : drop j (inScriptOrder (known .functions)) ≡ function ∷ later
 
 -- The nodes of its body are gathered.
-pub record Comparing (text words lexemes names raw places nodes : List ℕ) (p : Progress) (i j rows base nowhere : ℕ) : Type 0 where
-  pub asked : Answering text words lexemes names raw places nodes p i j base nowhere
+pub record Comparing (text lexemes names raw places nodes : List ℕ) (p : Progress) (i j rows base nowhere : ℕ) : Type 0 where
+  pub asked : Answering text lexemes names raw places nodes p i j base nowhere
   pub gathered : Gathered lexemes raw i (asked .command) rows
 
 -- What a body for function j sees, as rows of the table of names: its arguments, and the `define-fun`s before it.
@@ -175,14 +175,14 @@ seenBy places p j = record {
 }
 
 -- It is held to the function, and the nodes of its body are written where it passes.
-pub record Matched {text words lexemes names raw places nodes : List ℕ} {p : Progress} {i j rows base nowhere : ℕ}
-    (q : Comparing text words lexemes names raw places nodes p i j rows base nowhere) (nodesAfter : List ℕ) (v : Verdict) : Type 0 where
+pub record Matched {text lexemes names raw places nodes : List ℕ} {p : Progress} {i j rows base nowhere : ℕ}
+    (q : Comparing text lexemes names raw places nodes p i j rows base nowhere) (nodesAfter : List ℕ) (v : Verdict) : Type 0 where
   pub stops : (v .number ≡ 0 → ⊥) → (later : Answered)
       → matched nowhere (q .asked .known .defined) (q .asked .function) (q .asked .command) later ≡ refused (v .number) (v .place)
   pub goes-on : v .number ≡ 0 → (later : Answered) → matched nowhere (q .asked .known .defined) (q .asked .function) (q .asked .command) later ≡ later
   pub written : v .number ≡ 0 → nodesAfter
       ≡ sets nodes (4 * base)
-      (formTable (formOf (responseView (q .asked .known .defined) (q .asked .function)) (rawTerm (item 4 (q .asked .command)) (inside 4 (q .asked .command)))))
+      (formTable (formsOf (responseView (q .asked .known .defined) (q .asked .function)) (rawTerm (item 4 (q .asked .command)) (inside 4 (q .asked .command)))))
   pub taken : v .rows ≡ rows
 
 -- What the tables have of a body of function j more.
@@ -195,8 +195,8 @@ pub record OneMore (places : List ℕ) (base : ℕ) (k : Known) (all : Terms) (j
   pub same-firsts : (n : ℕ) → n < j → getD placesAfter (firstsPlace + n) 0 ≡ getD places (firstsPlace + n) 0
 
 -- The `define-fun` is tested, and its body stands in the tables where it passes.
-pub record Taken {text words lexemes names raw places nodes : List ℕ} {p : Progress} {i j base nowhere : ℕ}
-    (q : Answering text words lexemes names raw places nodes p i j base nowhere) (placesAfter nodesAfter : List ℕ) (v : Verdict) : Type 0 where
+pub record Taken {text lexemes names raw places nodes : List ℕ} {p : Progress} {i j base nowhere : ℕ}
+    (q : Answering text lexemes names raw places nodes p i j base nowhere) (placesAfter nodesAfter : List ℕ) (v : Verdict) : Type 0 where
   pub stops : (v .number ≡ 0 → ⊥) → (later : Answered)
       → judgedBody allowed nowhere (q .known .defined) (q .function) i (q .command) later ≡ refused (v .number) (v .place)
   pub goes-on : v .number ≡ 0 → (later : Answered)
@@ -208,17 +208,17 @@ pub record Taken {text words lexemes names raw places nodes : List ℕ} {p : Pro
   pub grammars-hold : GrammarsHold (drop functionsPlace placesAfter) (q .reading .forms) (p .forms) (q .known .functions)
 
 -- An item is left, and what is known.
-pub record AnyReading (text words lexemes names raw places nodes : List ℕ) (p : Progress) (i e j rows nowhere : ℕ) : Type 0 where
+pub record AnyReading (text lexemes names raw places nodes : List ℕ) (p : Progress) (i e j rows nowhere : ℕ) : Type 0 where
   pub known : Known
-  pub reading : Reading text words lexemes names raw places nodes p i e j rows nowhere known
+  pub reading : Reading text lexemes names raw places nodes p i e j rows nowhere known
   pub some : i < e
 
 -- What is left where the first item passes: its body stands in the tables.
-pub record ItemPassed {text words lexemes names raw places nodes : List ℕ} {p : Progress} {i e j rows nowhere : ℕ} {k : Known}
-    (r : Reading text words lexemes names raw places nodes p i e j rows nowhere k) (placesAfter nodesAfter : List ℕ) (more : ℕ) : Type 0 where
+pub record ItemPassed {text lexemes names raw places nodes : List ℕ} {p : Progress} {i e j rows nowhere : ℕ} {k : Known}
+    (r : Reading text lexemes names raw places nodes p i e j rows nowhere k) (placesAfter nodesAfter : List ℕ) (more : ℕ) : Type 0 where
   pub body : Body
   pub items : Items
-  pub stands : Stands (sourceOf text words lexemes) (nextAt lexemes i) items e
+  pub stands : Stands (sourceOf text lexemes) (nextAt lexemes i) items e
   pub goes-on : (after : Answered)
       → judgedAll allowed nowhere (k .defined) e (drop j (inScriptOrder (k .functions))) (r .items) after
       ≡ withBody body (judgedAll allowed nowhere (k .defined) e (drop (j + 1) (inScriptOrder (k .functions))) items after)
@@ -227,8 +227,8 @@ pub record ItemPassed {text words lexemes names raw places nodes : List ℕ} {p 
   pub passed : j + 1 ≤ p .functions
 
 -- The first item is read.
-pub record ItemRead {text words lexemes names raw places nodes : List ℕ} {p : Progress} {i e j rows nowhere : ℕ}
-    (a : AnyReading text words lexemes names raw places nodes p i e j rows nowhere) (placesAfter nodesAfter : List ℕ) (v : Verdict) : Type 0 where
+pub record ItemRead {text lexemes names raw places nodes : List ℕ} {p : Progress} {i e j rows nowhere : ℕ}
+    (a : AnyReading text lexemes names raw places nodes p i e j rows nowhere) (placesAfter nodesAfter : List ℕ) (v : Verdict) : Type 0 where
   pub stops : (v .number ≡ 0 → ⊥) → (after : Answered)
       → judgedAll allowed nowhere (a .known .defined) e (drop j (inScriptOrder (a .known .functions))) (a .reading .items) after ≡ refused (v .number)
       (v .place)

@@ -16,7 +16,6 @@ ghost use Rattle.response.specs.Steps.{AnyReading, ItemRead, Responded, 
 // The item of a response's list at a word, before which there are so many functions and rows of their bodies.
 fn read_item(
     text: &[u8],
-    words: &[u32],
     lexemes: &[u64],
     names: &[u8],
     raw: &mut [u64],
@@ -29,8 +28,8 @@ fn read_item(
     rows: usize,
     nowhere: usize,
 ) -> Verdict
-    requires { ⌜ AnyReading (now text) (now words) (now lexemes) (now names) (now raw) (now places) (now nodes) progress at close function rows nowhere ⌝ }
-    ensures { λ r. ⌜ ((a : AnyReading (now (text .entry)) (now (words .entry)) (now (lexemes .entry)) (now (names .entry)) (now (raw .entry)) (now (places .entry)) (now (nodes .entry)) progress at close function rows nowhere) → ItemRead a (now (places .exit)) (now (nodes .exit)) r) ⌝ }
+    requires { ⌜ AnyReading (now text) (now lexemes) (now names) (now raw) (now places) (now nodes) progress at close function rows nowhere ⌝ }
+    ensures { λ r. ⌜ ((a : AnyReading (now (text .entry)) (now (lexemes .entry)) (now (names .entry)) (now (raw .entry)) (now (places .entry)) (now (nodes .entry)) progress at close function rows nowhere) → ItemRead a (now (places .exit)) (now (nodes .exit)) r) ⌝ }
 {
     if code_at(lexemes, at) != OPEN {
         return verdict(5, at, 0);
@@ -41,7 +40,6 @@ fn read_item(
     let base = progress.nodes + rows;
     read_body(
         text,
-        words,
         lexemes,
         names,
         raw,
@@ -58,7 +56,6 @@ fn read_item(
 // The items of the list that a response is, each for the next function, and what stands behind it.
 fn read_list(
     text: &[u8],
-    words: &[u32],
     lexemes: &[u64],
     names: &[u8],
     raw: &mut [u64],
@@ -67,9 +64,9 @@ fn read_list(
     progress: Progress,
     nowhere: usize,
 ) -> Verdict
-    requires { ⌜ Responding (now text) (now words) (now lexemes) (now names) (now raw) (now places) (now nodes) progress nowhere ⌝ }
+    requires { ⌜ Responding (now text) (now lexemes) (now names) (now raw) (now places) (now nodes) progress nowhere ⌝ }
     requires { ⌜ codeAt (now lexemes) 0 ≡ openCode ⌝ }
-    ensures { λ r. ⌜ ((q : Responding (now (text .entry)) (now (words .entry)) (now (lexemes .entry)) (now (names .entry)) (now (raw .entry)) (now (places .entry)) (now (nodes .entry)) progress nowhere) → Responded q (now (places .exit)) (now (nodes .exit)) r) ⌝ }
+    ensures { λ r. ⌜ ((q : Responding (now (text .entry)) (now (lexemes .entry)) (now (names .entry)) (now (raw .entry)) (now (places .entry)) (now (nodes .entry)) progress nowhere) → Responded q (now (places .exit)) (now (nodes .exit)) r) ⌝ }
 {
     let close = next_at(lexemes, 0) - 1;
     let mut at = 1;
@@ -78,7 +75,6 @@ fn read_list(
     while at < close {
         let read = read_item(
             text,
-            words,
             lexemes,
             names,
             raw,
@@ -110,7 +106,6 @@ fn read_list(
 // Reads a response of so many words to a script whose tables are given; its bodies stand in the tables where it passes.
 pub fn read_response(
     text: &[u8],
-    words: &[u32],
     lexemes: &[u64],
     names: &[u8],
     raw: &mut [u64],
@@ -119,25 +114,15 @@ pub fn read_response(
     progress: Progress,
     nowhere: usize,
 ) -> Verdict
-    requires { ⌜ Responding (now text) (now words) (now lexemes) (now names) (now raw) (now places) (now nodes) progress nowhere ⌝ }
-    ensures { λ r. ⌜ ((q : Responding (now (text .entry)) (now (words .entry)) (now (lexemes .entry)) (now (names .entry)) (now (raw .entry)) (now (places .entry)) (now (nodes .entry)) progress nowhere) → Responded q (now (places .exit)) (now (nodes .exit)) r) ⌝ }
+    requires { ⌜ Responding (now text) (now lexemes) (now names) (now raw) (now places) (now nodes) progress nowhere ⌝ }
+    ensures { λ r. ⌜ ((q : Responding (now (text .entry)) (now (lexemes .entry)) (now (names .entry)) (now (raw .entry)) (now (places .entry)) (now (nodes .entry)) progress nowhere) → Responded q (now (places .exit)) (now (nodes .exit)) r) ⌝ }
 {
     if nowhere == 0 {
         return verdict(5, nowhere, 0);
     }
     let code = code_at(lexemes, 0);
     if code == OPEN {
-        return read_list(
-            text,
-            words,
-            lexemes,
-            names,
-            raw,
-            places,
-            nodes,
-            progress,
-            nowhere,
-        );
+        return read_list(text, lexemes, names, raw, places, nodes, progress, nowhere);
     }
     if (code == FAIL) & (nowhere == 1) {
         return verdict(10, 0, 0);

@@ -50,7 +50,6 @@ fn seen_by(places: &[u64], progress: Progress, function: usize) -> Seen
 // 12, 7 and 8 of the `define-fun` at a word for a function, the nodes of whose body are gathered; writes the terms that they are from row `base` on.
 fn held_to(
     text: &[u8],
-    words: &[u32],
     lexemes: &[u64],
     names: &[u8],
     raw: &mut [u64],
@@ -63,14 +62,13 @@ fn held_to(
     base: usize,
     nowhere: usize,
 ) -> Verdict
-    requires { ⌜ Comparing (now text) (now words) (now lexemes) (now names) (now raw) (now places) (now nodes) progress at function rows base nowhere ⌝ }
-    ensures { λ r. ⌜ ((q : Comparing (now (text .entry)) (now (words .entry)) (now (lexemes .entry)) (now (names .entry)) (now (raw .entry)) (now (places .entry)) (now (nodes .entry)) progress at function rows base nowhere) → Matched q (now (nodes .exit)) r) ⌝ }
+    requires { ⌜ Comparing (now text) (now lexemes) (now names) (now raw) (now places) (now nodes) progress at function rows base nowhere ⌝ }
+    ensures { λ r. ⌜ ((q : Comparing (now (text .entry)) (now (lexemes .entry)) (now (names .entry)) (now (raw .entry)) (now (places .entry)) (now (nodes .entry)) progress at function rows base nowhere) → Matched q (now (nodes .exit)) r) ⌝ }
 {
     let arguments = places[SIGNATURES + 10 * function] as usize;
     let result = places[SIGNATURES + 10 * function + 1];
     let header = header_differs(
         text,
-        words,
         lexemes,
         names,
         at,
@@ -83,18 +81,7 @@ fn held_to(
         return verdict(12, header, rows);
     }
     let seen = seen_by(places, progress, function);
-    let name = body_names(
-        text,
-        words,
-        lexemes,
-        names,
-        raw,
-        nodes,
-        seen,
-        rows,
-        base,
-        nowhere,
-    );
+    let name = body_names(text, lexemes, names, raw, nodes, seen, rows, base, nowhere);
     if name < nowhere {
         return verdict(7, name, rows);
     }
@@ -108,7 +95,6 @@ fn held_to(
 // The `define-fun` at a word for a function: its body stands in the tables, from row `base` on, where it passes.
 pub fn read_body(
     text: &[u8],
-    words: &[u32],
     lexemes: &[u64],
     names: &[u8],
     raw: &mut [u64],
@@ -120,8 +106,8 @@ pub fn read_body(
     base: usize,
     nowhere: usize,
 ) -> Verdict
-    requires { ⌜ Answering (now text) (now words) (now lexemes) (now names) (now raw) (now places) (now nodes) progress at function base nowhere ⌝ }
-    ensures { λ r. ⌜ ((q : Answering (now (text .entry)) (now (words .entry)) (now (lexemes .entry)) (now (names .entry)) (now (raw .entry)) (now (places .entry)) (now (nodes .entry)) progress at function base nowhere) → Taken q (now (places .exit)) (now (nodes .exit)) r) ⌝ }
+    requires { ⌜ Answering (now text) (now lexemes) (now names) (now raw) (now places) (now nodes) progress at function base nowhere ⌝ }
+    ensures { λ r. ⌜ ((q : Answering (now (text .entry)) (now (lexemes .entry)) (now (names .entry)) (now (raw .entry)) (now (places .entry)) (now (nodes .entry)) progress at function base nowhere) → Taken q (now (places .exit)) (now (nodes .exit)) r) ⌝ }
 {
     let outlined = outline(lexemes, raw, at, nowhere);
     if outlined.number != 0 {
@@ -129,7 +115,6 @@ pub fn read_body(
     }
     let held = held_to(
         text,
-        words,
         lexemes,
         names,
         raw,

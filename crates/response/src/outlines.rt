@@ -1,11 +1,11 @@
 //! The shape and the limits of a `define-fun` in a response.
 use bodies::read::body_limit;
+use carrying::any_uncarried;
 use heading::heads::head_past;
 use lexemes::code_at;
 use lexemes::codes::DEFINE_FUN;
 use lexemes::next_at;
 use script::Verdict;
-use shapes::carried::any_uncarried;
 use shapes::commands::define_fun_shape;
 use sorts::places::least;
 ghost use mathlib.Core.Path.{_≡_};

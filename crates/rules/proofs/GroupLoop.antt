@@ -31,7 +31,7 @@ record GroupRules (s : Source) (lexemes : List ℕ) (at : ℕ) (ops : Items) (li
   shaped : all ruleShape (inside 2 ops) ≡ true
   behind : at < list
   within : close < nextAt lexemes at
-  room : 3 * list < length lexemes
+  room : 6 * list < length lexemes
 
 -- a group has such rules
 group-rules : {lexemes : List ℕ} {at : ℕ} (x : ItemAt lexemes at) → groupShape (x .label) (x .operands) ≡ true → {list : ℕ} → list ≡ nextAt lexemes (at + 2)
@@ -118,7 +118,7 @@ module _ {lexemes : List ℕ} {first close nowhere most nodes : ℕ} {rawLent ru
       rules-next = rules-of (item-of a h (a .given)) (along-here a h (a .given))
 
       -- the word of their list is in the table
-      pub list-room : 3 * list < length lexemes
+      pub list-room : 6 * list < length lexemes
       list-room = rules-next .room
 
       module _ {inner : ℕ} (ei : inner ≡ nextAt lexemes list) where

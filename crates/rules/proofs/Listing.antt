@@ -9,7 +9,7 @@ use lib.ListN.{length}
 use borrow.Author.Tests.{le-leb}
 use Rattle.forest.specs.Forest.{join, nodesOf, none, size, tree}
 use Rattle.forest.proofs.Laws.{join-assoc, join-none, size-join}
-use Rattle.words.specs.Trees.{Lexeme}
+use Rattle.scanning.specs.Trees.{Lexeme}
 use Rattle.lexemes.specs.Lists.{Items, is, item}
 use Rattle.lexemes.specs.Standing.{Source, Stands, bracketed, ends, word}
 use Rattle.lexemes.proofs.Standing.{forward}

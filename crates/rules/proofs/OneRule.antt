@@ -10,7 +10,7 @@ use Rattle.forest.specs.Forest.{size}
 use Rattle.forest.specs.Rows.{over}
 use Rattle.forest.proofs.Laws.{size-join}
 use Rattle.forest.proofs.Rows.{over-more}
-use Rattle.words.specs.Trees.{Lexeme, wordOf}
+use Rattle.scanning.specs.Trees.{Lexeme, wordOf}
 use Rattle.lexemes.specs.Lists.{Items}
 use Rattle.gathering.specs.Steps.{GatheredRule, GatheringRule, TermNodes, WordPast}
 use Rattle.gathering.specs.Terms.{rawRule}

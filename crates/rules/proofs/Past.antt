@@ -7,7 +7,7 @@ use mathlib.Core.List.{List}
 use lib.Dec.{leb}
 use borrow.Author.Tests.{leb-false, leb-true}
 use Rattle.forest.specs.Forest.{count, none, tree}
-use Rattle.words.specs.Trees.{wordOf}
+use Rattle.scanning.specs.Trees.{wordOf}
 use Rattle.lexemes.specs.Lists.{Items, after, item}
 use Rattle.lexemes.specs.Standing.{Between, Reached, Stands}
 use Rattle.lexemes.proofs.Standing.{none-left, some-left}

@@ -4,7 +4,7 @@ use mathlib.Core.Bool.{cond}
 use mathlib.Core.List.{List, [], _∷_, _++_}
 use lib.Dec.{leb}
 use Rattle.forest.specs.Forest.{Forest, count, join, nodesOf, none, size, tree}
-use Rattle.words.specs.Trees.{wordOf}
+use Rattle.scanning.specs.Trees.{wordOf}
 use Rattle.lexemes.specs.Lists.{Items, inside, item}
 use Rattle.gathering.specs.Terms.{Raw, nodeWord, rawRule}
 

@@ -9,7 +9,7 @@ use lib.Seq.{ext-getD, getD-drop, getD-set-other, getD-set-same, getD-take}
 use Rattle.forest.specs.Forest.{join}
 use Rattle.terms.specs.Labels.{Terms}
 use Rattle.terms.specs.Nodes.{nodeTable}
-use Rattle.sorting.specs.Tables.{functionRow}
+use Rattle.sorting.specs.Tables.{functionSignature}
 use Rattle.naming.specs.Scopes.{Defined, Function, signatureOf}
 use Rattle.script.specs.Script.{Known}
 use Rattle.script.specs.Tables.{
@@ -114,7 +114,7 @@ module _ {places placesAfter : List ℕ} (same : SamePlaces places placesAfter) 
       long = same .long ∙ p .long;
       defined-rows = rows-elsewhere places placesAfter (λ j h. same .front j (omega arith)) 0 _
           (omega (arith, length-map (k .defined) (λ (d : Defined). d .definition .signature))) (p .defined-rows);
-      function-rows = rows-elsewhere places placesAfter (λ j h. same .front j (omega arith)) functionRow _
+      function-rows = rows-elsewhere places placesAfter (λ j h. same .front j (omega arith)) functionSignature _
           (omega (arith, length-map (k .functions) signatureOf)) (p .function-rows);
       all = join (p .all) t;
       rest = drop (4 * rows + length (nodeTable t)) nodes;

@@ -7,7 +7,7 @@ use lib.Dec.{leb}
 use borrow.Author.Tests.{leb-true}
 use Rattle.forest.specs.Forest.{count, none, tree}
 use Rattle.bits.specs.Sorts.{maxWidth}
-use Rattle.words.specs.Trees.{wordOf}
+use Rattle.scanning.specs.Trees.{wordOf}
 use Rattle.lexemes.specs.Lists.{Items, inside, item}
 use Rattle.sorts.specs.Written.{leastIn, pairPlace, sortOf}
 use Rattle.sorts.specs.declared.Fault.the-variants.{TooWide}

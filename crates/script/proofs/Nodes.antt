@@ -15,8 +15,8 @@ use Rattle.terms.specs.Labels.{Label, Terms}
 use Rattle.terms.specs.Nodes.{AllPlain, nodeRow, nodeTable}
 use Rattle.terms.proofs.Bodies.{plain-join}
 use Rattle.terms.specs.Sorts.{Definition, Signature}
-use Rattle.meaning.specs.Tables.{BodiesAt, Stands}
-use Rattle.sorting.specs.Tables.{RowsAre, allRows, functionRow}
+use Rattle.meaning.specs.Tables.{BodiesAt, TermStands}
+use Rattle.sorting.specs.Tables.{RowsAre, allRows, functionSignature}
 use Rattle.bits.specs.Sorts.{maxWidth}
 use Rattle.naming.specs.Scopes.{Defined, signatureOf}
 use Rattle.naming.specs.Table.{sortsFrom}
@@ -60,7 +60,7 @@ table-grows {nodes} rest {rows} all t e counted room is =
 
 module _ (all t : Terms) where
   -- A term that stands among terms stands there where another follows.
-  pub stands-wider : {i : ℕ} {x : Terms} → Stands all i x → Stands (join all t) i x
+  pub stands-wider : {i : ℕ} {x : Terms} → TermStands all i x → TermStands (join all t) i x
   stands-wider {i} {x} s = record {
     label = s .label;
     operands = s .operands;
@@ -70,7 +70,7 @@ module _ (all t : Terms) where
   }
 
   -- One that is written behind them stands there.
-  pub stands-last : (l : Label) (ops : Terms) → t ≡ tree l ops none → Stands (join all t) (size all) t
+  pub stands-last : (l : Label) (ops : Terms) → t ≡ tree l ops none → TermStands (join all t) (size all) t
   stands-last l ops e = record { label = l; operands = ops; rest = none; at = from-past all t ∙ e; is = e }
 
   -- The bodies stand at the nodes at which they stood.
@@ -93,7 +93,7 @@ module _ (all t : Terms) where
 
 -- One constraint more.
 pub constraints-more : (all t : Terms) (places : List ℕ) (m : ℕ) (ts : List Terms) → ConstraintsAt all places m ts
-    → Stands all (getD places (constraintsPlace + (m + length ts)) 0) t → ConstraintsAt all places m (ts ++ t ∷ [])
+    → TermStands all (getD places (constraintsPlace + (m + length ts)) 0) t → ConstraintsAt all places m (ts ++ t ∷ [])
 unfolding ConstraintsAt
 constraints-more all t places m [] held last = (rw add-zero at last, tt)
 constraints-more all t places m (x ∷ more) held last =
@@ -121,7 +121,7 @@ rows-elsewhere places placesAfter same base fs low held = rows-same base fs (λ 
 module _ {places nodes nodesAfter : List ℕ} {rows more : ℕ} {k : Known} (p : PlacesHold places nodes rows k) {t : Terms}
     (g : Grown nodes rows more t nodesAfter) where
   -- The term begins at the first row that was not taken.
-  pub term-stands : Stands (join (p .all) t) rows t
+  pub term-stands : TermStands (join (p .all) t) rows t
   term-stands = rw (p .rows-are) (stands-last (p .all) t (g .label) (g .operands) (g .single))
 
   -- The nodes are those of all terms.
@@ -146,7 +146,7 @@ module _ {places nodes nodesAfter : List ℕ} {rows more : ℕ} {k : Known} (p :
         long = ap length put ∙ length-set places (constraintsPlace + m) rows ∙ p .long;
         defined-rows = rw same-defined (rows-elsewhere places placesAfter (λ j h. other j (λ e. omega arith)) 0 _
             (omega (arith, length-map (k .defined) (λ (d : Defined). d .definition .signature))) (p .defined-rows));
-        function-rows = rw same-functions (rows-elsewhere places placesAfter (λ j h. other j (λ e. omega arith)) functionRow _
+        function-rows = rw same-functions (rows-elsewhere places placesAfter (λ j h. other j (λ e. omega arith)) functionSignature _
             (omega (arith, length-map (k .functions) signatureOf)) (p .function-rows));
         all = join (p .all) t;
         rest = drop (4 * rows + length (nodeTable t)) nodes;
@@ -186,8 +186,8 @@ module _ {places nodes nodesAfter : List ℕ} {rows more : ℕ} {k : Known} (p :
           long = ap length put ∙ length-set signed (bodiesPlace + n) rows ∙ long;
           defined-rows = rw one-more (rows-elsewhere signed placesAfter (λ j h. other j (λ e. omega arith)) 0 _ (omega arith)
               (rows-grow given is-signed 0 (d .definition .signature) _ (omega arith) ea er narrow (p .defined-rows)));
-          function-rows = rw same-functions (rows-elsewhere signed placesAfter (λ j h. other j (λ e. omega arith)) functionRow _ (omega arith)
-              (rows-kept given is-signed functionRow _ (λ j h e. omega arith) (p .function-rows)));
+          function-rows = rw same-functions (rows-elsewhere signed placesAfter (λ j h. other j (λ e. omega arith)) functionSignature _ (omega arith)
+              (rows-kept given is-signed functionSignature _ (λ j h e. omega arith) (p .function-rows)));
           all = join (p .all) t;
           rest = drop (4 * rows + length (nodeTable t)) nodes;
           nodes-are = nodes-grow;

@@ -8,8 +8,8 @@ use lib.Dec.{ltb}
 use borrow.Author.Tests.{ltb-false}
 use Rattle.forest.specs.Forest.{none, tree}
 use Rattle.forest.proofs.Bools.{apart}
-use Rattle.words.specs.Trees.{Lexeme, list, literal, numeral, symbol, wordOf}
-use Rattle.lexemes.specs.Lists.{Items, closeOf, inside, isList, item, numberOf}
+use Rattle.scanning.specs.Trees.{Lexeme, list, literal, numeral, symbol, wordOf}
+use Rattle.lexemes.specs.Lists.{Items, closeOf, inside, isList, item, numeralOf}
 use Rattle.lexemes.specs.Standing.{Source, Stands, bracketed, ends, word}
 use Rattle.lexemes.proofs.Standing.{forward, here}
 use Rattle.sorts.specs.Written.{sortOf, sortPlace}
@@ -65,21 +65,21 @@ no-fault true h f = refl
 no-fault false h f = absurd (omega arith)
 
 -- The words of a command are below the number of words.
-pub command-below : {text words lexemes : List ℕ} {i nowhere : ℕ} (x : CommandAt text words lexemes i nowhere) → Below nowhere (x .command)
+pub command-below : {text lexemes : List ℕ} {i nowhere : ℕ} (x : CommandAt text lexemes i nowhere) → Below nowhere (x .command)
 command-below {nowhere = nowhere} x =
     let list = here refl (x .stands) .a-list refl in
     stands-below nowhere (list .stands) (omega (arith, x .lawful .ends (list .close) (omega (arith, list .closes))))
 
 -- And so is the word at which it stands.
-pub command-word : {text words lexemes : List ℕ} {i nowhere : ℕ} → CommandAt text words lexemes i nowhere → i < nowhere
+pub command-word : {text lexemes : List ℕ} {i nowhere : ℕ} → CommandAt text lexemes i nowhere → i < nowhere
 command-word {i = i} x = x .lawful .ends i (omega (arith, here refl (x .stands) .code))
 
 -- A sort whose width is not past the limit is at most 64 wide.
 pub sort-narrow : (nowhere : ℕ) (l : Lexeme) (ops : Items) → wordOf (item 2 ops) < nowhere → nowhere ≤ sortPlace TooWide nowhere l ops → sortOf l ops ≤ 64
-sort-narrow nowhere l ops below h = go (isList l) (ltb 64 (numberOf (item 2 ops))) refl h
+sort-narrow nowhere l ops below h = go (isList l) (ltb 64 (numeralOf (item 2 ops))) refl h
   where
-    go : (listed wide : Bool) → ltb 64 (numberOf (item 2 ops)) ≡ wide → nowhere ≤ cond (listed && wide) (wordOf (item 2 ops)) nowhere
-        → cond listed (numberOf (item 2 ops)) 0 ≤ 64
+    go : (listed wide : Bool) → ltb 64 (numeralOf (item 2 ops)) ≡ wide → nowhere ≤ cond (listed && wide) (wordOf (item 2 ops)) nowhere
+        → cond listed (numeralOf (item 2 ops)) 0 ≤ 64
     go true true e f = absurd (omega arith)
-    go true false e f = ltb-false 64 (numberOf (item 2 ops)) e
+    go true false e f = ltb-false 64 (numeralOf (item 2 ops)) e
     go false wide e f = omega arith

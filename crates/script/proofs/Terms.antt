@@ -19,12 +19,12 @@ use Rattle.grammar.specs.Tables.{formTable, itemCode, itemRow, itemValue}
 use Rattle.reserved.specs.Reserved.{isWord}
 use Rattle.sorting.specs.Forms.{FormScope}
 use Rattle.sorting.specs.Tables.{AllReal, Real}
-use Rattle.words.specs.Trees.{Lexeme, list, literal as literal-word, numeral, symbol}
+use Rattle.scanning.specs.Trees.{Lexeme, list, literal as literal-word, numeral, symbol}
 use Rattle.lexemes.specs.Lists.{Items, inside, is, item}
 use Rattle.lexemes.specs.Standing.{Source}
 use Rattle.gathering.specs.Steps.{AllSay}
 use Rattle.gathering.specs.Terms.{Raw, constant, cut, cutBy, headedBy, number, operandsOf, pattern, rawOf, rawTerm, rawTerms, word}
-use Rattle.naming.specs.Scopes.{Named, View, definedNames, formOf, functionNames, isNamed, itemOr, means, namesOf, symbolMeans}
+use Rattle.naming.specs.Scopes.{Named, View, definedNames, formsOf, functionNames, isNamed, itemOr, means, namesOf, symbolMeans}
 use Rattle.faults.specs.Faults.{scopeOf}
 use Rattle.faults.specs.Steps.{Lawful}
 use Rattle.faults.proofs.Reals.{all-real}
@@ -120,15 +120,15 @@ data AllLabels : Forest Item → Type 0 where
   also-labels : {i : Item} {ops more : Forest Item} → i ≡ the (labelOf i) → AllLabels ops → AllLabels more → AllLabels (tree i ops more)
 
 -- Those of terms are.
-forms-labels : (view : View) → view .nonTerminals ≡ [] → (F : Forest Raw) → AllWritten F → AllLabels (formOf view F)
-unfolding formOf
+forms-labels : (view : View) → view .nonTerminals ≡ [] → (F : Forest Raw) → AllWritten F → AllLabels (formsOf view F)
+unfolding formsOf
 forms-labels view closed none w = none-labels
 forms-labels view closed (tree r ops more) (also-written w o m) =
     also-labels (node-labelled view closed r w .is) (forms-labels view closed ops o) (forms-labels view closed more m)
 
 -- There is a form for each node.
-pub forms-size : (view : View) (F : Forest Raw) → size (formOf view F) ≡ size F
-unfolding formOf size
+pub forms-size : (view : View) (F : Forest Raw) → size (formsOf view F) ≡ size F
+unfolding formsOf size
 forms-size view none = refl
 forms-size view (tree r ops more) = rw (forms-size view ops, forms-size view more)
 
@@ -184,21 +184,21 @@ labels-plain scope (tree i ops more) (also-labels e o m) real = (
 
 module _ (view : View) (closed : view .nonTerminals ≡ []) (l : Lexeme) (ops : Items) where
   -- The term that is read has the nodes of the form.
-  pub term-table : formTable (formOf view (rawTerm l ops)) ≡ nodeTable (termOf view l ops)
+  pub term-table : formTable (formsOf view (rawTerm l ops)) ≡ nodeTable (termOf view l ops)
   unfolding formTable nodeTable
-  term-table = labels-table (formOf view (rawTerm l ops)) (forms-labels view closed (rawTerm l ops) (terms-written false (tree l ops none)))
+  term-table = labels-table (formsOf view (rawTerm l ops)) (forms-labels view closed (rawTerm l ops) (terms-written false (tree l ops none)))
 
   -- Its labels are told by their numbers.
   pub term-plain : (s : Source) {nowhere : ℕ} → Lawful s nowhere → AllSay s (rawTerm l ops) → AllPlain (termOf view l ops)
   term-plain s lawful say =
-      labels-plain (scopeOf view) (formOf view (rawTerm l ops)) (forms-labels view closed (rawTerm l ops) (terms-written false (tree l ops none)))
-      (all-real view s (lawful .fit) (rawTerm l ops) say)
+      labels-plain (scopeOf view) (formsOf view (rawTerm l ops)) (forms-labels view closed (rawTerm l ops) (terms-written false (tree l ops none)))
+      (all-real view s (lawful .bounded .fit) (rawTerm l ops) say)
 
   -- It has as many nodes as there are to read.
   pub term-size : size (termOf view l ops) ≡ size (rawTerm l ops)
-  term-size = terms-size (formOf view (rawTerm l ops)) ∙ forms-size view (rawTerm l ops)
+  term-size = terms-size (formsOf view (rawTerm l ops)) ∙ forms-size view (rawTerm l ops)
 
   -- It is one tree.
-  pub term-tree : termOf view l ops ≡ tree (labelOf (itemOr (means view (rawOf l ops)))) (termsIn (formOf view (operandsOf ops))) none
-  unfolding formOf rawTerms termsIn
+  pub term-tree : termOf view l ops ≡ tree (labelOf (itemOr (means view (rawOf l ops)))) (termsIn (formsOf view (operandsOf ops))) none
+  unfolding formsOf rawTerms termsIn
   term-tree = refl

@@ -1,7 +1,7 @@
 -- 7, "name unknown", in a term: the least word at fault; nowhere, a number past every word, where there is none.
 use Prim.Native.Nat.{ℕ}
 use Rattle.forest.specs.Forest.{nodesOf}
-use Rattle.words.specs.Trees.{Lexeme}
+use Rattle.scanning.specs.Trees.{Lexeme}
 use Rattle.lexemes.specs.Lists.{Items}
 use Rattle.naming.specs.Scopes.{View}
 use Rattle.naming.specs.Unknown.{unknownIn}

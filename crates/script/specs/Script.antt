@@ -9,15 +9,15 @@ use Rattle.bits.specs.Operators.{operatorCount}
 use Rattle.terms.specs.Labels.{Label, Terms, operator}
 use Rattle.terms.specs.Sorts.{Definition, Signature}
 use Rattle.grammar.specs.Derivation.{Item, anyArgument, anyLiteral, nonTerminal, the}
-use Rattle.words.specs.Trees.{Lexeme, wordOf}
-use Rattle.shapes.specs.Carried.{notCarried}
+use Rattle.scanning.specs.Trees.{Lexeme, wordOf}
+use Rattle.carrying.specs.Carried.{notCarried}
 use Rattle.heading.specs.Heads.{Counts, headerNames, headerPast}
 use Rattle.grammars.specs.Grammars.{grammarFault, grammarMisfit, grammarNames, grammarOf, grammarPast}
 use Rattle.script.specs.Limits.{commandPast, nodePast}
 use Rattle.lexemes.specs.Lists.{Items, inside, is, isList, item, nameOf}
 use Rattle.script.specs.Naming.{termNames}
 use Rattle.declaring.specs.New.{namedBy, newName}
-use Rattle.naming.specs.Scopes.{Defined, Function, Named, View, definedNames, formOf, functionNames, namesOf, sortsOf}
+use Rattle.naming.specs.Scopes.{Defined, Function, Named, View, definedNames, formsOf, functionNames, namesOf, namedSorts}
 use Rattle.shapes.specs.Shapes.{commandShape}
 use Rattle.faults.specs.Faults.{bodyFault}
 use Rattle.gathering.specs.Terms.{rawTerm}
@@ -35,8 +35,8 @@ pub record Known : Type 0 where
   pub constraints : List Terms
 
 -- Nothing is said before the first command.
-abbrev pub start : Known
-start = record { logic = false; ended = false; variables = []; defined = []; functions = []; constraints = [] }
+abbrev pub nothingKnown : Known
+nothingKnown = record { logic = false; ended = false; variables = []; defined = []; functions = []; constraints = [] }
 
 -- All names in scope.
 abbrev pub scope : Known → List (List ℕ)
@@ -144,12 +144,12 @@ termsIn (tree i ops more) = tree (labelOf i) (termsIn ops) (termsIn more)
 
 -- The term that an item says.
 abbrev pub termOf : View → Lexeme → Items → Terms
-termOf view l ops = termsIn (formOf view (rawTerm l ops))
+termOf view l ops = termsIn (formsOf view (rawTerm l ops))
 
 -- What is known after a command that passes, which is one of the six that are carried.
 unfoldable pub knownAfter : Known → Items → Known
 knownAfter k c =
-    let header : Signature = record { arguments = sortsOf (argumentsOf c); result = sortOf (item 3 c) (inside 3 c) } in
+    let header : Signature = record { arguments = namedSorts (argumentsOf c); result = sortOf (item 3 c) (inside 3 c) } in
     let variable : Named = record { name = nameOf (item 1 c); sort = sortOf (item 2 c) (inside 2 c) } in
     let definition : Definition = record { signature = header; body = termOf (bodyView k (argumentsOf c)) (item 4 c) (inside 4 c) } in
     let function : Function = record {

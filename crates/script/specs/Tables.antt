@@ -1,5 +1,6 @@
 -- What is known after each command as tables: the table of names; a table of places; the nodes of bodies and constraints; and the forms of rules. The table of
--- places has the signatures in front, then where each body and each constraint begins, four numbers for each synthesized function, and its rules.
+-- places has the signatures in front, then where each body and each constraint begins, four numbers for each synthesized function, and its rules. One table of
+-- nodes may have both the nodes and, behind them, the forms.
 use Prim.Native.Nat.{ℕ, _+_, _*_, _≤_}
 use Prim.Native.String.{String}
 use mathlib.Core.Bool.{true}
@@ -7,7 +8,7 @@ use mathlib.Core.List.{List, [], _∷_, _++_, map}
 use mathlib.Core.Path.{_≡_}
 use lib.ListN.{drop, getD, length, take}
 use Rattle.forest.specs.Forest.{size, tree}
-use Rattle.words.specs.Trees.{list}
+use Rattle.scanning.specs.Trees.{list}
 use Rattle.lexemes.specs.Lists.{Items, is, item}
 use Rattle.shapes.specs.Shapes.{commandShape}
 use Rattle.heading.specs.Heads.{allowed}
@@ -16,10 +17,10 @@ use Rattle.faults.specs.Steps.{Lawful}
 use Rattle.terms.specs.Labels.{Terms}
 use Rattle.terms.specs.Nodes.{AllPlain, nodeTable}
 use Rattle.terms.specs.Sorts.{Definition, Signature}
-use Rattle.meaning.specs.Tables.{BodiesAt, Stands}
+use Rattle.meaning.specs.Tables.{BodiesAt, TermStands}
 use Rattle.grammar.specs.Tables.{formTable, rightSides, ruleTable}
-use Rattle.sorting.specs.Tables.{RowsAre, functionRow as functionSignature}
-use Rattle.naming.specs.Scopes.{Defined, Function, definedNames, functionNames, inOrder, namesOf, signatureOf, sortsOf}
+use Rattle.sorting.specs.Tables.{RowsAre, functionSignature}
+use Rattle.naming.specs.Scopes.{Defined, Function, definedNames, functionNames, inOrder, namesOf, signatureOf, namedSorts}
 use Rattle.naming.specs.Steps.{Names, sourceOf}
 use Rattle.naming.specs.Table.{definedRow, functionRow, namesFrom, ownArgumentRow, sortsFrom, variableRow}
 use Rattle.script.specs.Script.{Known, Read, knownAfter, passed, refused, tested}
@@ -50,6 +51,10 @@ firstsPlace = 2744
 abbrev pub placesLength : ℕ
 placesLength = 2752
 
+-- Where the forms of rules begin in the table of nodes, behind the terms of 4,096 words of a script and 2,048 of a response.
+abbrev pub formsPlace : ℕ
+formsPlace = 24576
+
 -- The numbers of each kind are those of what is known, and within the limits.
 pub record Counted (p : Progress) (k : Known) : Type 0 where
   pub logic-is : p .logic ≡ k .logic
@@ -68,7 +73,7 @@ unfoldable pub ArgumentsHold : (names : List ℕ) → List Function → Type 0
 ArgumentsHold names [] = Unit {0}
 ArgumentsHold names (f ∷ earlier) =
     (namesFrom names (ownArgumentRow (length earlier)) (length (f .arguments)) ≡ namesOf (f .arguments))
-    × (sortsFrom names (ownArgumentRow (length earlier)) (length (f .arguments)) ≡ sortsOf (f .arguments))
+    × (sortsFrom names (ownArgumentRow (length earlier)) (length (f .arguments)) ≡ namedSorts (f .arguments))
     × (length (f .arguments) ≤ 8)
     × ArgumentsHold names earlier
 
@@ -76,7 +81,7 @@ ArgumentsHold names (f ∷ earlier) =
 pub record NamesHold (names : List ℕ) (k : Known) : Type 0 where
   pub table : Names names
   pub variables-are : namesFrom names variableRow (length (k .variables)) ≡ namesOf (k .variables)
-  pub variable-sorts : sortsFrom names variableRow (length (k .variables)) ≡ sortsOf (k .variables)
+  pub variable-sorts : sortsFrom names variableRow (length (k .variables)) ≡ namedSorts (k .variables)
   pub defined-are : namesFrom names definedRow (length (k .defined)) ≡ inOrder (definedNames (k .defined))
   pub functions-are : namesFrom names functionRow (length (k .functions)) ≡ inOrder (functionNames (k .functions))
   pub arguments-are : ArgumentsHold names (k .functions)
@@ -92,7 +97,7 @@ definedSignatures ds = map (λ (d : Defined). d .definition .signature) ds
 -- Terms, from number m on, begin at the nodes that the table has for constraints.
 unfoldable pub ConstraintsAt : (all : Terms) → (places : List ℕ) → (m : ℕ) → List Terms → Type 0
 ConstraintsAt all places m [] = Unit {0}
-ConstraintsAt all places m (t ∷ more) = Stands all (getD places (constraintsPlace + m) 0) t × ConstraintsAt all places (m + 1) more
+ConstraintsAt all places m (t ∷ more) = TermStands all (getD places (constraintsPlace + m) 0) t × ConstraintsAt all places (m + 1) more
 
 -- The tables have the signatures, the bodies and the constraints that are known, in so many rows of nodes.
 pub record PlacesHold (places nodes : List ℕ) (rows : ℕ) (k : Known) : Type 0 where
@@ -131,34 +136,38 @@ pub record TablesHold (names places nodes forms : List ℕ) (p : Progress) (k : 
   pub grammars-hold : GrammarsHold (drop functionsPlace places) forms (p .forms) (k .functions)
   pub forms-room : 4 * p .forms ≤ length forms
 
+-- The same of one table of nodes, the terms in front and the forms behind them.
+abbrev pub KnownHeld : (names places nodes : List ℕ) → Progress → Known → Type 0
+KnownHeld names places nodes p k = TablesHold names places (take formsPlace nodes) (drop formsPlace nodes) p k
+
 -- A verdict is what a test finds.
 abbrev pub Says : Verdict → Read → Type 0
 Says v (refused number place) = (v .number ≡ number) × (v .place ≡ place)
 Says v (passed k) = v .number ≡ 0
 
 -- A command stands at word i of a lawful text of so many words, at most 4,096.
-pub record CommandAt (text words lexemes : List ℕ) (i nowhere : ℕ) : Type 0 where
+pub record CommandAt (text lexemes : List ℕ) (i nowhere : ℕ) : Type 0 where
   pub close : ℕ
   pub command : Items
   pub more : Items
   pub end : ℕ
-  pub stands : Standing (sourceOf text words lexemes) i (tree (list i close) command more) end
-  pub lawful : Lawful (sourceOf text words lexemes) nowhere
+  pub stands : Standing (sourceOf text lexemes) i (tree (list i close) command more) end
+  pub lawful : Lawful (sourceOf text lexemes) nowhere
   pub few : nowhere ≤ 4096
 
 -- A command of the word, of its shape, stands at word i, and what is known before it.
-pub record CommandOf (word : String) (text words lexemes : List ℕ) (p : Progress) (i nowhere : ℕ) : Type 0 where
-  pub here : CommandAt text words lexemes i nowhere
+pub record CommandOf (word : String) (text lexemes : List ℕ) (p : Progress) (i nowhere : ℕ) : Type 0 where
+  pub here : CommandAt text lexemes i nowhere
   pub by : is word (item 0 (here .command)) ≡ true
   pub shaped : commandShape (here .command) ≡ true
   pub known : Known
   pub counted : Counted p known
 
 -- What is known after a command.
-abbrev pub After : {word : String} {text words lexemes : List ℕ} {p : Progress} {i nowhere : ℕ} → CommandOf word text words lexemes p i nowhere → Known
+abbrev pub After : {word : String} {text lexemes : List ℕ} {p : Progress} {i nowhere : ℕ} → CommandOf word text lexemes p i nowhere → Known
 After c = knownAfter (c .known) (c .here .command)
 
 -- The verdict is that of the command's tests.
-abbrev pub Tested : {word : String} {text words lexemes : List ℕ} {p : Progress} {i nowhere : ℕ} → CommandOf word text words lexemes p i nowhere → Verdict
+abbrev pub Tested : {word : String} {text lexemes : List ℕ} {p : Progress} {i nowhere : ℕ} → CommandOf word text lexemes p i nowhere → Verdict
     → Type 0
 Tested {i = i} {nowhere = nowhere} c v = Says v (tested allowed nowhere (c .known) i (c .here .command) (After c))

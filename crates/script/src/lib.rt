@@ -1,5 +1,8 @@
 //! Scripts: what is known after each command, in tables.
 
+// Where the forms of rules begin in the table of nodes, behind the terms of 4,096 words of a script and 2,048 of a response.
+pub const FORMS: usize = 24576;
+
 // What the commands before have said: whether the logic was set and `check-synth` was met, how many there are of each kind, and how many rows of nodes and of
 // forms are taken.
 pub struct Progress {

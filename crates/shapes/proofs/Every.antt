@@ -4,7 +4,7 @@ use mathlib.Core.Path.{_≡_, refl}
 use mathlib.Core.Bool.{Bool, true, false, not}
 use mathlib.Core.List.{List}
 use borrow.Author.Tests.{not-false, not-true}
-use Rattle.words.specs.Trees.{Lexeme}
+use Rattle.scanning.specs.Trees.{Lexeme}
 use Rattle.lexemes.specs.Lists.{Items}
 use Rattle.lexemes.specs.Table.{nextAt}
 use Rattle.lexemes.specs.Standing.{Between, ItemAt}

@@ -8,7 +8,7 @@ use lib.Dec.{eqb, leb}
 use borrow.Author.Tests.{eq-eqb, ne-eqb}
 use lib.ListN.{length}
 use Rattle.forest.specs.Forest.{count}
-use Rattle.words.specs.Trees.{Lexeme}
+use Rattle.scanning.specs.Trees.{Lexeme}
 use Rattle.lexemes.specs.Lists.{Items, after, inside, isSymbol, item}
 use Rattle.lexemes.specs.Table.{codeAt, nextAt}
 use Rattle.lexemes.specs.Standing.{Between, ItemAt, ListAt, Reached, Stands}
@@ -25,7 +25,7 @@ module _ {lexemes : List ℕ} {list : ℕ} where
   pub shorter : {n : ℕ} → Long lexemes list n → {m : ℕ} → m ≤ n → Long lexemes list m
   shorter l h = record { here = l .here; enough = λ x. omega (arith, l .enough x) }
 
-  pub room-of : {n : ℕ} → Long lexemes list n → 3 * list < length lexemes
+  pub room-of : {n : ℕ} → Long lexemes list n → 6 * list < length lexemes
   room-of l = list-room (l .here)
 
   module _ {n : ℕ} (counts : (x : ListAt lexemes list) → n ≡ count (x .operands)) {k : ℕ} where

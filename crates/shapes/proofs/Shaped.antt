@@ -7,12 +7,12 @@ use lib.Dec.{eqb}
 use borrow.Author.Tests.{not-false, not-true}
 use Rattle.forest.specs.Forest.{count}
 use Rattle.forest.proofs.Bools.{and-left}
-use Rattle.words.specs.Trees.{Lexeme}
+use Rattle.scanning.specs.Trees.{Lexeme}
 use Rattle.lexemes.specs.Lists.{Items, inside, isAmong, isList, isSymbol, item}
 use Rattle.lexemes.specs.Table.{codeAt, nextAt, openCode}
 use Rattle.lexemes.specs.Standing.{Between, ItemAt, ListAt}
 use Rattle.lexemes.proofs.Listed.{as-list, between, is-list, list-from}
-use Rattle.shapes.specs.Shapes.{all, constraintShape, declareVarShape, defineFunShape, groupShape, headerShape, isPattern, listOf, pairShape, ruleShape}
+use Rattle.shapes.specs.Shapes.{all, constraintShape, declareVarShape, defineFunShape, groupShape, headerShape, isPattern, isListOf, pairShape, ruleShape}
 use Rattle.shapes.specs.Shapes.{setLogicShape, sortShape, synthFunShape, termShape}
 use Rattle.shapes.specs.Steps.{ItemOf}
 use Rattle.shapes.proofs.Parts.{not-so-many, part, so-many}
@@ -38,9 +38,9 @@ abbrev Finds : (lexemes : List ℕ) → (at n r : ℕ) → Type 0
 Finds lexemes at n r = (x : ListAt lexemes at) → ItemOf x n r
 
 module _ {lexemes : List ℕ} {at : ℕ} where
-  pub header-made : {s : Bool} → Named lexemes at 1 s → {i : ℕ} → Finds lexemes at 2 i → {t : Bool} → Tells lexemes i (listOf pairShape) t
+  pub header-made : {s : Bool} → Named lexemes at 1 s → {i : ℕ} → Finds lexemes at 2 i → {t : Bool} → Tells lexemes i (isListOf pairShape) t
       → {j : ℕ} → Finds lexemes at 3 j → {u : Bool} → Tells lexemes j sortShape u → Says lexemes at headerShape (s && t && u)
-  header-made symbol arguments pairs result sort x = ap₂ _&&_ (ap₂ _&&_ (symbol x) (part arguments (listOf pairShape) pairs x)) (part result sortShape sort x)
+  header-made symbol arguments pairs result sort x = ap₂ _&&_ (ap₂ _&&_ (symbol x) (part arguments (isListOf pairShape) pairs x)) (part result sortShape sort x)
 
   module _ {n : ℕ} (counts : Counts lexemes at n) where
     pub set-logic-made : n ≡ 2 → {s : Bool} → Named lexemes at 1 s → Says lexemes at setLogicShape s
@@ -54,17 +54,19 @@ module _ {lexemes : List ℕ} {at : ℕ} where
         → Says lexemes at defineFunShape (h && t)
     define-fun-made e header found term x = rw (so-many counts e x) (ap₂ _&&_ (header x) (part found termShape term x))
 
-    pub synth-fun-made : n ≡ 6 → {h : Bool} → Says lexemes at headerShape h → {i : ℕ} → Finds lexemes at 4 i → {t : Bool} → Tells lexemes i (listOf pairShape) t
-        → {j : ℕ} → Finds lexemes at 5 j → {u : Bool} → Tells lexemes j (listOf groupShape) u → Says lexemes at synthFunShape (h && t && u)
+    pub synth-fun-made : n ≡ 6 → {h : Bool} → Says lexemes at headerShape h → {i : ℕ} → Finds lexemes at 4 i → {t : Bool}
+        → Tells lexemes i (isListOf pairShape) t → {j : ℕ} → Finds lexemes at 5 j → {u : Bool} → Tells lexemes j (isListOf groupShape) u
+        → Says lexemes at synthFunShape (h && t && u)
     synth-fun-made e header found pairs rest groups x =
-        rw (so-many counts e x) (ap₂ _&&_ (ap₂ _&&_ (header x) (part found (listOf pairShape) pairs x)) (part rest (listOf groupShape) groups x))
+        rw (so-many counts e x) (ap₂ _&&_ (ap₂ _&&_ (header x) (part found (isListOf pairShape) pairs x)) (part rest (isListOf groupShape) groups x))
 
     pub constraint-made : n ≡ 2 → {i : ℕ} → Finds lexemes at 1 i → {t : Bool} → Tells lexemes i termShape t → Says lexemes at constraintShape t
     constraint-made e found term x = rw (so-many counts e x) (part found termShape term x)
 
   -- an item that is a list of items of a shape
   pub held-made : {code : ℕ} → code ≡ codeAt lexemes at → code ≡ openCode → {next : ℕ} → next ≡ nextAt lexemes at
-      → (shape : Lexeme → Items → Bool) {t : Bool} → ((b : Between lexemes (at + 1) (next - 1)) → t ≡ all shape (b .items)) → Tells lexemes at (listOf shape) t
+      → (shape : Lexeme → Items → Bool) {t : Bool} → ((b : Between lexemes (at + 1) (next - 1)) → t ≡ all shape (b .items))
+      → Tells lexemes at (isListOf shape) t
   held-made ec opens e shape known y = rw (is-list ec opens y) (known (between (as-list ec opens y) e))
 
   -- an item that is a list of k items
@@ -82,12 +84,12 @@ module _ {lexemes : List ℕ} {at : ℕ} where
         rw (listed e y) (ap₂ _&&_ (symbol x) (part found sortShape sort x))
 
     pub group-made : n ≡ 3 → {s : Bool} → Named lexemes at 0 s → {i : ℕ} → Finds lexemes at 1 i → {t : Bool} → Tells lexemes i sortShape t
-        → {j : ℕ} → Finds lexemes at 2 j → {u : Bool} → Tells lexemes j (listOf ruleShape) u → Tells lexemes at groupShape (s && t && u)
+        → {j : ℕ} → Finds lexemes at 2 j → {u : Bool} → Tells lexemes j (isListOf ruleShape) u → Tells lexemes at groupShape (s && t && u)
     group-made e symbol found sort rest rules y =
         let x = as-list ec opens y in
         let F = y .operands in
         rw (listed e y)
-        (ap₂ _&&_ (ap₂ _&&_ (symbol x) (part found sortShape sort x)) (part rest (listOf ruleShape) rules x)
+        (ap₂ _&&_ (ap₂ _&&_ (symbol x) (part found sortShape sort x)) (part rest (isListOf ruleShape) rules x)
         ∙ sym (and-assoc (isSymbol (item 0 F) && sortShape (item 1 F) (inside 1 F)) (isList (item 2 F)) (all ruleShape (inside 2 F))))
 
   -- a rule that is one of the two that are no terms, and another

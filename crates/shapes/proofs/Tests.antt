@@ -5,19 +5,17 @@ use mathlib.Core.Path.{_≡_, refl, sym, ap, ap₂, _∙_}
 use mathlib.Core.Bool.{Bool, true, false, _&&_, _||_, not, and-false, and-true}
 use mathlib.Core.List.{List, [], _∷_}
 use lib.Dec.{eqb, leb}
-use borrow.Author.Tests.{eqb-true, le-leb, lt-leb, ne-eqb}
+use borrow.Author.Tests.{le-leb, lt-leb}
 use Rattle.forest.specs.Forest.{count}
 use Rattle.lexemes.specs.Lists.{after, indexed, inside, is, isAmong, isList, item}
 use Rattle.lexemes.specs.Table.{codeAt, codeOf}
 use Rattle.lexemes.specs.Standing.{ItemAt, ListAt}
-use Rattle.lexemes.proofs.ByCode.{codeFor, front-word, front-words, frontCode, list-code, symbol-code, word-code, words-code}
+use Rattle.lexemes.proofs.ByCode.{codeFor, front-words, list-code, symbol-code, word-code, words-code}
 use Rattle.lexemes.proofs.Standing.{front}
-use Rattle.lexemes.proofs.Listed.{at-item, first-code, held}
-use Rattle.lexemes.proofs.Spelt.{behind-word}
-use Rattle.shapes.specs.Shapes.{applicationShape, headShape, isPattern, setLogicShape, sortShape}
+use Rattle.lexemes.proofs.Listed.{at-item}
+use Rattle.shapes.specs.Shapes.{applicationShape, headShape, isPattern, sortShape}
 use Rattle.shapes.specs.Steps.{ItemOf}
 use Rattle.shapes.proofs.Parts.{the-item}
-use Rattle.shapes.specs.Carried.{noGrammar, otherLogic, uncarriedStart}
 
 module _ {lexemes : List ℕ} {at : ℕ} where
   module _ {code : ℕ} (ec : code ≡ codeAt lexemes at) where
@@ -45,61 +43,6 @@ module _ {lexemes : List ℕ} {at : ℕ} where
             let h = at-item x .a-list e in
             rw (eh, front (x .same) (h .stands) (h .closes), front-words ("Constant" ∷ "Variable" ∷ []) refl 0 (x .operands))
         go false e = refl
-
-  -- the second word of a list whose first is no bracket
-  second-code : (x : ListAt lexemes at) → 3 ≤ frontCode (x .operands) → codeAt lexemes (at + 2) ≡ frontCode (after 1 (x .operands))
-  second-code x h =
-      let l = held x in
-      let e : at + 1 + 1 ≡ at + 2 = omega arith in
-      rw (← e) (front (x .same) (behind-word (x .same) (x .operands) (l .stands) h) (l .closes))
-
-  module _ {first : ℕ} (ef : first ≡ codeAt lexemes (at + 1)) {second : ℕ} (es : second ≡ codeAt lexemes (at + 2)) where
-    pub start-test : (x : ListAt lexemes at)
-        → eqb first 42 || eqb first 43 || eqb first 44 || eqb first 41 || eqb first 40 && not (eqb second 39 || eqb second 69) ≡ uncarriedStart (x .operands)
-    unfolding after codeFor
-    start-test x =
-        rw (
-          ef,
-          first-code x,
-          front-words ("let" ∷ "exists" ∷ "forall" ∷ "!" ∷ []) refl 0 (x .operands),
-          front-word "_" refl 0 (x .operands),
-          front-words ("BitVec" ∷ "extract" ∷ []) refl 1 (x .operands),
-        )
-        (ap (λ (t : Bool). eqb f 42 || eqb f 43 || eqb f 44 || eqb f 41 || t) (go (eqb f 40) refl))
-      where
-        f : ℕ
-        f = frontCode (x .operands)
-
-        s : ℕ
-        s = frontCode (after 1 (x .operands))
-
-        go : (b : Bool) → eqb f 40 ≡ b → b && not (eqb second 39 || eqb second 69) ≡ b && not (eqb s 39 || eqb s 69)
-        go true e = rw (es, second-code x (omega (arith, eqb-true f 40 e)))
-        go false e = refl
-
-    -- `set-logic` with another logic
-    pub logic-test : first ≡ 8 → {r : Bool} → ((x : ListAt lexemes at) → r ≡ setLogicShape (x .operands))
-        → (x : ListAt lexemes at) → r && not (eqb second 5) ≡ otherLogic (x .operands)
-    unfolding after codeFor
-    logic-test e8 known x =
-        let f : frontCode (x .operands) ≡ 8 = sym (first-code x) ∙ sym ef ∙ e8 in
-        rw (known x, es, second-code x (omega arith), front-word "set-logic" refl 0 (x .operands), front-word "BV" refl 1 (x .operands), f)
-
-  module _ {first : ℕ} (ef : first ≡ codeAt lexemes (at + 1)) where
-    pub no-logic-test : (first ≡ 8 → ⊥) → (x : ListAt lexemes at) → false ≡ otherLogic (x .operands)
-    unfolding after codeFor
-    no-logic-test other x =
-        rw (front-word "set-logic" refl 0 (x .operands), ← first-code x, ← ef, ne-eqb first 8 other)
-
-    pub no-grammar-test : (first ≡ 11 → ⊥) → (x : ListAt lexemes at) → false ≡ noGrammar (x .operands)
-    unfolding after codeFor
-    no-grammar-test other x =
-        rw (front-word "synth-fun" refl 0 (x .operands), ← first-code x, ← ef, ne-eqb first 11 other)
-
-    pub grammar-test : {n : ℕ} → ((x : ListAt lexemes at) → n ≡ count (x .operands))
-        → (x : ListAt lexemes at) → eqb first 11 && eqb n 4 ≡ noGrammar (x .operands)
-    unfolding after codeFor
-    grammar-test counted x = rw (front-word "synth-fun" refl 0 (x .operands), ← first-code x, ← ef, counted x)
 
 -- a head and operands
 module _ {lexemes : List ℕ} {at n : ℕ} (counts : (x : ListAt lexemes at) → n ≡ count (x .operands)) where

@@ -1,8 +1,8 @@
--- Walks into the lists of terms, and into all lists of a command.
+-- The walk into the lists of terms.
 use Prim.Native.Nat.{ℕ, _+_, _-_, _≤_, _<_}
 use native.Mathlib.Omega.{arith}
 use mathlib.Core.Path.{_≡_, sym, ap, _∙_}
-use mathlib.Core.Bool.{Bool, true, false, _&&_, _||_, cond, not, and-assoc, and-true, or-assoc, or-false}
+use mathlib.Core.Bool.{Bool, true, false, _&&_, cond, not, and-assoc, and-true}
 use mathlib.Core.List.{List, [], _∷_}
 use lib.Dec.{leb}
 use borrow.Author.Tests.{leb-true}
@@ -12,9 +12,8 @@ use Rattle.lexemes.specs.Lists.{Items, indexed, inside, is, isList, item}
 use Rattle.lexemes.specs.Table.{codeAt, nextAt, openCode}
 use Rattle.lexemes.specs.Standing.{Between, ItemAt, ListAt}
 use Rattle.lexemes.proofs.Listed.{as-item}
-use Rattle.lexemes.proofs.Pending.{DownAny, at-a-list, behind-less, down-behind, down-end, down-enter, down-skip, down-start, down-word}
+use Rattle.lexemes.proofs.Pending.{DownAny, at-a-list, behind-less, down-behind, down-end, down-skip, down-start, down-word}
 use Rattle.shapes.specs.Shapes.{applicationShape, headShape, termShapes}
-use Rattle.shapes.specs.Carried.{anyUncarried, uncarriedStart}
 
 -- whether a list is a term
 abbrev listTerm : Items → Bool
@@ -98,40 +97,3 @@ module _ {lexemes : List ℕ} {first end : ℕ} where
               let v = at-a-list d h ec opens b in
               let x = v .list-here in
               rw (no-term (x .operands) (sym (extract (as-item x)) ∙ other) (sym (application x) ∙ t)) at (v .known)
-
--- whether a list that is not carried is among the items that are pending further out, or within one
-abbrev pub outerUncarried : List Items → Bool
-outerUncarried [] = false
-outerUncarried (F ∷ more) = anyUncarried F || outerUncarried more
-
--- such a list is among all of the items just when it is among those that are pending
-abbrev pub Uncarried : {lexemes : List ℕ} {first end : ℕ} → Between lexemes first end → (items : Items) → (outer : List Items) → Type 0
-Uncarried b items outer = anyUncarried items || outerUncarried outer ≡ anyUncarried (b .items)
-
-module _ {lexemes : List ℕ} {first end : ℕ} where
-  pub uncarried-begin : Between lexemes first end → DownAny lexemes first end first Uncarried
-  uncarried-begin given = down-start (λ b. b) given (λ b. or-false (anyUncarried (b .items)))
-
-  module _ {at : ℕ} (d : DownAny lexemes first end at Uncarried) where
-    pub uncarried-end : end ≤ at → (b : Between lexemes first end) → false ≡ anyUncarried (b .items)
-    unfolding anyUncarried
-    uncarried-end h b = down-end d h b
-
-    module _ (h : at < end) {code : ℕ} (ec : code ≡ codeAt lexemes at) where
-      pub uncarried-word : (code ≡ openCode → ⊥) → DownAny lexemes first end (at + 1) Uncarried
-      unfolding anyUncarried
-      uncarried-word other = down-word d h ec other (λ b x source no-list outer known. rw no-list at known) (λ b next outer known. known)
-
-      module _ (opens : code ≡ openCode) {r : Bool} (starts : (x : ListAt lexemes at) → r ≡ uncarriedStart (x .operands)) where
-        pub uncarried-enter : r ≡ false → DownAny lexemes first end (at + 1) Uncarried
-        unfolding anyUncarried
-        uncarried-enter t =
-            down-enter d h ec opens
-            (λ b x source outer known.
-            sym (or-assoc (anyUncarried (x .operands)) (anyUncarried (x .more)) (outerUncarried outer)) ∙ (rw (sym (starts x) ∙ t) at known))
-
-        pub uncarried-found : r ≡ true → (b : Between lexemes first end) → true ≡ anyUncarried (b .items)
-        unfolding anyUncarried
-        uncarried-found t b =
-            let v = at-a-list d h ec opens b in
-            rw (sym (starts (v .list-here)) ∙ t) at (v .known)

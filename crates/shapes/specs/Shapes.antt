@@ -3,7 +3,7 @@ use mathlib.Core.Bool.{Bool, true, false, cond, _&&_, _||_, not}
 use mathlib.Core.List.{[], _∷_}
 use lib.Dec.{eqb, leb}
 use Rattle.forest.specs.Forest.{count, none, tree}
-use Rattle.words.specs.Trees.{Lexeme}
+use Rattle.scanning.specs.Trees.{Lexeme}
 use Rattle.lexemes.specs.Lists.{Items, indexed, inside, is, isAmong, isList, isSymbol, item}
 
 -- A sort is a symbol or `(_ BitVec n)`.
@@ -55,12 +55,12 @@ groupShape l ops =
     isList l && eqb (count ops) 3 && isSymbol (item 0 ops) && sortShape (item 1 ops) (inside 1 ops) && isList (item 2 ops) && all ruleShape (inside 2 ops)
 
 -- A list of items of a shape.
-abbrev pub listOf : (Lexeme → Items → Bool) → Lexeme → Items → Bool
-listOf shape l ops = isList l && all shape ops
+abbrev pub isListOf : (Lexeme → Items → Bool) → Lexeme → Items → Bool
+isListOf shape l ops = isList l && all shape ops
 
 -- A function's name, arguments and sort, in a command's items after its word.
 abbrev pub headerShape : Items → Bool
-headerShape c = isSymbol (item 1 c) && listOf pairShape (item 2 c) (inside 2 c) && sortShape (item 3 c) (inside 3 c)
+headerShape c = isSymbol (item 1 c) && isListOf pairShape (item 2 c) (inside 2 c) && sortShape (item 3 c) (inside 3 c)
 
 -- "(set-logic <Symbol>)"
 abbrev pub setLogicShape : Items → Bool
@@ -76,7 +76,7 @@ defineFunShape c = eqb (count c) 5 && headerShape c && termShape (item 4 c) (ins
 
 -- "(synth-fun <Symbol> (<SortedVar>*) <Sort> <GrammarDef>)": the grammar is a list of non-terminals and a list of groups.
 abbrev pub synthFunShape : Items → Bool
-synthFunShape c = eqb (count c) 6 && headerShape c && listOf pairShape (item 4 c) (inside 4 c) && listOf groupShape (item 5 c) (inside 5 c)
+synthFunShape c = eqb (count c) 6 && headerShape c && isListOf pairShape (item 4 c) (inside 4 c) && isListOf groupShape (item 5 c) (inside 5 c)
 
 -- "(constraint <Term>)"
 abbrev pub constraintShape : Items → Bool

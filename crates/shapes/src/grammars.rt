@@ -10,7 +10,7 @@ use lexemes::code_at;
 use lexemes::next_at;
 ghost use mathlib.Core.Path.{_≡_};
 ghost use Rattle.lexemes.specs.Standing.{Between, ItemAt};
-ghost use Rattle.shapes.specs.Shapes.{all, groupShape, listOf, ruleShape};
+ghost use Rattle.shapes.specs.Shapes.{all, groupShape, isListOf, ruleShape};
 
 // Whether an item is a rule.
 fn rule_shape(lexemes: &[u64], at: usize) -> bool
@@ -44,7 +44,7 @@ fn all_rules(lexemes: &[u64], first: usize, close: usize) -> bool
 // Whether an item is a list of rules.
 fn rules_shape(lexemes: &[u64], at: usize) -> bool
     requires { ⌜ ItemAt (now lexemes) at ⌝ }
-    ensures { λ r. ⌜ ((here : ItemAt (now (lexemes .entry)) at) → r ≡ listOf ruleShape (here .label) (here .operands)) ⌝ }
+    ensures { λ r. ⌜ ((here : ItemAt (now (lexemes .entry)) at) → r ≡ isListOf ruleShape (here .label) (here .operands)) ⌝ }
 {
     if code_at(lexemes, at) != OPEN {
         return false;
@@ -86,7 +86,7 @@ fn all_groups(lexemes: &[u64], first: usize, close: usize) -> bool
 // Whether an item is a list of such groups.
 pub fn groups_shape(lexemes: &[u64], at: usize) -> bool
     requires { ⌜ ItemAt (now lexemes) at ⌝ }
-    ensures { λ r. ⌜ ((here : ItemAt (now (lexemes .entry)) at) → r ≡ listOf groupShape (here .label) (here .operands)) ⌝ }
+    ensures { λ r. ⌜ ((here : ItemAt (now (lexemes .entry)) at) → r ≡ isListOf groupShape (here .label) (here .operands)) ⌝ }
 {
     if code_at(lexemes, at) != OPEN {
         return false;

@@ -1,9 +1,8 @@
-//! Shapes of commands (answer 5), and what is not carried (answer 6).
-pub mod carried;
+//! Shapes of commands: answer 5.
 pub mod commands;
-mod forms;
+pub mod forms;
 mod grammars;
-mod lists;
+pub mod lists;
 pub mod rules;
 mod sorts;
 mod terms;

@@ -14,7 +14,7 @@ ghost use mathlib.Core.Path.{_≡_};
 ghost use mathlib.Core.Bool.{_&&_};
 ghost use Rattle.lexemes.specs.Lists.{indexed, isList};
 ghost use Rattle.lexemes.specs.Standing.{Between, ItemAt};
-ghost use Rattle.shapes.specs.Shapes.{all, listOf, pairShape, sortShape};
+ghost use Rattle.shapes.specs.Shapes.{all, isListOf, pairShape, sortShape};
 
 // Whether an item is `(_ BitVec n)`.
 fn is_bit_vec(lexemes: &[u64], at: usize) -> bool
@@ -68,7 +68,7 @@ fn all_pairs(lexemes: &[u64], first: usize, close: usize) -> bool
 // Whether an item is a list of such pairs.
 pub fn pairs_shape(lexemes: &[u64], at: usize) -> bool
     requires { ⌜ ItemAt (now lexemes) at ⌝ }
-    ensures { λ r. ⌜ ((here : ItemAt (now (lexemes .entry)) at) → r ≡ listOf pairShape (here .label) (here .operands)) ⌝ }
+    ensures { λ r. ⌜ ((here : ItemAt (now (lexemes .entry)) at) → r ≡ isListOf pairShape (here .label) (here .operands)) ⌝ }
 {
     if code_at(lexemes, at) != OPEN {
         return false;

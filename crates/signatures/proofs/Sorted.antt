@@ -12,7 +12,7 @@ use borrow.Author.Tests.{eqb-false, eqb-true}
 use Rattle.forest.specs.Rows.{numberAt}
 use Rattle.terms.specs.Sorts.{Signature}
 use Rattle.bits.specs.Sorts.{maxWidth}
-use Rattle.sorting.specs.Tables.{RowIs, RowsAre, SortsAre, allRows, nonTerminalRow, signatureWidth}
+use Rattle.sorting.specs.Tables.{RowIs, RowsAre, SortsAre, allRows, nonTerminalSignature, signatureWidth}
 use Rattle.naming.specs.Table.{nonTerminalRow as firstNonTerminal, sortIn, sortsFrom}
 use Rattle.signatures.specs.Steps.{Listed, Listing, SignedIn, Signing}
 use Rattle.signatures.proofs.Signed.{back-kept, front-kept, long-kept, row-kept, row-same, row-signed, rows-same}
@@ -41,8 +41,8 @@ sorts-from places names r first (suc n) rows = (
 pub record Sorting (names before places : List ℕ) (listed k : ℕ) : Type 0 where
   pub long : length places ≡ length before
   pub passed : k ≤ listed
-  pub rows : (j : ℕ) → j < k → RowIs places (nonTerminalRow + j) (sorted (sortIn names (firstNonTerminal + j)))
-  pub front : take (signatureWidth * nonTerminalRow) places ≡ take (signatureWidth * nonTerminalRow) before
+  pub rows : (j : ℕ) → j < k → RowIs places (nonTerminalSignature + j) (sorted (sortIn names (firstNonTerminal + j)))
+  pub front : take (signatureWidth * nonTerminalSignature) places ≡ take (signatureWidth * nonTerminalSignature) before
   pub back : drop (signatureWidth * allRows) places ≡ drop (signatureWidth * allRows) before
 
 -- None is written at first.
@@ -52,7 +52,7 @@ unsorted names before listed = record { long = refl; passed = omega arith; rows 
 module _ {names before : List ℕ} {listed : ℕ} (given : Listing names before listed) {places : List ℕ} {k : ℕ} (w : Sorting names before places listed k) where
   module _ (h : k < listed) where
     -- the next row may be written
-    pub sort-signing : (sort : ℕ) → Signing names places (nonTerminalRow + k) 0 0 sort
+    pub sort-signing : (sort : ℕ) → Signing names places (nonTerminalSignature + k) 0 0 sort
     sort-signing sort = record {
       table = given .table;
       fits = omega arith;
@@ -68,24 +68,24 @@ module _ {names before : List ℕ} {listed : ℕ} (given : Listing names before 
 
     -- one more is written
     pub sort-put : {sort : ℕ} → sort ≡ sortIn names (firstNonTerminal + k) → {placesAfter : List ℕ}
-        → SignedIn names places (nonTerminalRow + k) 0 0 sort placesAfter → Sorting names before placesAfter listed (k + 1)
+        → SignedIn names places (nonTerminalSignature + k) 0 0 sort placesAfter → Sorting names before placesAfter listed (k + 1)
     unfolding sortsFrom
     sort-put {sort} is {placesAfter} signed = record {
       long = long-kept (sort-signing sort) signed ∙ w .long;
       passed = omega arith;
       rows = rows;
-      front = front-kept (sort-signing sort) signed (signatureWidth * nonTerminalRow) (omega arith) ∙ w .front;
+      front = front-kept (sort-signing sort) signed (signatureWidth * nonTerminalSignature) (omega arith) ∙ w .front;
       back = back-kept (sort-signing sort) signed ∙ w .back;
     }
       where
-        rows : (j : ℕ) → j < k + 1 → RowIs placesAfter (nonTerminalRow + j) (sorted (sortIn names (firstNonTerminal + j)))
+        rows : (j : ℕ) → j < k + 1 → RowIs placesAfter (nonTerminalSignature + j) (sorted (sortIn names (firstNonTerminal + j)))
         rows j l = go (eqb j k) refl
           where
-            go : (b : Bool) → eqb j k ≡ b → RowIs placesAfter (nonTerminalRow + j) (sorted (sortIn names (firstNonTerminal + j)))
+            go : (b : Bool) → eqb j k ≡ b → RowIs placesAfter (nonTerminalSignature + j) (sorted (sortIn names (firstNonTerminal + j)))
             go true e = rw (eqb-true j k e) (row-signed (sort-signing sort) signed _ refl (sym is) (rw is sort-narrow))
             go false e =
                 let other = eqb-false j k e in
-                row-kept (sort-signing sort) signed (nonTerminalRow + j) _ (λ same. other (omega arith)) (w .rows j (omega arith))
+                row-kept (sort-signing sort) signed (nonTerminalSignature + j) _ (λ same. other (omega arith)) (w .rows j (omega arith))
 
   -- all are written
   pub all-sorted : listed ≤ k → Listed names before listed places
@@ -93,22 +93,22 @@ module _ {names before : List ℕ} {listed : ℕ} (given : Listing names before 
       let all : k ≡ listed = omega (arith, w .passed) in
       record {
         long = w .long;
-        sorts-are = sorts-from places names nonTerminalRow firstNonTerminal listed (rw all at (w .rows));
+        sorts-are = sorts-from places names nonTerminalSignature firstNonTerminal listed (rw all at (w .rows));
         before = w .front;
         behind = w .back;
       }
 
 -- the rows before those of the non-terminals are what they were
 pub rows-before : {names places placesAfter : List ℕ} {listed : ℕ} → Listed names places listed placesAfter → (base : ℕ) (fs : List Signature)
-    → base + length fs ≤ nonTerminalRow → RowsAre places base fs → RowsAre placesAfter base fs
+    → base + length fs ≤ nonTerminalSignature → RowsAre places base fs → RowsAre placesAfter base fs
 unfolding numberAt
 rows-before {places = places} {placesAfter = placesAfter} l base fs h = rows-same base fs same
   where
-    number : (i : ℕ) → i < signatureWidth * nonTerminalRow → getD placesAfter i 0 ≡ getD places i 0
+    number : (i : ℕ) → i < signatureWidth * nonTerminalSignature → getD placesAfter i 0 ≡ getD places i 0
     number i low =
-        sym (getD-take (signatureWidth * nonTerminalRow) placesAfter i 0 low)
+        sym (getD-take (signatureWidth * nonTerminalSignature) placesAfter i 0 low)
         ∙ ap (λ (front : List ℕ). getD front i 0) (l .before)
-        ∙ getD-take (signatureWidth * nonTerminalRow) places i 0 low
+        ∙ getD-take (signatureWidth * nonTerminalSignature) places i 0 low
 
     same : (k : ℕ) (f : Signature) → k < length fs → RowIs places (base + k) f → RowIs placesAfter (base + k) f
     same k f within = row-same (λ c narrow. number (signatureWidth * (base + k) + c) (omega arith))

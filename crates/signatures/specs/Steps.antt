@@ -5,7 +5,7 @@ use mathlib.Core.Path.{_≡_}
 use lib.ListN.{drop, length, take}
 use lib.Seq.{sets}
 use Rattle.bits.specs.Sorts.{maxWidth}
-use Rattle.sorting.specs.Tables.{SortsAre, allRows, nonTerminalRow, signatureWidth}
+use Rattle.sorting.specs.Tables.{SortsAre, allRows, nonTerminalSignature, signatureWidth}
 use Rattle.naming.specs.Steps.{Names}
 use Rattle.naming.specs.Table.{nonTerminalRow as firstNonTerminal, rowCount, sortsFrom}
 
@@ -35,6 +35,6 @@ pub record Listing (names places : List ℕ) (listed : ℕ) : Type 0 where
 -- Their sorts are written, and nothing else is changed.
 pub record Listed (names places : List ℕ) (listed : ℕ) (placesAfter : List ℕ) : Type 0 where
   pub long : length placesAfter ≡ length places
-  pub sorts-are : SortsAre placesAfter nonTerminalRow (sortsFrom names firstNonTerminal listed)
-  pub before : take (signatureWidth * nonTerminalRow) placesAfter ≡ take (signatureWidth * nonTerminalRow) places
+  pub sorts-are : SortsAre placesAfter nonTerminalSignature (sortsFrom names firstNonTerminal listed)
+  pub before : take (signatureWidth * nonTerminalSignature) placesAfter ≡ take (signatureWidth * nonTerminalSignature) places
   pub behind : drop (signatureWidth * allRows) placesAfter ≡ drop (signatureWidth * allRows) places

@@ -16,7 +16,7 @@ use Rattle.terms.specs.Labels.{function, literal, operator}
 use Rattle.terms.specs.Sorts.{calledSort, labelSort, sameSorts, sortOver, withSort}
 use Rattle.sorting.specs.Forms.{FormScope, faultFrom, formSorts, itemSort, sortColumn}
 use Rattle.sorting.specs.Steps.{SortsFilling}
-use Rattle.sorting.specs.Tables.{AllReal, RowsAre, Sortable, SortsAre, functionRow, signatureWidth}
+use Rattle.sorting.specs.Tables.{AllReal, RowsAre, Sortable, SortsAre, functionSignature, signatureWidth}
 
 -- A synthesized function from two bits to a Bool, and a non-terminal of one bit.
 abbrev scope : FormScope
@@ -58,7 +58,7 @@ unfolding calledSort faultFrom formSorts itemSort labelSort named operatorAt ope
 bench-faults = refl
 
 -- The sort of the function's one argument.
-argument-is : (k : ℕ) → k < 1 → numberAt signatureWidth signatures functionRow (2 + k) ≡ getD (2 ∷ []) k 0
+argument-is : (k : ℕ) → k < 1 → numberAt signatureWidth signatures functionSignature (2 + k) ≡ getD (2 ∷ []) k 0
 unfolding numberAt
 argument-is zero l = refl
 argument-is (suc k) l = absurd (omega arith)

@@ -18,7 +18,7 @@ use Rattle.terms.specs.Nodes.{Plain}
 use Rattle.terms.specs.Sorts.{Signature, calledSort, labelSort, sameSorts}
 use Rattle.sorting.specs.Forms.{FormScope, itemSort}
 use Rattle.sorting.specs.Steps.{firstRow, leafSort}
-use Rattle.sorting.specs.Tables.{Real, RowIs, RowsAre, Sortable, SortsAre, allRows, functionRow, nonTerminalRow}
+use Rattle.sorting.specs.Tables.{Real, RowIs, RowsAre, Sortable, SortsAre, allRows, functionSignature, nonTerminalSignature}
 
 -- A label that its numbers tell; any other item is told by them anyway.
 abbrev pub Told : Item → Type 0
@@ -125,13 +125,13 @@ callable {signatures = signatures} g (the (defined k)) r h =
     let q = known signatures 0 (g .scope .terms .defined) k (g .defined-are) r in
     record { by = q .by; row-is = q .row-is; low = omega (arith, g .few-defined); gives = q .called }
 callable {signatures = signatures} g (the (function k)) r h =
-    let q = known signatures functionRow (g .scope .terms .functions) k (g .functions-are) r in
+    let q = known signatures functionSignature (g .scope .terms .functions) k (g .functions-are) r in
     record { by = q .by; row-is = q .row-is; low = omega (arith, g .few-functions); gives = q .called }
 callable {signatures = signatures} g (nonTerminal A) r h =
     let sorts = g .scope .nonTerminals in
     record {
       by = record { arguments = []; result = getD sorts A 0 };
-      row-is = sort-row signatures nonTerminalRow sorts A (g .nonTerminals-are) r;
+      row-is = sort-row signatures nonTerminalSignature sorts A (g .nonTerminals-are) r;
       low = omega (arith, g .few-nonTerminals);
       gives = λ ss. rw (lt-ltb A (length sorts) r, no-arguments ss);
     }

@@ -15,7 +15,7 @@ use Rattle.grammar.specs.Tables.{nonTerminalKind}
 use Rattle.terms.specs.Nodes.{functionKind, literalKind, sizeAt}
 use Rattle.terms.specs.Sorts.{Signature, sameSorts, withSort}
 use Rattle.sorting.specs.Forms.{FormScope, faultFrom, formSorts, sortColumn, sortNumber, sorted, treeSort}
-use Rattle.sorting.specs.Tables.{RowIs, Sortable, allRows, functionRow, nonTerminalRow}
+use Rattle.sorting.specs.Tables.{RowIs, Sortable, allRows, functionSignature, nonTerminalSignature}
 
 -- The sorts of trees one after the other; none where one of them has none.
 unfoldable pub together : List (Option ℕ) → Option (List ℕ)
@@ -108,7 +108,7 @@ ArgumentsFit forms signatures column place count row r =
 
 -- The row of the first `define-fun`, synthesized function or non-terminal, by the kind.
 abbrev pub firstRow : (kind : ℕ) → ℕ
-firstRow kind = cond (eqb kind functionKind) functionRow (cond (eqb kind nonTerminalKind) nonTerminalRow 0)
+firstRow kind = cond (eqb kind functionKind) functionSignature (cond (eqb kind nonTerminalKind) nonTerminalSignature 0)
 
 -- The sort that the code of a literal, a name, `(Constant σ)` or `(Variable σ)` says.
 abbrev pub leafSort : (code : ℕ) → ℕ

@@ -18,12 +18,12 @@ abbrev pub signatureWidth : ℕ
 signatureWidth = 10
 
 -- The row of the first synthesized function: 32 `define-fun`s stand before it.
-abbrev pub functionRow : ℕ
-functionRow = 32
+abbrev pub functionSignature : ℕ
+functionSignature = 32
 
 -- The row of the first non-terminal: 8 synthesized functions stand before it.
-abbrev pub nonTerminalRow : ℕ
-nonTerminalRow = 40
+abbrev pub nonTerminalSignature : ℕ
+nonTerminalSignature = 40
 
 -- How many rows there are: 16 non-terminals stand last.
 abbrev pub allRows : ℕ
@@ -72,8 +72,8 @@ pub record Sortable (forms signatures : List ℕ) : Type 0 where
   pub is-forms : forms ≡ formTable F ++ rest
   pub real : AllReal scope F
   pub defined-are : RowsAre signatures 0 (scope .terms .defined)
-  pub functions-are : RowsAre signatures functionRow (scope .terms .functions)
-  pub nonTerminals-are : SortsAre signatures nonTerminalRow (scope .nonTerminals)
+  pub functions-are : RowsAre signatures functionSignature (scope .terms .functions)
+  pub nonTerminals-are : SortsAre signatures nonTerminalSignature (scope .nonTerminals)
   pub few-defined : length (scope .terms .defined) ≤ 32
   pub few-functions : length (scope .terms .functions) ≤ 8
   pub few-nonTerminals : length (scope .nonTerminals) ≤ 16

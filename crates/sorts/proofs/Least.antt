@@ -6,7 +6,7 @@ use mathlib.Core.Bool.{Bool, true}
 use mathlib.Core.List.{List}
 use Rattle.forest.specs.Forest.{none, tree}
 use Rattle.forest.proofs.Bools.{and-left, and-right}
-use Rattle.words.specs.Trees.{Lexeme}
+use Rattle.scanning.specs.Trees.{Lexeme}
 use Rattle.lexemes.specs.Lists.{Items}
 use Rattle.lexemes.specs.Table.{nextAt}
 use Rattle.lexemes.proofs.Along.{Along, along-end, along-here, along-start, along-turn, item-of}

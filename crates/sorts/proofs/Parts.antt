@@ -10,12 +10,12 @@ use Rattle.forest.specs.Forest.{count}
 use Rattle.forest.proofs.Bools.{and-left, and-right}
 use Rattle.forest.specs.Lists.{sameBytes}
 use Rattle.reserved.specs.Reserved.{isOneOf}
-use Rattle.words.specs.Trees.{Lexeme, list}
+use Rattle.scanning.specs.Trees.{Lexeme, list}
 use Rattle.lexemes.specs.Lists.{Items, inside, isAmong, isList, isSymbol, item}
 use Rattle.lexemes.specs.Table.{nextAt}
 use Rattle.lexemes.specs.Standing.{ItemAt, ListAt}
 use Rattle.lexemes.proofs.Listed.{between, list-from}
-use Rattle.shapes.specs.Shapes.{all, groupShape, isPattern, listOf, pairShape, ruleShape, sortShape}
+use Rattle.shapes.specs.Shapes.{all, groupShape, isPattern, isListOf, pairShape, ruleShape, sortShape}
 use Rattle.sorts.specs.Steps.{AllBetween, ShapedAt, SortAt}
 use Rattle.sorts.specs.Written.{groupPlace, leastIn, pairPlace, rulePlace, sortPlace}
 use Rattle.sorts.specs.declared.Fault.{Fault}
@@ -59,12 +59,12 @@ pattern-parts l ops pattern e =
 -- What a grammar lists of a non-terminal: its name, its sort and its rules.
 pub record Grouped (l : Lexeme) (ops : Items) : Type 0 where
   pub sorted : Sorted l ops 3
-  pub rules : listOf ruleShape (item 2 ops) (inside 2 ops) ≡ true
+  pub rules : isListOf ruleShape (item 2 ops) (inside 2 ops) ≡ true
 
 pub group-parts : (l : Lexeme) (ops : Items) → groupShape l ops ≡ true → Grouped l ops
 group-parts l ops e =
     let named = isList l && eqb (count ops) 3 && isSymbol (item 0 ops) && sortShape (item 1 ops) (inside 1 ops) in
-    let rules = listOf ruleShape (item 2 ops) (inside 2 ops) in
+    let rules = isListOf ruleShape (item 2 ops) (inside 2 ops) in
     let both : named && rules ≡ true = sym (and-assoc named (isList (item 2 ops)) (all ruleShape (inside 2 ops))) ∙ e in
     record { sorted = sorted l ops 3 (and-left named rules both); rules = and-right named rules both }
 
@@ -106,7 +106,7 @@ module _ {lexemes : List ℕ} {at : ℕ} where
 
 module _ {shape : Lexeme → Items → Bool} {lexemes : List ℕ} {at : ℕ} where
   -- the items of a list of items of a shape stand between its brackets
-  abbrev pub list-between : ShapedAt (listOf shape) lexemes at → {next : ℕ} → next ≡ nextAt lexemes at → AllBetween shape lexemes (at + 1) (next - 1)
+  abbrev pub list-between : ShapedAt (isListOf shape) lexemes at → {next : ℕ} → next ≡ nextAt lexemes at → AllBetween shape lexemes (at + 1) (next - 1)
   list-between p e =
       let l = isList (p .here .label) in
       let each = all shape (p .here .operands) in
@@ -115,7 +115,7 @@ module _ {shape : Lexeme → Items → Bool} {lexemes : List ℕ} {at : ℕ} whe
   -- the least of the places that its items have
   pub list-least : {next : ℕ} → next ≡ nextAt lexemes at → (nowhere : ℕ) (placeOf : Lexeme → Items → ℕ) {r : ℕ}
       → ((q : AllBetween shape lexemes (at + 1) (next - 1)) → r ≡ leastIn nowhere placeOf (q .between .items))
-      → (p : ShapedAt (listOf shape) lexemes at) → r ≡ leastIn nowhere placeOf (p .here .operands)
+      → (p : ShapedAt (isListOf shape) lexemes at) → r ≡ leastIn nowhere placeOf (p .here .operands)
   list-least e nowhere placeOf known p = known (list-between p e)
 
 module _ {lexemes : List ℕ} {at : ℕ} where
@@ -125,7 +125,7 @@ module _ {lexemes : List ℕ} {at : ℕ} where
     group-sort = sort-in (p .here) (group-parts (p .here .label) (p .here .operands) (p .shaped) .sorted) (omega arith)
 
     -- its rules
-    abbrev pub group-rules : {rules : ℕ} → rules ≡ nextAt lexemes (at + 2) → ShapedAt (listOf ruleShape) lexemes rules
+    abbrev pub group-rules : {rules : ℕ} → rules ≡ nextAt lexemes (at + 2) → ShapedAt (isListOf ruleShape) lexemes rules
     group-rules er =
         let g = group-parts (p .here .label) (p .here .operands) (p .shaped) in
         let s = g .sorted in
@@ -133,7 +133,7 @@ module _ {lexemes : List ℕ} {at : ℕ} where
         shaped-come list (come-next list (come-sort (p .here) s (omega arith)) (omega (arith, s .long)) er) (s .long) (g .rules)
 
   pub group-place : {rules : ℕ} → rules ≡ nextAt lexemes (at + 2) → (fault : Fault) (nowhere : ℕ)
-      → {within : ℕ} → ((q : ShapedAt (listOf ruleShape) lexemes rules) → within ≡ leastIn nowhere (rulePlace fault nowhere) (q .here .operands))
+      → {within : ℕ} → ((q : ShapedAt (isListOf ruleShape) lexemes rules) → within ≡ leastIn nowhere (rulePlace fault nowhere) (q .here .operands))
       → {sort : ℕ} → ((q : SortAt lexemes (at + 2)) → sort ≡ sortPlace fault nowhere (q .here .label) (q .here .operands))
       → {r : ℕ} → r ≡ min sort within → (p : ShapedAt groupShape lexemes at) → r ≡ groupPlace fault nowhere (p .here .label) (p .here .operands)
   group-place er fault nowhere by-rules by-sort e p = e ∙ ap₂ min (by-sort (group-sort p)) (by-rules (group-rules p er))

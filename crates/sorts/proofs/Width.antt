@@ -10,8 +10,8 @@ use Rattle.forest.specs.Forest.{count, none, tree}
 use Rattle.forest.proofs.Bools.{and-left, and-right, apart}
 use Rattle.forest.specs.Lists.{sameBytes}
 use Rattle.reserved.specs.Reserved.{isWord}
-use Rattle.words.specs.Trees.{Lexeme, list, literal, numeral, symbol, wordOf}
-use Rattle.lexemes.specs.Lists.{Items, after, allNumerals, indexed, is, isList, isNumeral, item, numberOf}
+use Rattle.scanning.specs.Trees.{Lexeme, list, literal, numeral, symbol, wordOf}
+use Rattle.lexemes.specs.Lists.{Items, after, allNumerals, indexed, is, isList, isNumeral, item, numeralOf}
 use Rattle.lexemes.specs.Table.{codeAt, openCode, valueAt}
 use Rattle.lexemes.specs.Standing.{ListAt, valueOf}
 use Rattle.lexemes.proofs.ByCode.{codeFor, list-code, symbol-code, word-code}
@@ -25,7 +25,7 @@ use Rattle.sorts.proofs.Walked.{Come, come-behind, come-first, item-com
 -- What is known of a numeral.
 record NumeralWord (l : Lexeme) : Type 0 where
   no-list : isList l ≡ false
-  value : valueOf l ≡ numberOf l
+  value : valueOf l ≡ numeralOf l
 
 numeral-word : (l : Lexeme) → isNumeral l ≡ true → NumeralWord l
 numeral-word (numeral at v) e = record { no-list = refl; value = refl }
@@ -35,7 +35,7 @@ numeral-word (literal at width v written) e = apart e
 
 -- Where the width of `(_ BitVec n)` stands, and what it is.
 pub record WidthIn (lexemes : List ℕ) (at : ℕ) (ops : Items) : Type 0 where
-  pub value : valueAt lexemes (at + 3) ≡ numberOf (item 2 ops)
+  pub value : valueAt lexemes (at + 3) ≡ numeralOf (item 2 ops)
   pub place : wordOf (item 2 ops) ≡ at + 3
 
 -- a list of which one item is left behind the second
@@ -97,11 +97,11 @@ module _ {lexemes : List ℕ} {at : ℕ} where
     module _ {width : ℕ} (ew : width ≡ valueAt lexemes (at + 3)) (nowhere : ℕ) where
       -- a test of the width of a sort that is a list
       width-test : (test : ℕ → Bool) (p : SortAt lexemes at) (found word : ℕ) → (isList (p .here .label) ≡ true → found ≡ word)
-          → cond (eqb code 1 && test width) found nowhere ≡ cond (isList (p .here .label) && test (numberOf (item 2 (p .here .operands)))) word nowhere
+          → cond (eqb code 1 && test width) found nowhere ≡ cond (isList (p .here .label) && test (numeralOf (item 2 (p .here .operands)))) word nowhere
       width-test test p found word same = rw (ec, at-item (p .here) .code, ← list-code (p .here .label)) (go (isList (p .here .label)) refl)
         where
           go : (b : Bool) → isList (p .here .label) ≡ b
-              → cond (b && test width) found nowhere ≡ cond (b && test (numberOf (item 2 (p .here .operands)))) word nowhere
+              → cond (b && test width) found nowhere ≡ cond (b && test (numeralOf (item 2 (p .here .operands)))) word nowhere
           go true l = ap₂ (λ (n w : ℕ). cond (test n) w nowhere) (ew ∙ width-of p l .value) (same l)
           go false l = refl
 

@@ -6,7 +6,7 @@ use mathlib.Core.Path.{_≡_}
 use Rattle.forest.specs.Forest.{count}
 use Rattle.lexemes.specs.Lists.{Items, isSymbol, item}
 use Rattle.lexemes.specs.Standing.{Between, ItemAt, ListAt}
-use Rattle.words.specs.Trees.{Lexeme}
+use Rattle.scanning.specs.Trees.{Lexeme}
 use Rattle.shapes.specs.Shapes.{all, headerShape, sortShape, synthFunShape}
 
 -- An item of a shape stands at word i.

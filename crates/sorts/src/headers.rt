@@ -6,14 +6,14 @@ use crate::places::sort_place;
 use lexemes::next_at;
 use shapes::rules::is_pattern;
 ghost use mathlib.Core.Path.{_≡_};
-ghost use Rattle.shapes.specs.Shapes.{groupShape, listOf, pairShape, ruleShape};
+ghost use Rattle.shapes.specs.Shapes.{groupShape, isListOf, pairShape, ruleShape};
 ghost use Rattle.sorts.specs.Steps.{HeaderAt, ShapedAt, SynthFunAt};
 ghost use Rattle.sorts.specs.Written.{grammarSorts, groupPlace, headerPlace, leastIn, pairPlace, rulePlace};
 
 // The least word at fault in the sorts of a list of pairs.
 fn pairs_in(lexemes: &[u64], list: usize, fault: Fault, nowhere: usize) -> usize
-    requires { ⌜ ShapedAt (listOf pairShape) (now lexemes) list ⌝ }
-    ensures { λ r. ⌜ ((p : ShapedAt (listOf pairShape) (now (lexemes .entry)) list) → r ≡ leastIn nowhere (pairPlace fault nowhere) (p .here .operands)) ⌝ }
+    requires { ⌜ ShapedAt (isListOf pairShape) (now lexemes) list ⌝ }
+    ensures { λ r. ⌜ ((p : ShapedAt (isListOf pairShape) (now (lexemes .entry)) list) → r ≡ leastIn nowhere (pairPlace fault nowhere) (p .here .operands)) ⌝ }
 {
     pairs_place(
         lexemes,
@@ -49,8 +49,8 @@ fn rule_place(lexemes: &[u64], at: usize, fault: Fault, nowhere: usize) -> usize
 
 // The least word at fault in the sorts of a list of rules.
 fn rules_in(lexemes: &[u64], list: usize, fault: Fault, nowhere: usize) -> usize
-    requires { ⌜ ShapedAt (listOf ruleShape) (now lexemes) list ⌝ }
-    ensures { λ r. ⌜ ((p : ShapedAt (listOf ruleShape) (now (lexemes .entry)) list) → r ≡ leastIn nowhere (rulePlace fault nowhere) (p .here .operands)) ⌝ }
+    requires { ⌜ ShapedAt (isListOf ruleShape) (now lexemes) list ⌝ }
+    ensures { λ r. ⌜ ((p : ShapedAt (isListOf ruleShape) (now (lexemes .entry)) list) → r ≡ leastIn nowhere (rulePlace fault nowhere) (p .here .operands)) ⌝ }
 {
     let close = next_at(lexemes, list) - 1;
     let mut place = nowhere;
@@ -76,8 +76,8 @@ fn group_place(lexemes: &[u64], at: usize, fault: Fault, nowhere: usize) -> usiz
 
 // The least word at fault in the sorts of a list of what a grammar lists of each non-terminal.
 fn groups_in(lexemes: &[u64], list: usize, fault: Fault, nowhere: usize) -> usize
-    requires { ⌜ ShapedAt (listOf groupShape) (now lexemes) list ⌝ }
-    ensures { λ r. ⌜ ((p : ShapedAt (listOf groupShape) (now (lexemes .entry)) list) → r ≡ leastIn nowhere (groupPlace fault nowhere) (p .here .operands)) ⌝ }
+    requires { ⌜ ShapedAt (isListOf groupShape) (now lexemes) list ⌝ }
+    ensures { λ r. ⌜ ((p : ShapedAt (isListOf groupShape) (now (lexemes .entry)) list) → r ≡ leastIn nowhere (groupPlace fault nowhere) (p .here .operands)) ⌝ }
 {
     let close = next_at(lexemes, list) - 1;
     let mut place = nowhere;

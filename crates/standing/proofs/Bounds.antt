@@ -20,9 +20,9 @@ use Rattle.spelling.specs.declared.Class.{Class}
 use Rattle.spelling.specs.declared.Class.the-variants.{BinaryDigits, Digits, HexDigits}
 use Rattle.spelling.specs.declared.Kind.{Kind}
 use Rattle.spelling.proofs.Digits.{all-below, below-goes, spell-more}
-use Rattle.words.specs.Table.{valueOf, widthOf}
-use Rattle.words.specs.Trees.{bytesOf}
-use Rattle.words.specs.Words.{Word, bytesAt, wordAt, wordsOf}
+use Rattle.scanning.specs.Table.{valueOf, widthOf}
+use Rattle.scanning.specs.Trees.{bytesOf}
+use Rattle.scanning.specs.Words.{Word, bytesAt, wordAt, wordsOf}
 use Rattle.lexemes.specs.Table.{kindCode, literalCode, numeralCode}
 use Rattle.lexemes.proofs.Said.{found}
 use Rattle.gathering.specs.Terms.{cases, writtenOf}

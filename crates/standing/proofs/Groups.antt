@@ -7,7 +7,7 @@ use mathlib.Core.List.{List, [], _∷_, _++_}
 use lib.Dec.{eqb}
 use Rattle.forest.specs.Forest.{count, none, tree}
 use Rattle.forest.proofs.Bools.{and-left, and-right}
-use Rattle.words.specs.Trees.{Lexeme, list, wordOf}
+use Rattle.scanning.specs.Trees.{Lexeme, list, wordOf}
 use Rattle.lexemes.specs.Lists.{Items, inside, isList, isSymbol, item}
 use Rattle.lexemes.specs.Standing.{Source, Stands, bracketed, ends, word}
 use Rattle.lexemes.proofs.Standing.{by-itself, forward, here}

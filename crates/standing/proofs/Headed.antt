@@ -9,7 +9,7 @@ use lib.Dec.{leb}
 use Rattle.forest.specs.Forest.{Forest, count, join, none, tree}
 use Rattle.forest.specs.Lists.{sameBytes}
 use Rattle.forest.proofs.Bools.{and-left, and-right, or-right}
-use Rattle.words.specs.Trees.{Lexeme, list, literal, numeral, symbol}
+use Rattle.scanning.specs.Trees.{Lexeme, list, literal, numeral, symbol}
 use Rattle.reserved.specs.Reserved.{isOneOf, isWord}
 use Rattle.lexemes.specs.Lists.{Items, inside, is, isList, item}
 use Rattle.lexemes.specs.Standing.{Source, Stands, bracketed, ends, word}

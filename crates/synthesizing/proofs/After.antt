@@ -7,7 +7,7 @@ use lib.ListN.{length}
 use Rattle.forest.specs.Forest.{count, none, tree}
 use Rattle.lexemes.specs.Lists.{Items, inside, is, item, nameOf}
 use Rattle.sorts.specs.Written.{sortOf}
-use Rattle.naming.specs.Scopes.{Function, sortsOf}
+use Rattle.naming.specs.Scopes.{Function, namedSorts}
 use Rattle.declaring.specs.New.{namedBy}
 use Rattle.grammars.specs.Grammars.{grammarOf}
 use Rattle.script.specs.Script.{Known, argumentsOf, knownAfter, viewOf}
@@ -22,7 +22,7 @@ functionOf k c = record {
   arguments = argumentsOf c;
   result = sortOf (item 3 c) (inside 3 c);
   nonTerminals = namedBy (inside 4 c);
-  grammar = record { arguments = sortsOf (argumentsOf c); rules = grammarOf (viewOf k c) (inside 5 c) };
+  grammar = record { arguments = namedSorts (argumentsOf c); rules = grammarOf (viewOf k c) (inside 5 c) };
   before = length (k .defined);
 }
 
@@ -38,7 +38,7 @@ withFunction k c = record {
 }
 
 -- That is what is known after the command.
-pub after-is : {text words lexemes : List ℕ} {p : Progress} {i nowhere : ℕ} (of : CommandOf "synth-fun" text words lexemes p i nowhere)
+pub after-is : {text lexemes : List ℕ} {p : Progress} {i nowhere : ℕ} (of : CommandOf "synth-fun" text lexemes p i nowhere)
     → After of ≡ withFunction (of .known) (of .here .command)
 unfolding knownAfter
 after-is of = let t = synth-chosen of in rw (t .declares, t .defines, t .synthesizes, t .constrains)

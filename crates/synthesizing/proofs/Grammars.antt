@@ -9,7 +9,7 @@ use Rattle.forest.proofs.Rows.{length-rows}
 use Rattle.grammar.specs.Derivation.{Item, Rule, rule}
 use Rattle.grammar.specs.Tables.{formTable, itemRow, rightSides, ruleTable}
 use Rattle.gathering.specs.Terms.{Raw}
-use Rattle.naming.specs.Scopes.{View, formOf}
+use Rattle.naming.specs.Scopes.{View, formsOf}
 use Rattle.rules.specs.Rules.{Ruled, sides, startTable}
 
 -- How many numbers the table of forms has.
@@ -19,24 +19,24 @@ length-forms F = length-rows itemRow 4 (λ n. refl) (nodesOf F) ∙ ap (λ (n : 
 
 module _ (view : View) where
   -- There is a form for each node.
-  pub forms-size : (F : Forest Raw) → size (formOf view F) ≡ size F
-  unfolding formOf size
+  pub forms-size : (F : Forest Raw) → size (formsOf view F) ≡ size F
+  unfolding formsOf size
   forms-size none = refl
   forms-size (tree r ops more) = rw (forms-size ops, forms-size more)
 
   -- The forms of nodes, one behind the other.
-  forms-join : (F G : Forest Raw) → formOf view (join F G) ≡ join (formOf view F) (formOf view G)
-  unfolding formOf join
+  forms-join : (F G : Forest Raw) → formsOf view (join F G) ≡ join (formsOf view F) (formsOf view G)
+  unfolding formsOf join
   forms-join none G = refl
   forms-join (tree r ops more) G = rw (forms-join more G)
 
   -- The rules with their forms.
   abbrev pub said : List Ruled → List Rule
-  said rules = map (λ (r : Ruled). rule (r .head) (formOf view (r .side))) rules
+  said rules = map (λ (r : Ruled). rule (r .head) (formsOf view (r .side))) rules
 
   -- Their right sides are the forms of those that were gathered.
-  pub sides-said : (rules : List Ruled) → rightSides (said rules) ≡ formOf view (sides rules)
-  unfolding formOf rightSides sides
+  pub sides-said : (rules : List Ruled) → rightSides (said rules) ≡ formsOf view (sides rules)
+  unfolding formsOf rightSides sides
   sides-said [] = refl
   sides-said (r ∷ more) = rw (sides-said more, forms-join (r .side) (sides more))
 
@@ -48,4 +48,4 @@ module _ (view : View) where
 
   -- They are as many.
   pub said-long : (rules : List Ruled) → length (said rules) ≡ length rules
-  said-long rules = length-map rules (λ (r : Ruled). rule (r .head) (formOf view (r .side)))
+  said-long rules = length-map rules (λ (r : Ruled). rule (r .head) (formsOf view (r .side)))

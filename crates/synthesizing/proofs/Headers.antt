@@ -16,7 +16,7 @@ use Rattle.synthesizing.specs.Steps.{HeaderOf}
 
 module _ {lexemes : List ℕ} {at : ℕ} {arguments : ℕ} (ea : arguments ≡ nextAt lexemes (at + 2)) where
   -- The arguments stand within the table of lexemes.
-  pub first-room : SynthFunAt lexemes at → 3 * arguments < length lexemes
+  pub first-room : SynthFunAt lexemes at → 6 * arguments < length lexemes
   first-room p = arguments-room (header p) ea
 
   module _ {result : ℕ} (er : result ≡ nextAt lexemes arguments) where
@@ -34,7 +34,7 @@ module _ {lexemes : List ℕ} {at : ℕ} {arguments : ℕ} (ea : arguments ≡ n
 
     module _ {declared : ℕ} (ed : declared ≡ nextAt lexemes result) where
       -- The non-terminals stand within the table of lexemes.
-      pub declared-room : SynthFunAt lexemes at → 3 * declared < length lexemes
+      pub declared-room : SynthFunAt lexemes at → 6 * declared < length lexemes
       declared-room p = item-room (grammar-pairs ea er ed p .here)
 
       module _ {next : ℕ} (en : next ≡ nextAt lexemes declared) where

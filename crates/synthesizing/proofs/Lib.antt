@@ -1,11 +1,14 @@
 pub mod Within
 pub mod Small
+pub mod Ahead
 pub mod Headers
 pub mod Putting
 pub mod After
 pub mod Naming
 pub mod Grammars
 pub mod Sorting
+pub mod Kept
+pub mod Ruling
 pub mod Holding
 pub mod Passing
 pub mod Testing

@@ -64,14 +64,14 @@ same-grammar nowhere one other same view c =
     let later = min (grammarSorts Unknown nowhere c) (unknownIn nowhere view (nodesOf (sides (rulesIn 0 (inside 5 c))))) in
     ap (λ (n : ℕ). min n later) (same-members nowhere one other same (inside 4 c))
 
-module _ {text words lexemes names raw forms : List ℕ} {p : Progress} {arguments rows i nowhere : ℕ}
-    (u : Unnamed text words lexemes names raw forms p arguments rows i nowhere) where
+module _ {text lexemes names raw forms : List ℕ} {p : Progress} {arguments rows i nowhere : ℕ}
+    (u : Unnamed text lexemes names raw forms p arguments rows i nowhere) where
   -- it is within its limits
   limits : Small (u .of .here .command) (p .functions)
   limits = small (u .of) (u .limited)
 
   -- its head stands there
-  abbrev pub head-here : HeadAt text words lexemes names (scopeBefore p (ownArgumentRow (p .functions))) true i
+  abbrev pub head-here : HeadAt text lexemes names (scopeBefore p (ownArgumentRow (p .functions))) true i
   head-here =
       let parts = synth-fun-parts (u .of .here .command) (synth-shaped (u .of)) in
       record {
@@ -94,7 +94,7 @@ module _ {text words lexemes names raw forms : List ℕ} {p : Progress} {argumen
       }
 
   module _ {head : ℕ} {namesBetween : List ℕ}
-      (headed : (q : HeadAt text words lexemes names (scopeBefore p (ownArgumentRow (p .functions))) true i) → HeadNamed q nowhere namesBetween head) where
+      (headed : (q : HeadAt text lexemes names (scopeBefore p (ownArgumentRow (p .functions))) true i) → HeadNamed q nowhere namesBetween head) where
     -- the names of its head are put
     put-head : HeadNamed head-here nowhere namesBetween head
     put-head = headed head-here
@@ -104,7 +104,7 @@ module _ {text words lexemes names raw forms : List ℕ} {p : Progress} {argumen
     before-head r m h = same-through (same-before (put-head .kept-name) r m h) (same-before (put-head .kept-arguments) r m (omega arith))
 
     -- its grammar stands there
-    abbrev pub grammar-here : Naming text words lexemes namesBetween raw forms (scopeWithin p arguments) i rows (p .forms) nowhere
+    abbrev pub grammar-here : Naming text lexemes namesBetween raw forms (scopeWithin p arguments) i rows (p .forms) nowhere
     grammar-here = record {
       close = u .of .here .close;
       command = u .of .here .command;
@@ -165,7 +165,7 @@ module _ {text words lexemes names raw forms : List ℕ} {p : Progress} {argumen
         ∙ sym (named-both (namesOf (argumentsOf c)) (nameOf (item 1 c) ∷ scope (u .of .known)) n)
 
     module _ {namesAfter rawAfter formsAfter : List ℕ} {grammar : ℕ}
-        (tested : (q : Naming text words lexemes namesBetween raw forms (scopeWithin p arguments) i rows (p .forms) nowhere)
+        (tested : (q : Naming text lexemes namesBetween raw forms (scopeWithin p arguments) i rows (p .forms) nowhere)
         → GrammarNamed q namesAfter rawAfter formsAfter grammar) where
       -- the names of its grammar are put
       put-grammar : GrammarNamed grammar-here namesAfter rawAfter formsAfter grammar

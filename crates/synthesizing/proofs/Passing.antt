@@ -21,12 +21,12 @@ use Rattle.script.proofs.Verdicts.{says-grammar, says-passed, says-sorting}
 use Rattle.synthesizing.specs.Steps.{Put, Synthesized, Synthesizing, Unsorted}
 use Rattle.synthesizing.specs.declared.Header.{Header}
 use Rattle.synthesizing.proofs.After.{after-is}
-use Rattle.synthesizing.proofs.Sorting.{forms-long, grammar-place, sorting-place}
+use Rattle.synthesizing.proofs.Sorting.{forms-long, fromRules, grammar-place, sorting-place}
 use Rattle.synthesizing.proofs.Holding.{grammars-grow, places-grow}
 
 -- A refusal changes nothing that is known, and keeps the lengths of the tables.
-pub refused-so : {text words lexemes names raw places forms : List ℕ} {p : Progress} {i nowhere : ℕ}
-    (d : Synthesizing text words lexemes names raw places forms p i nowhere) {namesAfter rawAfter placesAfter formsAfter : List ℕ} {v : Verdict}
+pub refused-so : {text lexemes names raw places forms : List ℕ} {p : Progress} {i nowhere : ℕ}
+    (d : Synthesizing text lexemes names raw places forms p i nowhere) {namesAfter rawAfter placesAfter formsAfter : List ℕ} {v : Verdict}
     → 0 < v .number → Tested (d .of) v → length rawAfter ≡ length raw → length formsAfter ≡ length forms
     → Synthesized d namesAfter rawAfter placesAfter formsAfter v
 refused-so d some says raw-long forms-long = record {
@@ -39,8 +39,8 @@ refused-so d some says raw-long forms-long = record {
   forms-long = forms-long;
 }
 
-module _ {text words lexemes names raw places forms rules : List ℕ} {p : Progress} {g : Gathered} {h : Header} {i nowhere : ℕ}
-    (s : Unsorted text words lexemes names raw places forms rules p g h i nowhere)
+module _ {text lexemes names raw places forms : List ℕ} {p : Progress} {g : Gathered} {h : Header} {i nowhere : ℕ}
+    (s : Unsorted text lexemes names raw places forms p g h i nowhere)
     {placesBetween : List ℕ} (listed : Listed names places (h .listed) placesBetween) {column : List ℕ} (blank : column ≡ noSorts)
     {columnAfter : List ℕ} {within : ℕ}
     (tested : (q : Sorting lexemes raw (take (length forms - 4 * p .forms) (drop (4 * p .forms) forms)) placesBetween column i (g .row) nowhere)
@@ -58,8 +58,9 @@ module _ {text words lexemes names raw places forms rules : List ℕ} {p : Progr
       (says-sorting allowed nowhere (s .given .of .known) i (s .given .of .here .command) (After (s .given .of)) _ (s .limited) (s .named)
       (record { number-is = refl; place-is = sorts-are; found = found })) (s .raw-long) (forms-long s)
 
-  module _ (fine : nowhere ≤ place) {lists : ℕ} (by-lists : (q : Declared text words lexemes names i (h .listed)) → ListsTested q nowhere lists)
-      {misfits : ℕ} (by-rules : (q : RulesSought raw rules placesBetween columnAfter (g .rule) (h .listed)) → RulesFound q nowhere misfits)
+  module _ (fine : nowhere ≤ place) {lists : ℕ} (by-lists : (q : Declared text lexemes names i (h .listed)) → ListsTested q nowhere lists)
+      {misfits : ℕ}
+      (by-rules : (q : RulesSought raw (fromRules p placesBetween) placesBetween columnAfter (g .rule) (h .listed)) → RulesFound q nowhere misfits)
       {misfit : ℕ} (lesser : misfit ≡ min lists misfits) where
     -- the sorts are in order
     sorts-pass : nowhere ≤ sortingPlace nowhere (s .given .of .known) (s .given .of .here .command)
@@ -74,7 +75,7 @@ module _ {text words lexemes names raw places forms rules : List ℕ} {p : Progr
         (record { number-is = refl; place-is = grammar-place s listed blank tested by-lists by-rules lesser; found = found })) (s .raw-long) (forms-long s)
 
     -- nothing is
-    pub all-passed : nowhere ≤ misfit → {placesAfter : List ℕ} → Put names placesBetween rules p g h placesAfter
+    pub all-passed : nowhere ≤ misfit → {placesAfter : List ℕ} → Put names placesBetween p g h placesAfter
         → Synthesized (s .given) names raw placesAfter forms (record { number = 0; place = 0; rows = g .row })
     all-passed right put = record {
       verdict-is = says-passed allowed nowhere (s .given .of .known) i (s .given .of .here .command) (After (s .given .of)) _ (s .limited) (s .named) sorts-pass

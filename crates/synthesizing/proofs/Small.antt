@@ -50,7 +50,7 @@ pub record Small (c : Items) (functions : ℕ) : Type 0 where
   pub narrow-listed : AllNarrow (inside 4 c)
   pub few-rules : length (ruledBy c) ≤ 128
 
-module _ {text words lexemes : List ℕ} {p : Progress} {i nowhere : ℕ} (of : CommandOf "synth-fun" text words lexemes p i nowhere) where
+module _ {text lexemes : List ℕ} {p : Progress} {i nowhere : ℕ} (of : CommandOf "synth-fun" text lexemes p i nowhere) where
   -- which command it is
   pub synth-chosen : Chosen (of .here .command) 11
   unfolding codeFor
@@ -72,7 +72,7 @@ module _ {text words lexemes : List ℕ} {p : Progress} {i nowhere : ℕ} (of : 
   abbrev pub synth-at : SynthFunAt lexemes i
   synth-at = record {
     here = record {
-      source = sourceOf text words lexemes;
+      source = sourceOf text lexemes;
       same = refl;
       close = of .here .close;
       operands = of .here .command;
@@ -99,7 +99,7 @@ module _ {text words lexemes : List ℕ} {p : Progress} {i nowhere : ℕ} (of : 
       omega (arith, list .next)
 
   -- its groups stand in it
-  pub groups-amid : Amid (sourceOf text words lexemes) (i + 1) (of .here .close) (inside 5 (of .here .command))
+  pub groups-amid : Amid (sourceOf text lexemes) (i + 1) (of .here .close) (inside 5 (of .here .command))
   groups-amid =
       let list = here refl (of .here .stands) .a-list refl in
       let same : list .close ≡ of .here .close = cc (list .label) in
@@ -113,7 +113,7 @@ module _ {text words lexemes : List ℕ} {p : Progress} {i nowhere : ℕ} (of : 
       and-right (isList (item 5 c)) (all groupShape (inside 5 c)) (synth-fun-parts c synth-shaped .groups)
 
   -- the nodes of its rules rise
-  rules-rising : Rising (groups-amid .first) (groups-amid .last) (sides (ruledBy (of .here .command)))
+  pub rules-rising : Rising (groups-amid .first) (groups-amid .last) (sides (ruledBy (of .here .command)))
   rules-rising = rules-rise (groups-amid .stands) groups-shaped 0
 
   -- in the text
@@ -121,7 +121,7 @@ module _ {text words lexemes : List ℕ} {p : Progress} {i nowhere : ℕ} (of : 
   nodes-rise = rising-wider (sides (ruledBy (of .here .command))) rules-rising (omega arith) (omega (arith, groups-amid .ends-by, closes-within))
 
   -- their words say what they are
-  pub nodes-say : AllSay (sourceOf text words lexemes) (sides (ruledBy (of .here .command)))
+  pub nodes-say : AllSay (sourceOf text lexemes) (sides (ruledBy (of .here .command)))
   nodes-say = rules-say (groups-amid .stands) groups-shaped 0
 
   -- each rule is one tree

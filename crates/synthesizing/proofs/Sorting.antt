@@ -5,7 +5,7 @@ use native.Mathlib.Omega.{arith}
 use mathlib.Core.Path.{_≡_, refl, sym, ap, ap₂, _∙_}
 use mathlib.Core.List.{List, [], _∷_, _++_, append-assoc}
 use lib.ListN.{drop, getD, length, length-drop, length-map, length-replicate, take}
-use lib.Seq.{drop-at, length-sets, length-take-le, sets, sets-eq, take-all}
+use lib.Seq.{drop-at, drop-drop, length-sets, length-take-le, sets, sets-eq, take-all}
 use Rattle.forest.specs.Forest.{Node, count, nodesOf, none, tree}
 use Rattle.bits.specs.Sorts.{maxWidth}
 use Rattle.sorting.specs.Forms.{sortColumn}
@@ -13,7 +13,7 @@ use Rattle.sorting.specs.Tables.{RowsAre, SortsAre}
 use Rattle.lexemes.specs.Lists.{Items, inside, item, nameOf}
 use Rattle.bodies.specs.Steps.{noSorts}
 use Rattle.gathering.specs.Terms.{Raw}
-use Rattle.naming.specs.Scopes.{Defined, View, formOf, namesOf, sortsOf}
+use Rattle.naming.specs.Scopes.{Defined, View, formsOf, namesOf, namedSorts}
 use Rattle.naming.specs.Steps.{sourceOf}
 use Rattle.naming.specs.Table.{nonTerminalRow, sortIn, sortsFrom}
 use Rattle.naming.specs.Unknown.{unknownIn}
@@ -28,18 +28,18 @@ use Rattle.faults.specs.Steps.{RulesFound, RulesSought, Signed}
 use Rattle.heading.specs.Heads.{headerNames}
 use Rattle.grammars.specs.Grammars.{grammarNames}
 use Rattle.grammars.specs.Steps.{Declared, ListsTested, Sorted, Sorting}
-use Rattle.rules.specs.Rules.{sides}
+use Rattle.rules.specs.Rules.{sides, startTable}
 use Rattle.rules.specs.declared.Gathered.{Gathered}
 use Rattle.signatures.specs.Steps.{Listed, Listing}
 use Rattle.signatures.proofs.Sorted.{rows-before}
 use Rattle.script.specs.Script.{Known, argumentsOf, grammarPlace, scope, sortingPlace, viewOf}
 use Rattle.script.specs.Tables.{definedSignatures}
 use Rattle.script.specs.declared.Progress.{Progress}
-use Rattle.synthesizing.specs.Steps.{Unsorted, formsSaid, ruledBy}
+use Rattle.synthesizing.specs.Steps.{Unsorted, formsSaid, ownRules, ruledBy}
 use Rattle.synthesizing.specs.declared.Header.{Header}
 use Rattle.synthesizing.proofs.Within.{past-neither, past-none}
-use Rattle.synthesizing.proofs.Small.{Small, closes-within, grammar-is, name-is, nodes-rise, nodes-say}
-use Rattle.synthesizing.proofs.Small.{rules-trees, small, sorting-is, synth-at, synth-named, synth-shaped}
+use Rattle.synthesizing.proofs.Small.{Small, closes-within, grammar-is, name-is, nodes-rise, nodes-say, rules-trees, small, sorting-is, synth-at}
+use Rattle.synthesizing.proofs.Small.{synth-named, synth-shaped}
 use Rattle.synthesizing.proofs.After.{named-long}
 use Rattle.synthesizing.proofs.Grammars.{forms-size, length-forms}
 
@@ -57,7 +57,7 @@ sort-in-row names r (suc n) zero h = rw add-zero
 sort-in-row names r (suc n) (suc j) h = let next : r + suc j ≡ r + 1 + j = omega arith in rw next (sort-in-row names (r + 1) n j (omega arith))
 
 -- The sort of one of the pairs.
-narrow-sort : (F : Items) (j : ℕ) → j < count F → AllNarrow F → getD (sortsOf (namedBy F)) j 0 ≤ maxWidth
+narrow-sort : (F : Items) (j : ℕ) → j < count F → AllNarrow F → getD (namedSorts (namedBy F)) j 0 ≤ maxWidth
 unfolding AllNarrow count namedBy
 narrow-sort none j h narrow = absurd (omega arith)
 narrow-sort (tree l ops more) zero h narrow = narrow .0
@@ -67,12 +67,22 @@ narrow-sort (tree l ops more) (suc j) h narrow = narrow-sort more j (omega arith
 pub written-there : (l : List ℕ) (at : ℕ) (vs : List ℕ) → at + length vs ≤ length l → drop at (sets l at vs) ≡ vs ++ drop (at + length vs) l
 written-there l at vs h = ap (drop at) (sets-eq vs l at h) ∙ rw append-assoc (drop-at (take at l) _ at (length-take-le at l (omega arith)))
 
+-- What is the same behind one place is the same behind a later one.
+pub same-behind : (n : ℕ) (l m : List ℕ) → drop n l ≡ drop n m → (d : ℕ) → n ≤ d → drop d l ≡ drop d m
+same-behind n l m same d far =
+    let at : n + (d - n) ≡ d = omega arith in
+    rw at at (sym (drop-drop (d - n) n l) ∙ ap (drop (d - n)) same ∙ drop-drop (d - n) n m)
+
+-- The table of places from the rules of one function more on.
+abbrev pub fromRules : Progress → (places : List ℕ) → List ℕ
+fromRules p places = take (length places - ownRules p) (drop (ownRules p) places)
+
 -- The sorts of the nodes of its rules.
 abbrev pub columnSaid : Known → Items → List ℕ
-columnSaid k c = sortColumn (scopeOf (viewOf k c)) (formOf (viewOf k c) (sides (ruledBy c)))
+columnSaid k c = sortColumn (scopeOf (viewOf k c)) (formsOf (viewOf k c) (sides (ruledBy c)))
 
-module _ {text words lexemes names raw places forms rules : List ℕ} {p : Progress} {g : Gathered} {h : Header} {i nowhere : ℕ}
-    (s : Unsorted text words lexemes names raw places forms rules p g h i nowhere) where
+module _ {text lexemes names raw places forms : List ℕ} {p : Progress} {g : Gathered} {h : Header} {i nowhere : ℕ}
+    (s : Unsorted text lexemes names raw places forms p g h i nowhere) where
   -- it is within its limits
   pub limits : Small (s .given .of .here .command) (p .functions)
   limits = small (s .given .of) (s .limited)
@@ -101,7 +111,7 @@ module _ {text words lexemes names raw places forms rules : List ℕ} {p : Progr
       let view = viewOf (s .given .of .known) (s .given .of .here .command) in
       let F = sides (ruledBy (s .given .of .here .command)) in
       let end = closes-within (s .given .of) in
-      omega (arith, length-forms (formOf view F), forms-size view F, s .rows-are, s .within, s .given .within, s .given .forms-room)
+      omega (arith, length-forms (formsOf view F), forms-size view F, s .rows-are, s .within, s .given .within, s .given .forms-room)
 
   -- the table of forms is as long as it was
   pub forms-long : length forms ≡ length (s .lentForms)
@@ -138,7 +148,7 @@ module _ {text words lexemes names raw places forms rules : List ℕ} {p : Progr
       omega (arith, unknown-most nowhere (viewOf k c) nodes)
 
   -- what its grammar lists may be tested
-  abbrev pub lists-here : Declared text words lexemes names i (h .listed)
+  abbrev pub lists-here : Declared text lexemes names i (h .listed)
   lists-here = record {
     close = s .given .of .here .close;
     command = s .given .of .here .command;
@@ -156,7 +166,7 @@ module _ {text words lexemes names raw places forms rules : List ℕ} {p : Progr
 
   module _ {placesBetween : List ℕ} (listed : Listed names places (h .listed) placesBetween) where
     -- the non-terminals' sorts stand in their rows
-    pub nonTerminals-are : SortsAre placesBetween 40 (sortsOf (namedBy (inside 4 (s .given .of .here .command))))
+    pub nonTerminals-are : SortsAre placesBetween 40 (namedSorts (namedBy (inside 4 (s .given .of .here .command))))
     nonTerminals-are = rw (s .header .listed-are, s .listed-sorts) at (listed .sorts-are)
 
     -- the rows hold what its rules see
@@ -177,6 +187,17 @@ module _ {text words lexemes names raw places forms rules : List ℕ} {p : Progr
           few-nonTerminals = omega (arith, named-long (inside 4 (s .given .of .here .command)), limits .few-listed);
         }
 
+    -- its rules start within the table
+    pub rules-start : ownRules p ≤ length placesBetween
+    rules-start = omega (arith, listed .long, s .given .places-hold .long, limits .one-more)
+
+    -- and stand there
+    pub rules-there : fromRules p placesBetween ≡ startTable 0 (ruledBy (s .given .of .here .command)) ++ s .more
+    rules-there =
+        take-all (length placesBetween - ownRules p) (drop (ownRules p) placesBetween) (omega (arith, length-drop (ownRules p) placesBetween))
+        ∙ same-behind 560 placesBetween places (listed .behind) (ownRules p) (omega arith)
+        ∙ s .rules-are
+
     module _ {column : List ℕ} (blank : column ≡ noSorts) where
       -- there is a row for each node
       pub column-room : g .row ≤ length column
@@ -187,7 +208,7 @@ module _ {text words lexemes names raw places forms rules : List ℕ} {p : Progr
       sorting-here = record {
         command = synth-at (s .given .of);
         sought = record {
-          source = sourceOf text words lexemes;
+          source = sourceOf text lexemes;
           lawful = s .given .of .here .lawful;
           F = sides (ruledBy (s .given .of .here .command));
           rest = s .rest;
@@ -214,14 +235,14 @@ module _ {text words lexemes names raw places forms rules : List ℕ} {p : Progr
         sorting-place by-head e = e ∙ ap₂ min (by-head header-at) (tested sorting-here .place-is) ∙ sym (sorting-is (s .given .of))
 
         -- the sorts of its rules may be compared
-        abbrev pub rules-here : RulesSought raw rules placesBetween columnAfter (g .rule) (h .listed)
+        abbrev pub rules-here : RulesSought raw (fromRules p placesBetween) placesBetween columnAfter (g .rule) (h .listed)
         rules-here = record {
           ruled = ruledBy (s .given .of .here .command);
           single = rules-trees (s .given .of);
           rest = s .rest;
           is-raw = s .raw-is;
           others = s .more;
-          is-rules = s .rules-are;
+          is-rules = rules-there;
           counted = s .counted;
           view = viewOf (s .given .of .known) (s .given .of .here .command);
           more = drop (length (columnSaid (s .given .of .known) (s .given .of .here .command))) column;
@@ -232,7 +253,7 @@ module _ {text words lexemes names raw places forms rules : List ℕ} {p : Progr
         }
 
         -- the least word at fault in the grammar
-        pub grammar-place : {lists : ℕ} → ((q : Declared text words lexemes names i (h .listed)) → ListsTested q nowhere lists)
-            → {misfits : ℕ} → ((q : RulesSought raw rules placesBetween columnAfter (g .rule) (h .listed)) → RulesFound q nowhere misfits)
+        pub grammar-place : {lists : ℕ} → ((q : Declared text lexemes names i (h .listed)) → ListsTested q nowhere lists)
+            → {misfits : ℕ} → ((q : RulesSought raw (fromRules p placesBetween) placesBetween columnAfter (g .rule) (h .listed)) → RulesFound q nowhere misfits)
             → {r : ℕ} → r ≡ min lists misfits → r ≡ grammarPlace nowhere (s .given .of .known) (s .given .of .here .command)
         grammar-place by-lists by-rules e = e ∙ ap₂ min (by-lists lists-here) (by-rules rules-here) ∙ sym (grammar-is (s .given .of))

@@ -1,28 +1,33 @@
 -- The tests of a `synth-fun` in their order: what each asks of those before it, and the verdict on its limits and its names.
-use Prim.Native.Nat.{ℕ, _+_, _*_, _≤_, _<_, min}
+use Prim.Native.Nat.{ℕ, _+_, _-_, _*_, _≤_, _<_, min}
 use native.Mathlib.Omega.{arith}
 use mathlib.Core.Path.{_≡_, refl, sym, ap, _∙_}
-use mathlib.Core.List.{List}
-use lib.ListN.{length, length-append, length-replicate}
-use lib.Seq.{length-sets}
+use mathlib.Core.List.{List, _++_, append-assoc}
+use lib.ListN.{drop, length, length-append, length-drop}
+use lib.Seq.{length-sets, length-take-le}
+use borrow.Author.Tests.{lt-ltb}
 use Rattle.forest.specs.Forest.{Forest, nodesOf}
 use Rattle.forest.proofs.Rows.{length-rows}
 use Rattle.gathering.specs.Table.{rawRow, rawTable, uncounted, uncountedTable}
 use Rattle.gathering.specs.Terms.{Raw}
 use Rattle.sorts.specs.Steps.{HeaderAt, SynthFunAt}
 use Rattle.sorts.proofs.Commands.{header}
-use Rattle.heading.specs.Heads.{allowed, headerPast}
+use Rattle.heading.specs.Heads.{allowed}
+use Rattle.heading.specs.Steps.{HeadLimited}
 use Rattle.grammars.specs.Steps.{GrammarAt, Limited}
-use Rattle.rules.specs.Rules.{sides}
+use Rattle.rules.specs.Rules.{sides, startTable}
 use Rattle.rules.specs.declared.Gathered.{Gathered}
-use Rattle.script.specs.Limits.{commandPast}
 use Rattle.script.specs.Script.{limitPlace}
 use Rattle.script.specs.Tables.{After}
 use Rattle.script.specs.declared.Progress.{Progress}
+use Rattle.script.specs.declared.Verdict.{Verdict}
+use Rattle.script.proofs.Places.{command-word}
 use Rattle.script.proofs.Verdicts.{says-limit, says-name}
-use Rattle.synthesizing.specs.Steps.{Gathering, HeaderOf, NamesFound, Synthesized, Synthesizing, Unnamed, Unsorted, formsSaid, noRules, ruledBy}
+use Rattle.synthesizing.specs.Steps.{Gathering, HeaderOf, NamesFound, Synthesized, Synthesizing, Unnamed, Unsorted, formsSaid, ownRules, ruledBy}
 use Rattle.synthesizing.specs.declared.Header.{Header}
 use Rattle.synthesizing.proofs.Small.{closes-next, closes-within, limit-is, nodes-within, small, synth-at}
+use Rattle.synthesizing.proofs.Ahead.{command-first}
+use Rattle.synthesizing.proofs.Ruling.{found-still, own-room, rules-stand, rulesPart, still, withRules}
 use Rattle.synthesizing.proofs.Passing.{refused-so}
 
 -- The table of nodes is as long before they are counted.
@@ -30,61 +35,91 @@ tables-long : (F : Forest Raw) → length (rawTable F) ≡ length (uncountedTabl
 unfolding rawTable uncountedTable
 tables-long F = length-rows rawRow 4 (λ n. refl) (nodesOf F) ∙ sym (length-rows uncounted 4 (λ n. refl) (nodesOf F))
 
-module _ {text words lexemes names raw places forms : List ℕ} {p : Progress} {i nowhere : ℕ}
-    (d : Synthesizing text words lexemes names raw places forms p i nowhere) {rules : List ℕ} (blank : rules ≡ noRules) where
-  -- The rules of the command may be gathered.
-  abbrev pub grammar-at : GrammarAt lexemes raw rules i
-  grammar-at = record {
-    command = synth-at (d .of);
-    room = omega (arith, closes-next (d .of), closes-within (d .of), d .raw-room);
-    rules-room = rw (blank, length-replicate) (omega arith);
-  }
+module _ {text lexemes names raw places forms : List ℕ} {p : Progress} {i nowhere : ℕ}
+    (d : Synthesizing text lexemes names raw places forms p i nowhere) where
+  -- There are as many functions before the command as there may be.
+  pub full-refused : 8 ≤ p .functions → Synthesized d names raw places forms (record { number = 4; place = i; rows = 0 })
+  full-refused full =
+      refused-so d (omega arith)
+      (says-limit allowed nowhere (d .of .known) i (d .of .here .command) (After (d .of)) _
+      (record { number-is = refl; place-is = command-first (d .of) full; found = command-word (d .of .here) })) refl refl
 
-  module _ {rawAfter rulesAfter : List ℕ} {g : Gathered} (gathered : (q : GrammarAt lexemes raw rules i) → Limited q nowhere rawAfter rulesAfter g)
-      {place : ℕ} (found : (q : HeaderAt lexemes i)
-      → place ≡ min (commandPast nowhere 8 (p .functions) i) (min (headerPast allowed nowhere (q .here .operands)) (g .place))) where
-    -- What the test of the limits finds.
-    limit-found : place ≡ limitPlace allowed nowhere (d .of .known) i (d .of .here .command)
-    limit-found = found (header (synth-at (d .of))) ∙ rw (d .of .counted .functions-are, gathered grammar-at .place-is) (sym (limit-is (d .of)))
+  -- There are fewer.
+  module _ (one-more : p .functions < 8) where
+    -- The part of the table of places for its rules has room for 128.
+    pub own-long : length (rulesPart p places) ≡ 256
+    own-long =
+        let own = drop (ownRules p) places in
+        length-take-le (ownRules p + 256 - ownRules p) own (omega (arith, length-drop (ownRules p) places, own-room d one-more)) ∙ omega arith
 
-    -- Something is past a limit.
-    pub limit-refused : place < nowhere → Synthesized d names rawAfter places forms (record { number = 4; place = place; rows = 0 })
-    limit-refused past =
-        refused-so d (omega arith)
-        (says-limit allowed nowhere (d .of .known) i (d .of .here .command) (After (d .of)) _
-        (record { number-is = refl; place-is = limit-found; found = past })) (gathered grammar-at .raw-long) refl
+    -- The rules of the command may be gathered there.
+    abbrev pub grammar-at : GrammarAt lexemes raw (rulesPart p places) i
+    grammar-at = record {
+      command = synth-at (d .of);
+      room = omega (arith, closes-next (d .of), closes-within (d .of), d .raw-room);
+      rules-room = omega (arith, own-long);
+    }
 
-    -- Nothing is.
-    module _ (fine : nowhere ≤ place) where
-      pub limits-pass : nowhere ≤ limitPlace allowed nowhere (d .of .known) i (d .of .here .command)
-      limits-pass = rw limit-found at fine
+    module _ {rawAfter rules : List ℕ} {g : Gathered}
+        (gathered : (q : GrammarAt lexemes raw (rulesPart p places) i) → Limited q nowhere rawAfter rules g)
+        {head : ℕ} (by-head : (q : HeaderAt lexemes i) → HeadLimited q allowed nowhere head) {place : ℕ} (least : place ≡ min head (g .place)) where
+      -- What the test of the limits finds.
+      limit-found : limitPlace allowed nowhere (d .of .known) i (d .of .here .command) ≡ min nowhere place
+      limit-found =
+          limit-is (d .of)
+          ∙ rw (← d .of .counted .functions-are, lt-ltb (p .functions) 8 one-more, least, by-head (header (synth-at (d .of))), gathered grammar-at .place-is)
 
-      pub rules-few : g .rule ≤ 128
-      rules-few = omega (arith, small (d .of) limits-pass .few-rules, gathered grammar-at .counted)
+      -- Something is past a limit.
+      pub limit-refused : place < nowhere → {placesAfter : List ℕ}
+          → Synthesized d names rawAfter placesAfter forms (record { number = 4; place = place; rows = 0 })
+      limit-refused past =
+          refused-so d (omega arith)
+          (says-limit allowed nowhere (d .of .known) i (d .of .here .command) (After (d .of)) _
+          (record { number-is = refl; place-is = omega (arith, limit-found); found = past })) (gathered grammar-at .raw-long) refl
 
-      -- The names may be tested.
-      abbrev pub gathering-here : Gathering text words lexemes names rawAfter places forms rulesAfter p g i nowhere
-      gathering-here = record {
-        lent = raw;
-        given = d;
-        limited = limits-pass;
-        raw-long = gathered grammar-at .raw-long;
-        rest = gathered grammar-at .rest;
-        raw-is = gathered grammar-at .raw-is;
-        rows-are = gathered grammar-at .rows-are;
-        within = omega (arith, gathered grammar-at .rows-are, nodes-within (d .of));
-        more = gathered grammar-at .more;
-        rules-are = gathered grammar-at .rules-are rules-few;
-        counted = gathered grammar-at .counted;
-        few = rules-few;
-        rules-long = gathered grammar-at .rules-long ∙ rw (blank, length-replicate);
-      }
+      -- Nothing is.
+      module _ (fine : nowhere ≤ place) where
+        pub limits-pass : nowhere ≤ limitPlace allowed nowhere (d .of .known) i (d .of .here .command)
+        limits-pass = omega (arith, limit-found)
 
-module _ {text words lexemes names raw places forms rules : List ℕ} {p : Progress} {g : Gathered} {i nowhere : ℕ}
-    (s : Gathering text words lexemes names raw places forms rules p g i nowhere)
+        pub rules-few : g .rule ≤ 128
+        rules-few = omega (arith, small (d .of) limits-pass .few-rules, gathered grammar-at .counted)
+
+        -- The rules fill their part.
+        pub rules-long : length rules ≡ 256
+        rules-long = gathered grammar-at .rules-long ∙ own-long
+
+        -- The names may be tested.
+        abbrev pub gathering-here : Gathering text lexemes names rawAfter (withRules p places rules) forms p g i nowhere
+        gathering-here = record {
+          lent = raw;
+          given = still d one-more rules rules-long;
+          limited = limits-pass;
+          raw-long = gathered grammar-at .raw-long;
+          rest = gathered grammar-at .rest;
+          raw-is = gathered grammar-at .raw-is;
+          rows-are = gathered grammar-at .rows-are;
+          within = omega (arith, gathered grammar-at .rows-are, nodes-within (d .of));
+          more = gathered grammar-at .more ++ drop (ownRules p + length rules) places;
+          rules-are = rules-stand d one-more rules rules-long
+              ∙ ap (λ (l : List ℕ). l ++ drop (ownRules p + length rules) places) (gathered grammar-at .rules-are rules-few)
+              ∙ append-assoc (startTable 0 (ruledBy (d .of .here .command))) (gathered grammar-at .more) (drop (ownRules p + length rules) places);
+          counted = gathered grammar-at .counted;
+          few = rules-few;
+        }
+
+        -- What is found of the command then is found of it.
+        pub found-then : {namesAfter rawLast placesAfter formsAfter : List ℕ} {v : Verdict}
+            → ((s : Gathering text lexemes names rawAfter (withRules p places rules) forms p g i nowhere)
+            → Synthesized (s .given) namesAfter rawLast placesAfter formsAfter v)
+            → Synthesized d namesAfter rawLast placesAfter formsAfter v
+        found-then found = found-still d one-more rules rules-long (found gathering-here)
+
+module _ {text lexemes names raw places forms : List ℕ} {p : Progress} {g : Gathered} {i nowhere : ℕ}
+    (s : Gathering text lexemes names raw places forms p g i nowhere)
     {h : Header} (by-header : (q : SynthFunAt lexemes i) → HeaderOf (q .here .operands) h) where
   -- The names of the command may be put.
-  abbrev pub unnamed-here : Unnamed text words lexemes names raw forms p (h .arguments) (g .row) i nowhere
+  abbrev pub unnamed-here : Unnamed text lexemes names raw forms p (h .arguments) (g .row) i nowhere
   unnamed-here = record {
     of = s .given .of;
     names-hold = s .given .names-hold;
@@ -97,7 +132,7 @@ module _ {text words lexemes names raw places forms rules : List ℕ} {p : Progr
   }
 
   module _ {namesAfter rawAfter formsAfter : List ℕ} {place : ℕ}
-      (found : (u : Unnamed text words lexemes names raw forms p (h .arguments) (g .row) i nowhere) → NamesFound u namesAfter rawAfter formsAfter place) where
+      (found : (u : Unnamed text lexemes names raw forms p (h .arguments) (g .row) i nowhere) → NamesFound u namesAfter rawAfter formsAfter place) where
     -- The tables are as long as they were.
     pub raw-kept : length rawAfter ≡ length (s .lent)
     raw-kept =
@@ -120,7 +155,7 @@ module _ {text words lexemes names raw places forms rules : List ℕ} {p : Progr
         (record { number-is = refl; place-is = found unnamed-here .place-is; found = fault })) raw-kept forms-kept
 
     -- None is, and the sorts may be tested.
-    abbrev pub unsorted-here : nowhere ≤ place → Unsorted text words lexemes namesAfter rawAfter places formsAfter rules p g h i nowhere
+    abbrev pub unsorted-here : nowhere ≤ place → Unsorted text lexemes namesAfter rawAfter places formsAfter p g h i nowhere
     unsorted-here fine = record {
       lentNames = names;
       lentRaw = s .lent;
@@ -142,5 +177,4 @@ module _ {text words lexemes names raw places forms rules : List ℕ} {p : Progr
       rules-are = s .rules-are;
       counted = s .counted;
       few = s .few;
-      rules-long = s .rules-long;
     }

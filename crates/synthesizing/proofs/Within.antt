@@ -7,11 +7,10 @@ use mathlib.Core.List.{List, [], _∷_}
 use lib.Dec.{leb}
 use lib.ListN.{length}
 use borrow.Author.Tests.{leb-true}
-use Rattle.forest.specs.Forest.{Forest, count, join, none, tree}
-use Rattle.lexemes.specs.Lists.{Items, inside, item}
+use Rattle.forest.specs.Forest.{count, join, tree}
+use Rattle.lexemes.specs.Lists.{Items, inside}
 use Rattle.lexemes.specs.Standing.{Source, Stands, bracketed, ends, word}
 use Rattle.lexemes.proofs.Standing.{forward}
-use Rattle.gathering.specs.Terms.{Raw}
 use Rattle.faults.specs.Steps.{AllSingle, Rising}
 use Rattle.rules.specs.Rules.{Ruled, itemPast, rulePast, sides}
 use Rattle.script.proofs.Places.{Below, item-below, no-fault}

@@ -2,15 +2,15 @@
 use Prim.Native.Nat.{ℕ, _+_, _*_, _≤_}
 use mathlib.Core.List.{List, [], _∷_, _++_}
 use mathlib.Core.Path.{_≡_}
-use lib.ListN.{drop, length, replicate, take}
+use lib.ListN.{drop, length}
 use lib.Seq.{sets}
 use Rattle.forest.specs.Forest.{count, size}
 use Rattle.lexemes.specs.Lists.{Items, inside, item}
 use Rattle.sorts.specs.Written.{sortOf}
 use Rattle.gathering.specs.Table.{rawTable, uncountedTable}
 use Rattle.grammar.specs.Tables.{formTable}
-use Rattle.sorting.specs.Tables.{functionRow as functionSignature, signatureWidth}
-use Rattle.naming.specs.Scopes.{formOf, namesOf, sortsOf}
+use Rattle.sorting.specs.Tables.{functionSignature, signatureWidth}
+use Rattle.naming.specs.Scopes.{formsOf, namesOf, namedSorts}
 use Rattle.naming.specs.Table.{namesFrom, nonTerminalRow, ownArgumentRow, sortsFrom}
 use Rattle.declaring.specs.New.{namedBy}
 use Rattle.rules.specs.Rules.{Ruled, rulesIn, sides, startTable}
@@ -18,14 +18,14 @@ use Rattle.rules.specs.declared.Gathered.{Gathered}
 use Rattle.heading.specs.Heads.{allowed}
 use Rattle.signatures.specs.Steps.{Signing, signatureRow}
 use Rattle.script.specs.Script.{Known, limitPlace, namePlace, viewOf}
-use Rattle.script.specs.Tables.{After, CommandOf, GrammarsHold, NamesHold, PlacesHold, Tested, functionsPlace, placesLength, rulesPlace}
+use Rattle.script.specs.Tables.{After, CommandOf, GrammarsHold, NamesHold, PlacesHold, Tested, functionsPlace, placesLength}
 use Rattle.script.specs.declared.Progress.{Progress}
 use Rattle.script.specs.declared.Verdict.{Verdict}
 use Rattle.synthesizing.specs.declared.Header.{Header}
 
 -- A `synth-fun` of its shape stands at word i; what is known before it, in tables; and a row for each word of the text.
-pub record Synthesizing (text words lexemes names raw places forms : List ℕ) (p : Progress) (i nowhere : ℕ) : Type 0 where
-  pub of : CommandOf "synth-fun" text words lexemes p i nowhere
+pub record Synthesizing (text lexemes names raw places forms : List ℕ) (p : Progress) (i nowhere : ℕ) : Type 0 where
+  pub of : CommandOf "synth-fun" text lexemes p i nowhere
   pub names-hold : NamesHold names (of .known)
   pub nodes : List ℕ
   pub places-hold : PlacesHold places nodes (p .nodes) (of .known)
@@ -35,8 +35,8 @@ pub record Synthesizing (text words lexemes names raw places forms : List ℕ) (
   pub within : p .forms ≤ i
 
 -- The command is tested, and where it passes, its function and its grammar are known.
-pub record Synthesized {text words lexemes names raw places forms : List ℕ} {p : Progress} {i nowhere : ℕ}
-    (d : Synthesizing text words lexemes names raw places forms p i nowhere) (namesAfter rawAfter placesAfter formsAfter : List ℕ) (v : Verdict) : Type 0 where
+pub record Synthesized {text lexemes names raw places forms : List ℕ} {p : Progress} {i nowhere : ℕ}
+    (d : Synthesizing text lexemes names raw places forms p i nowhere) (namesAfter rawAfter placesAfter formsAfter : List ℕ) (v : Verdict) : Type 0 where
   pub verdict-is : Tested (d .of) v
   pub names-hold : v .number ≡ 0 → NamesHold namesAfter (After (d .of))
   pub places-hold : v .number ≡ 0 → PlacesHold placesAfter (d .nodes) (p .nodes) (After (d .of))
@@ -51,11 +51,11 @@ ruledBy c = rulesIn 0 (inside 5 c)
 
 -- The forms of these rules, in a table.
 abbrev pub formsSaid : Known → Items → List ℕ
-formsSaid k c = formTable (formOf (viewOf k c) (sides (ruledBy c)))
+formsSaid k c = formTable (formsOf (viewOf k c) (sides (ruledBy c)))
 
--- The table of rules before it is filled: "128 rules".
-abbrev pub noRules : List ℕ
-noRules = replicate 256 0
+-- Where the rules of one function more begin in the table of places, behind those of the functions before it.
+abbrev pub ownRules : Progress → ℕ
+ownRules p = 696 + 256 * p .functions
 
 -- How many arguments and non-terminals the command declares, and the sort of its result.
 pub record HeaderOf (c : Items) (h : Header) : Type 0 where
@@ -64,8 +64,8 @@ pub record HeaderOf (c : Items) (h : Header) : Type 0 where
   pub result-is : h .result ≡ sortOf (item 3 c) (inside 3 c)
 
 -- The command is within its limits, its rules are gathered, not counted yet, and there is room for their forms.
-pub record Unnamed (text words lexemes names raw forms : List ℕ) (p : Progress) (arguments rows i nowhere : ℕ) : Type 0 where
-  pub of : CommandOf "synth-fun" text words lexemes p i nowhere
+pub record Unnamed (text lexemes names raw forms : List ℕ) (p : Progress) (arguments rows i nowhere : ℕ) : Type 0 where
+  pub of : CommandOf "synth-fun" text lexemes p i nowhere
   pub names-hold : NamesHold names (of .known)
   pub limited : nowhere ≤ limitPlace allowed nowhere (of .known) i (of .here .command)
   pub arguments-are : arguments ≡ count (inside 2 (of .here .command))
@@ -75,19 +75,19 @@ pub record Unnamed (text words lexemes names raw forms : List ℕ) (p : Progress
   pub room : 4 * (p .forms + rows) ≤ length forms
 
 -- Its names stand in their rows, the nodes are counted, the forms are written, and the least word at fault in a name is found.
-pub record NamesFound {text words lexemes names raw forms : List ℕ} {p : Progress} {arguments rows i nowhere : ℕ}
-    (u : Unnamed text words lexemes names raw forms p arguments rows i nowhere) (namesAfter rawAfter formsAfter : List ℕ) (r : ℕ) : Type 0 where
+pub record NamesFound {text lexemes names raw forms : List ℕ} {p : Progress} {arguments rows i nowhere : ℕ}
+    (u : Unnamed text lexemes names raw forms p arguments rows i nowhere) (namesAfter rawAfter formsAfter : List ℕ) (r : ℕ) : Type 0 where
   pub place-is : r ≡ namePlace nowhere (u .of .known) (u .of .here .command)
   pub names-hold : NamesHold namesAfter (After (u .of))
   pub listed-are : namesFrom namesAfter nonTerminalRow (count (inside 4 (u .of .here .command))) ≡ namesOf (namedBy (inside 4 (u .of .here .command)))
-  pub listed-sorts : sortsFrom namesAfter nonTerminalRow (count (inside 4 (u .of .here .command))) ≡ sortsOf (namedBy (inside 4 (u .of .here .command)))
+  pub listed-sorts : sortsFrom namesAfter nonTerminalRow (count (inside 4 (u .of .here .command))) ≡ namedSorts (namedBy (inside 4 (u .of .here .command)))
   pub raw-is : rawAfter ≡ rawTable (sides (ruledBy (u .of .here .command))) ++ u .rest
   pub forms-are : formsAfter ≡ sets forms (4 * p .forms) (formsSaid (u .of .known) (u .of .here .command))
 
--- The command is within its limits, and its rules are gathered.
-pub record Gathering (text words lexemes names raw places forms rules : List ℕ) (p : Progress) (g : Gathered) (i nowhere : ℕ) : Type 0 where
+-- The command is within its limits, and its rules are gathered in their place.
+pub record Gathering (text lexemes names raw places forms : List ℕ) (p : Progress) (g : Gathered) (i nowhere : ℕ) : Type 0 where
   pub lent : List ℕ
-  pub given : Synthesizing text words lexemes names lent places forms p i nowhere
+  pub given : Synthesizing text lexemes names lent places forms p i nowhere
   pub limited : nowhere ≤ limitPlace allowed nowhere (given .of .known) i (given .of .here .command)
   pub raw-long : length raw ≡ length lent
   pub rest : List ℕ
@@ -95,54 +95,47 @@ pub record Gathering (text words lexemes names raw places forms rules : List ℕ
   pub rows-are : g .row ≡ size (sides (ruledBy (given .of .here .command)))
   pub within : i + g .row ≤ given .of .here .close
   pub more : List ℕ
-  pub rules-are : rules ≡ startTable 0 (ruledBy (given .of .here .command)) ++ more
+  pub rules-are : drop (ownRules p) places ≡ startTable 0 (ruledBy (given .of .here .command)) ++ more
   pub counted : g .rule ≡ length (ruledBy (given .of .here .command))
   pub few : g .rule ≤ 128
-  pub rules-long : length rules ≡ 256
 
 -- Its names are in order, and the forms of its rules are written.
-pub record Unsorted (text words lexemes names raw places forms rules : List ℕ) (p : Progress) (g : Gathered) (h : Header) (i nowhere : ℕ) : Type 0 where
+pub record Unsorted (text lexemes names raw places forms : List ℕ) (p : Progress) (g : Gathered) (h : Header) (i nowhere : ℕ) : Type 0 where
   pub lentNames : List ℕ
   pub lentRaw : List ℕ
   pub lentForms : List ℕ
-  pub given : Synthesizing text words lexemes lentNames lentRaw places lentForms p i nowhere
+  pub given : Synthesizing text lexemes lentNames lentRaw places lentForms p i nowhere
   pub limited : nowhere ≤ limitPlace allowed nowhere (given .of .known) i (given .of .here .command)
   pub named : nowhere ≤ namePlace nowhere (given .of .known) (given .of .here .command)
   pub raw-long : length raw ≡ length lentRaw
   pub header : HeaderOf (given .of .here .command) h
   pub names-hold : NamesHold names (After (given .of))
   pub listed-are : namesFrom names nonTerminalRow (count (inside 4 (given .of .here .command))) ≡ namesOf (namedBy (inside 4 (given .of .here .command)))
-  pub listed-sorts : sortsFrom names nonTerminalRow (count (inside 4 (given .of .here .command))) ≡ sortsOf (namedBy (inside 4 (given .of .here .command)))
+  pub listed-sorts : sortsFrom names nonTerminalRow (count (inside 4 (given .of .here .command))) ≡ namedSorts (namedBy (inside 4 (given .of .here .command)))
   pub rest : List ℕ
   pub raw-is : raw ≡ rawTable (sides (ruledBy (given .of .here .command))) ++ rest
   pub forms-are : forms ≡ sets lentForms (4 * p .forms) (formsSaid (given .of .known) (given .of .here .command))
   pub rows-are : g .row ≡ size (sides (ruledBy (given .of .here .command)))
   pub within : i + g .row ≤ given .of .here .close
   pub more : List ℕ
-  pub rules-are : rules ≡ startTable 0 (ruledBy (given .of .here .command)) ++ more
+  pub rules-are : drop (ownRules p) places ≡ startTable 0 (ruledBy (given .of .here .command)) ++ more
   pub counted : g .rule ≡ length (ruledBy (given .of .here .command))
   pub few : g .rule ≤ 128
-  pub rules-long : length rules ≡ 256
 
 -- The four numbers of a function.
 abbrev pub numbersOf : Progress → Gathered → List ℕ
 numbersOf p g = p .forms ∷ g .row ∷ g .rule ∷ p .defined ∷ []
 
--- There is room for one function more, its signature, its numbers and its rules.
-pub record Putting (names places rules : List ℕ) (p : Progress) (g : Gathered) (h : Header) : Type 0 where
+-- There is room for one function more, its signature and its numbers.
+pub record Putting (names places : List ℕ) (p : Progress) (h : Header) : Type 0 where
   pub table : Signing names places (functionSignature + p .functions) (ownArgumentRow (p .functions)) (h .arguments) (h .result)
   pub room : length places ≡ placesLength
   pub one-more : p .functions + 1 ≤ 8
-  pub few : g .rule ≤ 128
-  pub rules-long : length rules ≡ 256
 
 -- They are put there.
-pub record Put (names places rules : List ℕ) (p : Progress) (g : Gathered) (h : Header) (placesAfter : List ℕ) : Type 0 where
+pub record Put (names places : List ℕ) (p : Progress) (g : Gathered) (h : Header) (placesAfter : List ℕ) : Type 0 where
   pub is : placesAfter
       ≡ sets
-      (sets
       (sets places (signatureWidth * (functionSignature + p .functions)) (signatureRow names (ownArgumentRow (p .functions)) (h .arguments) (h .result)))
       (functionsPlace + 4 * p .functions)
-      (numbersOf p g))
-      (functionsPlace + rulesPlace (p .functions))
-      (take (2 * g .rule) rules)
+      (numbersOf p g)

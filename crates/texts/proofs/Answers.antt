@@ -1,12 +1,12 @@
 -- A response, from its bytes.
-use Prim.Native.Nat.{ℕ, _+_, _*_, _≤_}
+use Prim.Native.Nat.{ℕ, _*_}
 use native.Mathlib.Omega.{arith}
-use mathlib.Core.Path.{_≡_, refl, sym, ap, _∙_}
+use mathlib.Core.Path.{_≡_, refl, _∙_}
 use mathlib.Core.Bool.{cond, _||_}
-use mathlib.Core.List.{List, [], append-nil}
+use mathlib.Core.List.{List}
 use lib.Dec.{eqb}
-use lib.ListN.{length, take}
-use Rattle.words.specs.Reading.{readingOf}
+use lib.ListN.{take}
+use Rattle.scanning.specs.Reading.{readingOf}
 use Rattle.readings.specs.Answers.{numberOf, placeOf}
 use Rattle.readings.specs.Limits.{responseLimits}
 use Rattle.readings.specs.declared.Reading.{Reading}
@@ -15,12 +15,11 @@ use Rattle.lexemes.specs.Standing.{itemsOf}
 use Rattle.lexemes.proofs.Wholes.{text-stands}
 use Rattle.standing.proofs.Texts.{text-lawful}
 use Rattle.heading.specs.Heads.{allowed}
-use Rattle.script.specs.Script.{Known}
 use Rattle.script.specs.declared.Progress.{Progress}
 use Rattle.script.specs.declared.Verdict.{Verdict}
 use Rattle.response.specs.Response.{Answered, answered, bodies, inScriptOrder, refused}
 use Rattle.response.specs.Steps.{Answers, Responded, Responding}
-use Rattle.texts.specs.Outcome.{ResponseOutcome, byAnswers, byResponse, given, offsetOf, responseOutcome}
+use Rattle.texts.specs.Outcome.{byAnswers, offsetOf, responseOutcome}
 use Rattle.texts.specs.Steps.{Ready, ResponseRead, ResponseTold, Worded}
 use Rattle.texts.proofs.Wording.{only-lexemes}
 
@@ -32,15 +31,15 @@ unfolding responseOutcome
 words-refused q (Whole n) e some number place = absurd (some refl)
 words-refused q (Refused fault at n) e some number place = record { told = rw (← e) (number, place) }
 
-module _ {text words lexemes names raw places nodes : List ℕ} {p : Progress} {n : ℕ} (w : Worded responseLimits text words lexemes n)
+module _ {text lexemes names raw places nodes : List ℕ} {p : Progress} {n : ℕ} (w : Worded responseLimits text lexemes n)
     (ready : Ready names raw places nodes p) where
   -- what the reading of a response's commands asks
-  abbrev pub responding : Responding text words (take (3 * n) lexemes) names raw places nodes p n
+  abbrev pub responding : Responding text (take (6 * n) lexemes) names raw places nodes p n
   responding =
       record {
         items = itemsOf text;
-        stands = rw (only-lexemes w) (text-stands responseLimits text n (w .whole) words _ (w .rest) [] (w .is-words) (sym (append-nil _)));
-        lawful = rw (only-lexemes w) (text-lawful responseLimits text n (w .whole) words _ (w .rest) (w .is-words) refl);
+        stands = rw (only-lexemes w) (text-stands responseLimits text n (w .whole));
+        lawful = rw (only-lexemes w) (text-lawful responseLimits text n (w .whole));
         few = omega (arith, w .few);
         known = ready .known;
         forms = ready .forms;

@@ -2,27 +2,24 @@
 use Prim.Native.Nat.{ℕ, _≤_, _<_}
 use native.Mathlib.Omega.{arith}
 use mathlib.Core.Bool.{Bool, true, false, cond, not, _||_}
-use mathlib.Core.List.{List, [], append-nil}
-use mathlib.Core.Path.{_≡_, refl, sym, subst}
+use mathlib.Core.List.{List}
+use mathlib.Core.Path.{_≡_, refl, subst}
 use lib.Dec.{ltb}
 use borrow.Author.Tests.{ltb-false}
 use Rattle.forest.specs.Forest.{none, tree}
-use Rattle.words.specs.Reading.{readingOf}
-use Rattle.words.specs.Table.{wordTable}
-use Rattle.words.specs.Trees.{wordOf}
-use Rattle.words.specs.Words.{wordsOf}
+use Rattle.scanning.specs.Reading.{readingOf}
+use Rattle.scanning.specs.Trees.{wordOf}
 use Rattle.readings.specs.Limits.{scriptLimits}
 use Rattle.readings.specs.declared.Reading.{Reading}
 use Rattle.readings.specs.declared.Reading.the-variants.{Whole, Refused}
 use Rattle.lexemes.specs.Lists.{Items, isList}
 use Rattle.lexemes.specs.Standing.{itemsOf}
-use Rattle.lexemes.specs.Table.{lexemeTable}
 use Rattle.lexemes.proofs.Wholes.{text-stands}
-use Rattle.shapes.specs.Carried.{notCarried}
+use Rattle.carrying.specs.Carried.{notCarried}
 use Rattle.shapes.specs.Shapes.{commandShape}
 use Rattle.heading.specs.Heads.{allowed}
 use Rattle.script.specs.Script.{Known, Read, andThen, grammarPlace, judged, knownAfter, limitPlace, namePlace, outOfPlace, passed, readAll, refused}
-use Rattle.script.specs.Script.{sortingPlace, start, tested}
+use Rattle.script.specs.Script.{sortingPlace, nothingKnown, tested}
 use Rattle.script.proofs.Places.{Below, stands-below}
 use Rattle.texts.specs.Outcome.{ScriptOutcome, byCommands, byWords, said, scriptOutcome}
 
@@ -78,15 +75,14 @@ module _ (P : Known → Type 0)
   commands-keep text (goes-on p) = said-keeps p
 
   -- What a text says.
-  text-keeps : (text : List ℕ) → P start → SaidKeeps (scriptOutcome text)
+  text-keeps : (text : List ℕ) → P nothingKnown → SaidKeeps (scriptOutcome text)
   unfolding scriptOutcome
   text-keeps text p = go (readingOf scriptLimits text) refl
     where
       go : (reading : Reading) → readingOf scriptLimits text ≡ reading → SaidKeeps (byWords text reading)
       go (Refused fault place n) whole = nothing-said
       go (Whole n) whole =
-          let stands = text-stands scriptLimits text n whole (wordTable (wordsOf text)) (lexemeTable text (wordsOf text)) [] []
-          (sym (append-nil (wordTable (wordsOf text)))) (sym (append-nil (lexemeTable text (wordsOf text)))) in
+          let stands = text-stands scriptLimits text n whole in
           commands-keep text (all-keep n (itemsOf text) (stands-below n stands (omega arith)) p)
 
   -- What is said keeps to P.
@@ -94,5 +90,5 @@ module _ (P : Known → Type 0)
   kept-said (said-keeps p) = p
 
   -- A script that passes keeps to P.
-  pub script-keeps : (text : List ℕ) {k : Known} → scriptOutcome text ≡ said k → P start → P k
+  pub script-keeps : (text : List ℕ) {k : Known} → scriptOutcome text ≡ said k → P nothingKnown → P k
   script-keeps text e p = kept-said (subst SaidKeeps e (text-keeps text p))

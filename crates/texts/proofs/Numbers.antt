@@ -8,8 +8,8 @@ use borrow.Author.Tests.{eqb-false}
 use lib.Dec.{eqb, leb, ltb}
 use lib.ListN.{length}
 use Rattle.forest.specs.Forest.{none, tree}
-use Rattle.words.specs.Reading.{depthAfter, ending as endingWords, faultAt, judged as judgedWords, readingOf}
-use Rattle.words.specs.Words.{Word, wordsOf}
+use Rattle.scanning.specs.Reading.{depthAfter, faultAt, foundFrom as judgedWords, readingOf}
+use Rattle.scanning.specs.Words.{Word, wordsOf}
 use Rattle.spelling.specs.declared.Fault.{Fault}
 use Rattle.spelling.specs.declared.Fault.the-variants.{BadWord, Bracket, NoFault, NotCarried, PastLimit, TooLong}
 use Rattle.readings.specs.Answers.{faultNumber, numberOf, passed as passedWords}
@@ -19,7 +19,7 @@ use Rattle.readings.specs.declared.Reading.{Reading}
 use Rattle.readings.specs.declared.Reading.the-variants.{Whole, Refused}
 use Rattle.lexemes.specs.Lists.{Items, inside, is, isList, item}
 use Rattle.lexemes.specs.Standing.{itemsOf}
-use Rattle.shapes.specs.Carried.{anyUncarried, notCarried}
+use Rattle.carrying.specs.Carried.{anyUncarried, notCarried}
 use Rattle.shapes.specs.Shapes.{commandShape, defineFunShape}
 use Rattle.headers.specs.Tokens.{differing, headerOf, headerTokens, wordsIn}
 use Rattle.faults.specs.Faults.{bodyFault}
@@ -27,9 +27,9 @@ use Rattle.heading.specs.Heads.{Counts, allowed, headerPast}
 use Rattle.script.specs.Limits.{nodePast}
 use Rattle.script.specs.Naming.{termNames}
 use Rattle.naming.specs.Scopes.{Defined, Function}
-use Rattle.script.specs.Script.{Known, Read, andThen, grammarPlace, judged, knownAfter, limitPlace, namePlace, outOfPlace, passed, readAll, refused}
-use Rattle.script.specs.Script.{sortingPlace, start, tested}
-use Rattle.response.specs.Response.{Answered, Body, answered, bodies, ending, inScriptOrder, isAlone, judgedAll, judgedBody, judgedExtra}
+use Rattle.script.specs.Script.{Known, Read, andThen, grammarPlace, judged, limitPlace, namePlace, outOfPlace, passed, readAll, refused, sortingPlace}
+use Rattle.script.specs.Script.{nothingKnown, tested}
+use Rattle.response.specs.Response.{Answered, Body, answered, bodies, nothingBehind, inScriptOrder, isAlone, judgedAll, judgedBody, judgedExtra}
 use Rattle.response.specs.Response.{refused as declined, responseView, withBody}
 use Rattle.texts.specs.Outcome.{ResponseOutcome, ScriptOutcome, byAnswers, byCommands, byResponse, byWords, given, offsetOf, responseOutcome, said}
 use Rattle.texts.specs.Outcome.{scriptOutcome}
@@ -145,7 +145,7 @@ script-numbered text = go (readingOf scriptLimits text) (reading-numbered script
     by (passed k) p = numbered inScript (said k) (omega arith, omega arith)
 
     go : (r : Reading) → Numbered inReading r → Numbered inScript (byWords text r)
-    go (Whole n) p = by _ (all-numbered allowed n start (itemsOf text))
+    go (Whole n) p = by _ (all-numbered allowed n nothingKnown (itemsOf text))
     go (Refused fault place n) p = numbered inScript (ScriptOutcome.faulty (faultNumber fault) place) (p .some, p .few)
 
 -- ---- commands of a response
@@ -165,7 +165,7 @@ fault : (number : ℕ) → (1 ≤ number) × (number ≤ 12) → {place : ℕ} �
 fault number h {place} = numbered inAnswered (declined number place) h
 
 -- what stands behind the list
-ending-numbered : (items : Items) → Numbered inAnswered (ending items)
+ending-numbered : (items : Items) → Numbered inAnswered (nothingBehind items)
 ending-numbered none = record { some = omega arith; few = omega arith }
 ending-numbered (tree l c more) = record { some = omega arith; few = omega arith }
 

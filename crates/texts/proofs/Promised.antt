@@ -1,19 +1,16 @@
 -- What is promised of a script that passes, from its bytes.
 use Prim.Native.Nat.{ℕ}
 use native.Mathlib.Omega.{arith}
-use mathlib.Core.List.{List, [], append-nil}
-use mathlib.Core.Path.{_≡_, refl, sym}
-use Rattle.words.specs.Reading.{readingOf}
-use Rattle.words.specs.Table.{wordTable}
-use Rattle.words.specs.Words.{wordsOf}
+use mathlib.Core.List.{List}
+use mathlib.Core.Path.{_≡_, refl}
+use Rattle.scanning.specs.Reading.{readingOf}
 use Rattle.readings.specs.Limits.{scriptLimits}
 use Rattle.readings.specs.declared.Reading.{Reading}
 use Rattle.readings.specs.declared.Reading.the-variants.{Whole, Refused}
 use Rattle.lexemes.specs.Standing.{itemsOf}
-use Rattle.lexemes.specs.Table.{lexemeTable}
 use Rattle.lexemes.proofs.Wholes.{text-stands}
 use Rattle.heading.specs.Heads.{allowed}
-use Rattle.script.specs.Script.{Known, Read, passed, readAll, refused, start}
+use Rattle.script.specs.Script.{Known, Read, passed, readAll, refused, nothingKnown}
 use Rattle.promises.specs.Sorted.{Sorted}
 use Rattle.promises.proofs.Sorted.{passed-sorted}
 use Rattle.texts.specs.Outcome.{ScriptOutcome, byCommands, byWords, said, scriptOutcome}
@@ -35,6 +32,5 @@ script-sorted text {k} e = go (readingOf scriptLimits text) refl e
     go : (reading : Reading) → readingOf scriptLimits text ≡ reading → byWords text reading ≡ said k → Sorted k
     go (Refused fault place n) whole h = not-said h
     go (Whole n) whole h =
-        let stands = text-stands scriptLimits text n whole (wordTable (wordsOf text)) (lexemeTable text (wordsOf text)) [] []
-        (sym (append-nil (wordTable (wordsOf text)))) (sym (append-nil (lexemeTable text (wordsOf text)))) in
-        passed-sorted allowed n (itemsOf text) stands (by-commands text (readAll allowed n start (itemsOf text)) h)
+        let stands = text-stands scriptLimits text n whole in
+        passed-sorted allowed n (itemsOf text) stands (by-commands text (readAll allowed n nothingKnown (itemsOf text)) h)

@@ -5,10 +5,9 @@ use mathlib.Core.Path.{_≡_, refl, sym, _∙_}
 use mathlib.Core.List.{List, [], _∷_}
 use lib.ListN.{drop, length}
 use Rattle.forest.proofs.Lists.{stands}
-use Rattle.words.specs.Table.{startAt}
-use Rattle.words.specs.Words.{Word, wordsOf}
-use Rattle.lexemes.specs.Standing.{WordsOf}
-use Rattle.lexemes.proofs.Said.{word-says}
+use Rattle.scanning.specs.Words.{Word, wordsOf}
+use Rattle.lexemes.specs.Table.{startAt}
+use Rattle.lexemes.proofs.Said.{lexeme-says}
 use Rattle.texts.specs.Outcome.{offsetOf, startOf}
 use Rattle.texts.specs.Steps.{Placed}
 
@@ -27,13 +26,13 @@ start-past past [] i h = refl
 start-past past (w ∷ ws) zero h = absurd (omega arith)
 start-past past (w ∷ ws) (suc i) h = start-past past ws i (omega arith)
 
-module _ {text words : List ℕ} {count : ℕ} (placed : Placed text words count) {i : ℕ} where
-  -- the word table has the offset of each word
-  pub offset-there : i < count → startAt words i ≡ offsetOf text i
+module _ {text lexemes : List ℕ} {count : ℕ} (placed : Placed text lexemes count) {i : ℕ} where
+  -- the table has the offset of each word
+  pub offset-there : i < count → startAt lexemes i ≡ offsetOf text i
   offset-there h =
       let st = stands (wordsOf text) i (omega (arith, placed .counted)) in
-      let given : WordsOf text words i = record { rest = placed .rest; is-words = placed .is-words; word = st .here; later = _; here = st .is } in
-      word-says given 1 (omega arith) ∙ sym (start-there (length text) (wordsOf text) i (st .here) _ (st .is))
+      lexeme-says text i (st .here) _ (st .is) (placed .rest) (placed .is-lexemes) 3 (omega arith)
+      ∙ sym (start-there (length text) (wordsOf text) i (st .here) _ (st .is))
 
   -- past the last word the offset is the text's length
   pub offset-past : count ≤ i → length text ≡ offsetOf text i

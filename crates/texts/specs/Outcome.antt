@@ -4,15 +4,15 @@ use mathlib.Core.Bool.{cond, _||_}
 use mathlib.Core.List.{List, [], _∷_}
 use lib.Dec.{eqb}
 use lib.ListN.{length}
-use Rattle.words.specs.Reading.{readingOf}
-use Rattle.words.specs.Words.{Word, wordsOf}
+use Rattle.scanning.specs.Reading.{readingOf}
+use Rattle.scanning.specs.Words.{Word, wordsOf}
 use Rattle.readings.specs.Answers.{faultNumber}
 use Rattle.readings.specs.Limits.{responseLimits, scriptLimits}
 use Rattle.readings.specs.declared.Reading.{Reading}
 use Rattle.readings.specs.declared.Reading.the-variants.{Whole, Refused}
 use Rattle.lexemes.specs.Standing.{itemsOf}
 use Rattle.heading.specs.Heads.{allowed}
-use Rattle.script.specs.Script.{Known, Read, passed, readAll, refused, start}
+use Rattle.script.specs.Script.{Known, Read, passed, readAll, refused, nothingKnown}
 use Rattle.response.specs.Response.{Answered, Body, answered, bodies, inScriptOrder, refused as declined}
 
 -- The offset of word n of the words; `past`, where there are not so many.
@@ -38,7 +38,7 @@ byCommands text (passed k) = said k
 -- What the words give, and then the commands.
 abbrev pub byWords : (text : List ℕ) → Reading → ScriptOutcome
 byWords text (Refused fault place n) = faulty (faultNumber fault) place
-byWords text (Whole n) = byCommands text (readAll allowed n start (itemsOf text))
+byWords text (Whole n) = byCommands text (readAll allowed n nothingKnown (itemsOf text))
 
 -- The script: its words, then its commands.
 unfoldable pub scriptOutcome : (text : List ℕ) → ScriptOutcome

@@ -3,9 +3,8 @@ use Prim.Native.Nat.{ℕ, _+_, _*_, _≤_}
 use mathlib.Core.List.{List, _++_}
 use mathlib.Core.Path.{_≡_}
 use lib.ListN.{drop, length}
-use Rattle.words.specs.Reading.{readingOf}
-use Rattle.words.specs.Table.{wordTable}
-use Rattle.words.specs.Words.{wordsOf}
+use Rattle.scanning.specs.Reading.{readingOf}
+use Rattle.scanning.specs.Words.{wordsOf}
 use Rattle.lexemes.specs.Table.{lexemeTable}
 use Rattle.readings.specs.Answers.{numberOf, passed}
 use Rattle.readings.specs.Limits.{responseLimits}
@@ -14,59 +13,55 @@ use Rattle.readings.specs.declared.Reading.{Reading}
 use Rattle.readings.specs.declared.Reading.the-variants.{Whole}
 use Rattle.naming.specs.Steps.{Names}
 use Rattle.script.specs.Script.{Known}
-use Rattle.script.specs.Tables.{GrammarsHold, TablesHold, functionsPlace, placesLength}
+use Rattle.script.specs.Tables.{GrammarsHold, KnownHeld, TablesHold, formsPlace, functionsPlace, placesLength}
 use Rattle.script.specs.declared.Progress.{Progress}
 use Rattle.script.specs.declared.Verdict.{Verdict}
 use Rattle.reader.specs.declared.Step.{Step}
 use Rattle.response.specs.Steps.{BodiesHeld}
 use Rattle.texts.specs.Outcome.{ResponseOutcome, ScriptOutcome, faulty, given, responseOutcome, said, scriptOutcome}
 
--- A row for each word that the limits allow, and no more in the word table.
-pub record Room (limits : Limits) (words values lexemes : List ℕ) : Type 0 where
-  pub words-room : length words ≡ 5 * limits .words
-  pub values-room : limits .words ≤ length values
-  pub lexemes-room : 3 * limits .words ≤ length lexemes
+-- The limits are not past those of a script, and there is a row for each word that they allow.
+pub record Room (limits : Limits) (lexemes : List ℕ) : Type 0 where
+  pub few-words : limits .words ≤ 4096
+  pub lexemes-room : 6 * limits .words ≤ length lexemes
 
--- A text is read whole, and the tables begin with its words and lexemes.
-pub record Worded (limits : Limits) (text words lexemes : List ℕ) (n : ℕ) : Type 0 where
+-- A text is read whole, and the table begins with its lexemes.
+pub record Worded (limits : Limits) (text lexemes : List ℕ) (n : ℕ) : Type 0 where
   pub whole : readingOf limits text ≡ Whole n
   pub few : n ≤ limits .words
   pub rest : List ℕ
-  pub more : List ℕ
-  pub is-words : words ≡ wordTable (wordsOf text) ++ rest
-  pub is-lexemes : lexemes ≡ lexemeTable text (wordsOf text) ++ more
+  pub is-lexemes : lexemes ≡ lexemeTable text (wordsOf text) ++ rest
 
--- What is found in the words of a text; where none is refused, the tables hold them.
-pub record Lexed (limits : Limits) (text words lexemes : List ℕ) (r : Reading) : Type 0 where
+-- What is found in the words of a text; where none is refused, the table holds their lexemes.
+pub record Lexed (limits : Limits) (text lexemes : List ℕ) (r : Reading) : Type 0 where
   pub found : r ≡ readingOf limits text
-  pub worded : numberOf r ≡ 0 → Worded limits text words lexemes (passed r)
+  pub worded : numberOf r ≡ 0 → Worded limits text lexemes (passed r)
 
--- The word table begins with the words of a text, which are so many.
-pub record Placed (text words : List ℕ) (count : ℕ) : Type 0 where
+-- The table begins with the lexemes of a text, whose words are so many.
+pub record Placed (text lexemes : List ℕ) (count : ℕ) : Type 0 where
   pub rest : List ℕ
-  pub is-words : words ≡ wordTable (wordsOf text) ++ rest
+  pub is-lexemes : lexemes ≡ lexemeTable text (wordsOf text) ++ rest
   pub counted : count ≡ length (wordsOf text)
 
 -- No word of a response is refused.
 pub record ReadWhole (text : List ℕ) : Type 0 where
   pub unrefused : numberOf (readingOf responseLimits text) ≡ 0
 
--- Tables of the sizes that "4,096 words" of a script and "2,048" of a response ask for.
-pub record Lent (names raw places nodes forms : List ℕ) : Type 0 where
+-- Tables of the sizes that "4,096 words" of a script and "2,048" of a response ask for; in that of nodes the forms of a script stand behind the terms.
+pub record Lent (names raw places nodes : List ℕ) : Type 0 where
   pub table : Names names
   pub long : length places ≡ placesLength
   pub raw-room : length raw ≡ 4 * 4096
-  pub nodes-room : length nodes ≡ 4 * 6144
-  pub forms-room : length forms ≡ 4 * 4096
+  pub nodes-room : length nodes ≡ formsPlace + 4 * 4096
 
 -- What was read of a script: a refusal with its number and offset; or what it says, which the tables hold, in no more rows than words.
-abbrev pub ScriptTold : ScriptOutcome → (names places nodes forms : List ℕ) → Step → Type 0
-ScriptTold (ScriptOutcome.faulty number offset) names places nodes forms s = (s .number ≡ number) × (s .place ≡ offset)
-ScriptTold (said k) names places nodes forms s = (s .number ≡ 0) × TablesHold names places nodes forms (s .progress) k × (s .progress .nodes ≤ 4096)
+abbrev pub ScriptTold : ScriptOutcome → (names places nodes : List ℕ) → Step → Type 0
+ScriptTold (ScriptOutcome.faulty number offset) names places nodes s = (s .number ≡ number) × (s .place ≡ offset)
+ScriptTold (said k) names places nodes s = (s .number ≡ 0) × KnownHeld names places nodes (s .progress) k × (s .progress .nodes ≤ 4096)
 
 -- The same, by the script's text.
-pub record ScriptRead (text names places nodes forms : List ℕ) (s : Step) : Type 0 where
-  pub told : ScriptTold (scriptOutcome text) names places nodes forms s
+pub record ScriptRead (text names places nodes : List ℕ) (s : Step) : Type 0 where
+  pub told : ScriptTold (scriptOutcome text) names places nodes s
 
 -- The tables hold what a script says, and there is room for a response.
 pub record Ready (names raw places nodes : List ℕ) (p : Progress) : Type 0 where

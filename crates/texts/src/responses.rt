@@ -21,36 +21,22 @@ const FAIL: usize = 10;
 // The number of a response that is `infeasible`.
 const INFEASIBLE: usize = 11;
 
-// Room for the rows of a response's words.
-fn word_rows() -> [u32; 10240]
-    ensures { λ r. ⌜ length r ≡ 10240 ⌝ }
-{
-    [0; 10240]
-}
-
-// Room for the values of a response's words.
-fn word_values() -> [u64; 2048]
-    ensures { λ r. ⌜ length r ≡ 2048 ⌝ }
-{
-    [0; 2048]
-}
-
 // Room for the lexemes of a response.
-fn lexeme_rows() -> [u64; 6144]
-    ensures { λ r. ⌜ length r ≡ 6144 ⌝ }
+fn lexeme_rows() -> [u64; 12288]
+    ensures { λ r. ⌜ length r ≡ 12288 ⌝ }
 {
-    [0; 6144]
+    [0; 12288]
 }
 
 // The offset of a refusal of a response, by its number and its word; 10 and 11 have the offset 0.
-fn refusal_offset(text: &[u8], words: &[u32], count: usize, number: usize, word: usize) -> usize
-    requires { ⌜ Placed (now text) (now words) count ⌝ }
+fn refusal_offset(text: &[u8], lexemes: &[u64], count: usize, number: usize, word: usize) -> usize
+    requires { ⌜ Placed (now text) (now lexemes) count ⌝ }
     ensures { λ r. ⌜ r ≡ cond (eqb number 10 || eqb number 11) 0 (offsetOf (now (text .entry)) word) ⌝ }
 {
     if (number == FAIL) | (number == INFEASIBLE) {
         return 0;
     }
-    offset_of(text, words, count, word)
+    offset_of(text, lexemes, count, word)
 }
 
 // Reads a response to a script whose tables are given: its bodies stand in the tables, or it is refused at an offset.
@@ -65,16 +51,8 @@ pub fn read_response_text(
     requires { ⌜ Ready (now names) (now raw) (now places) (now nodes) progress ⌝ }
     ensures { λ r. ⌜ ((q : Ready (now (names .entry)) (now (raw .entry)) (now (places .entry)) (now (nodes .entry)) progress) → ResponseRead q (now (text .entry)) (now (places .exit)) (now (nodes .exit)) r) ⌝ }
 {
-    let mut words = word_rows();
-    let mut values = word_values();
     let mut lexemes = lexeme_rows();
-    let reading = read_lexemes(
-        text,
-        response_limits(),
-        &mut words,
-        &mut values,
-        &mut lexemes,
-    );
+    let reading = read_lexemes(text, response_limits(), &mut lexemes);
     if number_of(reading) != 0 {
         return Verdict {
             number: number_of(reading) as usize,
@@ -85,8 +63,7 @@ pub fn read_response_text(
     let count = passed_of(reading);
     let verdict = read_response(
         text,
-        &words,
-        &lexemes[..3 * count],
+        &lexemes[..6 * count],
         names,
         raw,
         places,
@@ -96,7 +73,7 @@ pub fn read_response_text(
     );
     Verdict {
         number: verdict.number,
-        place: refusal_offset(text, &words, count, verdict.number, verdict.place),
+        place: refusal_offset(text, &lexemes, count, verdict.number, verdict.place),
         rows: verdict.rows,
     }
 }
@@ -106,15 +83,7 @@ pub fn word_offset(text: &[u8], word: usize) -> usize
     requires { ⌜ ReadWhole (now text) ⌝ }
     ensures { λ r. ⌜ r ≡ offsetOf (now (text .entry)) word ⌝ }
 {
-    let mut words = word_rows();
-    let mut values = word_values();
     let mut lexemes = lexeme_rows();
-    let reading = read_lexemes(
-        text,
-        response_limits(),
-        &mut words,
-        &mut values,
-        &mut lexemes,
-    );
-    offset_of(text, &words, passed_of(reading), word)
+    let reading = read_lexemes(text, response_limits(), &mut lexemes);
+    offset_of(text, &lexemes, passed_of(reading), word)
 }

@@ -12,25 +12,11 @@ ghost use mathlib.Core.Path.{_≡_};
 ghost use lib.ListN.{length};
 ghost use Rattle.texts.specs.Steps.{Lent, ScriptRead};
 
-// Room for the rows of a script's words.
-fn word_rows() -> [u32; 20480]
-    ensures { λ r. ⌜ length r ≡ 20480 ⌝ }
-{
-    [0; 20480]
-}
-
-// Room for the values of a script's words.
-fn word_values() -> [u64; 4096]
-    ensures { λ r. ⌜ length r ≡ 4096 ⌝ }
-{
-    [0; 4096]
-}
-
 // Room for the lexemes of a script.
-fn lexeme_rows() -> [u64; 12288]
-    ensures { λ r. ⌜ length r ≡ 12288 ⌝ }
+fn lexeme_rows() -> [u64; 24576]
+    ensures { λ r. ⌜ length r ≡ 24576 ⌝ }
 {
-    [0; 12288]
+    [0; 24576]
 }
 
 // The refusal of a word of a script, by its number and its offset.
@@ -61,34 +47,29 @@ pub fn read_script_text(
     raw: &mut [u64],
     places: &mut [u64],
     nodes: &mut [u64],
-    forms: &mut [u64],
 ) -> Step
-    requires { ⌜ Lent (now names) (now raw) (now places) (now nodes) (now forms) ⌝ }
-    ensures { λ r. ⌜ ScriptRead (now (text .entry)) (now (names .exit)) (now (places .exit)) (now (nodes .exit)) (now (forms .exit)) r ⌝ }
+    requires { ⌜ Lent (now names) (now raw) (now places) (now nodes) ⌝ }
+    ensures { λ r. ⌜ ScriptRead (now (text .entry)) (now (names .exit)) (now (places .exit)) (now (nodes .exit)) r ⌝ }
 {
-    let mut words = word_rows();
-    let mut values = word_values();
     let mut lexemes = lexeme_rows();
-    let reading = read_lexemes(text, script_limits(), &mut words, &mut values, &mut lexemes);
+    let reading = read_lexemes(text, script_limits(), &mut lexemes);
     if number_of(reading) != 0 {
         return refused_word(number_of(reading) as usize, place_of(reading));
     }
     let count = passed_of(reading);
     let step = read_script(
         text,
-        &words,
-        &lexemes[..3 * count],
+        &lexemes[..6 * count],
         names,
         raw,
         places,
-        &mut nodes[..16384],
-        forms,
+        nodes,
         count,
     );
     let progress = step.progress;
     Step {
         number: step.number,
-        place: offset_of(text, &words, count, step.place),
+        place: offset_of(text, &lexemes, count, step.place),
         progress,
     }
 }

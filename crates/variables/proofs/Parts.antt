@@ -40,11 +40,11 @@ variable-parts c e =
     let front = and-left (three && named) sort e in
     record { three = eqb-true (count c) 3 (and-left three named front); named = and-right three named front; sort = and-right (three && named) sort e }
 
-module _ {text words lexemes : List ℕ} {i : ℕ} (x : VariableAt text words lexemes i) where
+module _ {text lexemes : List ℕ} {i : ℕ} (x : VariableAt text lexemes i) where
   -- The command is a list.
   abbrev pub list-here : ListAt lexemes i
   list-here = record {
-    source = sourceOf text words lexemes;
+    source = sourceOf text lexemes;
     same = refl;
     close = x .close;
     operands = x .command;
@@ -74,10 +74,10 @@ module _ {text words lexemes : List ℕ} {i : ℕ} (x : VariableAt text words le
   sort-here = shaped-come list-here come-sort (omega (arith, parts .three)) (parts .sort)
 
   -- Which stands within the table of lexemes.
-  pub sort-room : 3 * (i + 3) < length lexemes
+  pub sort-room : 6 * (i + 3) < length lexemes
   sort-room = item-room (sort-here .here)
 
-module _ {text words lexemes : List ℕ} {p : Progress} {i nowhere : ℕ} (d : CommandOf "declare-var" text words lexemes p i nowhere) where
+module _ {text lexemes : List ℕ} {p : Progress} {i nowhere : ℕ} (d : CommandOf "declare-var" text lexemes p i nowhere) where
   -- It is the command of that word.
   pub is-declaring : Chosen (d .here .command) 9
   unfolding codeFor
@@ -94,7 +94,7 @@ module _ {text words lexemes : List ℕ} {p : Progress} {i nowhere : ℕ} (d : C
   declared = rw (is-declaring .sets, is-declaring .declares) at (d .shaped)
 
   -- A `declare-var` stands there.
-  abbrev pub variable-here : VariableAt text words lexemes i
+  abbrev pub variable-here : VariableAt text lexemes i
   variable-here = record {
     close = d .here .close;
     command = d .here .command;

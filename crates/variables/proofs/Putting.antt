@@ -8,7 +8,7 @@ use lib.Seq.{sets}
 use Rattle.lexemes.specs.Lists.{inside, item, nameOf}
 use Rattle.sorts.specs.Steps.{SortAt}
 use Rattle.sorts.specs.Written.{sortOf}
-use Rattle.naming.specs.Scopes.{Named, namesOf, sortsOf}
+use Rattle.naming.specs.Scopes.{Named, namesOf, namedSorts}
 use Rattle.naming.specs.Steps.{bytesAt}
 use Rattle.naming.specs.Table.{definedRow, functionRow, longest, nameRow, namesFrom, ownArgumentRow, sortsFrom, variableRow}
 use Rattle.naming.proofs.Putting.{Put, put-row}
@@ -20,16 +20,16 @@ use Rattle.script.proofs.Names.{names-kept, one-name-more, one-sort-more, same-
 use Rattle.variables.specs.Steps.{Added, Adding, Declaring}
 use Rattle.variables.proofs.Parts.{is-declaring, name-item, parts, sort-here}
 
-module _ {text words lexemes names : List ℕ} {row i : ℕ} (a : Adding text words lexemes names row i) where
+module _ {text lexemes names : List ℕ} {row i : ℕ} (a : Adding text lexemes names row i) where
   -- The symbol that is its name.
-  symbol-here : SymbolAt text words lexemes (i + 2) (item 1 (a .here .command))
+  symbol-here : SymbolAt text lexemes (i + 2) (item 1 (a .here .command))
   symbol-here = symbol-at (name-item (a .here) .stands) (parts (a .here) .named)
 
   -- The name is not too long for a row.
   pub name-fits : length (nameOf (item 1 (a .here .command))) ≤ longest
   name-fits = rw (← symbol-here .spelled) (a .short (i + 2) (omega (arith, symbol-here .coded)))
 
-  module _ {bytes : List ℕ} (eb : bytes ≡ bytesAt text words (i + 2)) where
+  module _ {bytes : List ℕ} (eb : bytes ≡ bytesAt text lexemes (i + 2)) where
     -- Its bytes are those of the name.
     bytes-are : bytes ≡ nameOf (item 1 (a .here .command))
     bytes-are = eb ∙ symbol-here .spelled
@@ -44,7 +44,7 @@ module _ {text words lexemes names : List ℕ} {row i : ℕ} (a : Adding text wo
     sort-small = omega (arith, es (sort-here (a .here)), a .narrow)
 
     -- Name and sort are put into the row.
-    pub variable-added : {bytes : List ℕ} → bytes ≡ bytesAt text words (i + 2) → {after : List ℕ} → after ≡ sets names (66 * row) (nameRow sort bytes)
+    pub variable-added : {bytes : List ℕ} → bytes ≡ bytesAt text lexemes (i + 2) → {after : List ℕ} → after ≡ sets names (66 * row) (nameRow sort bytes)
         → Added a after
     variable-added eb e = e ∙ ap (sets names (66 * row)) (ap₂ nameRow (es (sort-here (a .here))) (bytes-are eb))
 
@@ -53,7 +53,7 @@ module _ {text words lexemes names : List ℕ} {row i : ℕ} (a : Adding text wo
       → Put names row (sortOf (item 2 (a .here .command)) (inside 2 (a .here .command))) (nameOf (item 1 (a .here .command))) after
   variable-put e = put-row (a .table) (a .fits) _ _ name-fits e
 
-module _ {text words lexemes names : List ℕ} {p : Progress} {i nowhere : ℕ} (d : Declaring text words lexemes names p i nowhere) where
+module _ {text lexemes names : List ℕ} {p : Progress} {i nowhere : ℕ} (d : Declaring text lexemes names p i nowhere) where
   -- The variable that the command says.
   abbrev variable : Named
   variable = let c = d .of .here .command in record { name = nameOf (item 1 c); sort = sortOf (item 2 c) (inside 2 c) }
@@ -75,7 +75,7 @@ module _ {text words lexemes names : List ℕ} {p : Progress} {i nowhere : ℕ} 
       (λ j m h few. same-behind (put .kept) (ownArgumentRow j) m (omega arith)) hold in
       let long : length (k .variables ++ variable ∷ []) ≡ suc (p .variables) = omega (arith, length-append (k .variables) (variable ∷ [])) in
       let before : namesFrom names variableRow (p .variables) ≡ namesOf (k .variables) = rw counted (hold .variables-are) in
-      let sorts : sortsFrom names variableRow (p .variables) ≡ sortsOf (k .variables) = rw counted (hold .variable-sorts) in
+      let sorts : sortsFrom names variableRow (p .variables) ≡ namedSorts (k .variables) = rw counted (hold .variable-sorts) in
       rw (t .declares, t .defines, t .synthesizes) (record {
         table = put .table;
         variables-are = rw (long, map-append) (one-name-more same before (put .name));

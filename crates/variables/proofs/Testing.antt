@@ -35,9 +35,9 @@ module _ {lexemes : List ℕ} {i : ℕ} (variables at nowhere : ℕ) {wide : ℕ
   pub limit-many : 16 ≤ variables → {r : ℕ} → r ≡ min at wide → (s : SortAt lexemes i) → LimitFound s variables at nowhere r
   limit-many h e s = e ∙ rw (le-ltb variables 16 h) (ap (min at) (known s))
 
-module _ {text words lexemes names : List ℕ} {p : Progress} {i nowhere : ℕ} where
+module _ {text lexemes names : List ℕ} {p : Progress} {i nowhere : ℕ} where
   -- Its name is a new one.
-  abbrev pub name-new : Declaring text words lexemes names p i nowhere → NewName text words lexemes names (scopeBefore p argumentRow) argumentRow 0 (i + 2)
+  abbrev pub name-new : Declaring text lexemes names p i nowhere → NewName text lexemes names (scopeBefore p argumentRow) argumentRow 0 (i + 2)
   name-new d =
       let x = variable-here (d .of) in
       record {
@@ -53,9 +53,9 @@ module _ {text words lexemes names : List ℕ} {p : Progress} {i nowhere : ℕ} 
       }
 
   -- The word of a name at fault.
-  pub name-found : {name : ℕ} → ((q : NewName text words lexemes names (scopeBefore p argumentRow) argumentRow 0 (i + 2)) → NameTested q nowhere name)
+  pub name-found : {name : ℕ} → ((q : NewName text lexemes names (scopeBefore p argumentRow) argumentRow 0 (i + 2)) → NameTested q nowhere name)
       → {unknown : ℕ} → ((s : SortAt lexemes (i + 3)) → unknown ≡ sortPlace Unknown nowhere (s .here .label) (s .here .operands))
-      → {r : ℕ} → r ≡ min name unknown → (d : Declaring text words lexemes names p i nowhere) → NameFound d r
+      → {r : ℕ} → r ≡ min name unknown → (d : Declaring text lexemes names p i nowhere) → NameFound d r
   unfolding namesFrom
   name-found tested known e d =
       let same = same-scope (d .of .counted) argumentRow (d .names-hold) in
@@ -65,12 +65,12 @@ module _ {text words lexemes names : List ℕ} {p : Progress} {i nowhere : ℕ} 
       (known (sort-here (variable-here (d .of))))
 
   -- Whatever the verdict is, but for one that passes, the table makes no difference.
-  refused : (d : Declaring text words lexemes names p i nowhere) {after : List ℕ} {v : Verdict} → Tested (d .of) v → (v .number ≡ 0 → ⊥) → Declared d after v
+  refused : (d : Declaring text lexemes names p i nowhere) {after : List ℕ} {v : Verdict} → Tested (d .of) v → (v .number ≡ 0 → ⊥) → Declared d after v
   refused d tested faulty = record { verdict-is = tested; names-hold = λ e. absurd (faulty e) }
 
   module _ {limit : ℕ} (limits : (s : SortAt lexemes (i + 3)) → LimitFound s (p .variables) i nowhere limit) where
     -- The first place is that of the definition.
-    limit-is : (d : Declaring text words lexemes names p i nowhere) → limit ≡ limitPlace allowed nowhere (d .of .known) i (d .of .here .command)
+    limit-is : (d : Declaring text lexemes names p i nowhere) → limit ≡ limitPlace allowed nowhere (d .of .known) i (d .of .here .command)
     unfolding limitPlace
     limit-is d =
         let c = d .of .here .command in
@@ -80,19 +80,19 @@ module _ {text words lexemes names : List ℕ} {p : Progress} {i nowhere : ℕ} 
         ∙ rw (is-declaring (d .of) .declares)
 
     -- The command is past a limit.
-    pub past-limit : limit < nowhere → (d : Declaring text words lexemes names p i nowhere)
+    pub past-limit : limit < nowhere → (d : Declaring text lexemes names p i nowhere)
         → Declared d names (record { number = 4; place = limit; rows = 0 })
     past-limit h d = refused d (says-limit allowed nowhere _ i _ _ _ (record { number-is = refl; place-is = limit-is d; found = h })) (λ e. omega arith)
 
     module _ (limited : nowhere ≤ limit) where
       -- There is a row for the variable.
-      pub one-more : Declaring text words lexemes names p i nowhere → p .variables < 16
+      pub one-more : Declaring text lexemes names p i nowhere → p .variables < 16
       one-more d =
           let first = command-word (d .of .here) in
           ltb-true (p .variables) 16 (no-fault (ltb (p .variables) 16) first (omega (arith, limits (sort-here (variable-here (d .of))))))
 
       -- The variable can be put into its row.
-      abbrev pub adding : Declaring text words lexemes names p i nowhere → Adding text words lexemes names (variableRow + p .variables) i
+      abbrev pub adding : Declaring text lexemes names p i nowhere → Adding text lexemes names (variableRow + p .variables) i
       adding d =
           let x = d .of .here in
           let held = inside 2 (x .command) in
@@ -106,14 +106,14 @@ module _ {text words lexemes names : List ℕ} {p : Progress} {i nowhere : ℕ} 
             fits = omega (arith, one-more d);
           }
 
-      module _ {name : ℕ} (names-tested : (q : Declaring text words lexemes names p i nowhere) → NameFound q name) where
+      module _ {name : ℕ} (names-tested : (q : Declaring text lexemes names p i nowhere) → NameFound q name) where
         -- The second place is that of the definition.
-        name-is : (d : Declaring text words lexemes names p i nowhere) → name ≡ namePlace nowhere (d .of .known) (d .of .here .command)
+        name-is : (d : Declaring text lexemes names p i nowhere) → name ≡ namePlace nowhere (d .of .known) (d .of .here .command)
         unfolding namePlace
         name-is d = names-tested d ∙ rw (is-declaring (d .of) .declares)
 
         -- A name is at fault.
-        pub name-faulty : name < nowhere → (d : Declaring text words lexemes names p i nowhere)
+        pub name-faulty : name < nowhere → (d : Declaring text lexemes names p i nowhere)
             → Declared d names (record { number = 7; place = name; rows = 0 })
         name-faulty h d =
             refused d (says-name allowed nowhere _ i _ _ _ (omega (arith, limit-is d)) (record { number-is = refl; place-is = name-is d; found = h }))
@@ -122,26 +122,26 @@ module _ {text words lexemes names : List ℕ} {p : Progress} {i nowhere : ℕ} 
         module _ (named : nowhere ≤ name) {sort : ℕ}
             (sorts : (s : SortAt lexemes (i + 3)) → sort ≡ sortPlace Empty nowhere (s .here .label) (s .here .operands)) where
           -- The third place is that of the definition.
-          sort-is : (d : Declaring text words lexemes names p i nowhere) → sort ≡ sortingPlace nowhere (d .of .known) (d .of .here .command)
+          sort-is : (d : Declaring text lexemes names p i nowhere) → sort ≡ sortingPlace nowhere (d .of .known) (d .of .here .command)
           unfolding sortingPlace
           sort-is d = sorts (sort-here (variable-here (d .of))) ∙ rw (is-declaring (d .of) .declares)
 
           -- The sort is at fault.
-          pub sort-faulty : sort < nowhere → (d : Declaring text words lexemes names p i nowhere)
+          pub sort-faulty : sort < nowhere → (d : Declaring text lexemes names p i nowhere)
               → Declared d names (record { number = 8; place = sort; rows = 0 })
           sort-faulty h d =
               refused d (says-sorting allowed nowhere _ i _ _ _ (omega (arith, limit-is d)) (omega (arith, name-is d))
               (record { number-is = refl; place-is = sort-is d; found = h })) (λ e. omega arith)
 
           -- No rule is at fault, since there is none.
-          no-rules : (d : Declaring text words lexemes names p i nowhere) → nowhere ≤ grammarPlace nowhere (d .of .known) (d .of .here .command)
+          no-rules : (d : Declaring text lexemes names p i nowhere) → nowhere ≤ grammarPlace nowhere (d .of .known) (d .of .here .command)
           unfolding grammarPlace
           no-rules d = rw (is-declaring (d .of) .declares) (omega arith)
 
           -- The command passes, and its variable is known.
           pub passes : nowhere ≤ sort
-              → {after : List ℕ} → ((a : Adding text words lexemes names (variableRow + p .variables) i) → Added a after)
-              → (d : Declaring text words lexemes names p i nowhere) → Declared d after (record { number = 0; place = 0; rows = 0 })
+              → {after : List ℕ} → ((a : Adding text lexemes names (variableRow + p .variables) i) → Added a after)
+              → (d : Declaring text lexemes names p i nowhere) → Declared d after (record { number = 0; place = 0; rows = 0 })
           passes sorted added d = record {
             verdict-is =
                 says-passed allowed nowhere _ i _ _ _ (omega (arith, limit-is d)) (omega (arith, name-is d)) (omega (arith, sort-is d)) (no-rules d) refl;

@@ -6,7 +6,7 @@ use mathlib.Core.Path.{_≡_}
 use lib.Seq.{sets}
 use Rattle.forest.specs.Forest.{tree}
 use Rattle.bits.specs.Sorts.{maxWidth}
-use Rattle.words.specs.Trees.{list}
+use Rattle.scanning.specs.Trees.{list}
 use Rattle.lexemes.specs.Lists.{Items, inside, isList, item, nameOf}
 use Rattle.lexemes.specs.Standing.{Stands}
 use Rattle.shapes.specs.Shapes.{declareVarShape}
@@ -24,12 +24,12 @@ use Rattle.script.specs.declared.Progress.{Progress}
 use Rattle.script.specs.declared.Verdict.{Verdict}
 
 -- A `declare-var`, and the table of names.
-pub record Declaring (text words lexemes names : List ℕ) (p : Progress) (i nowhere : ℕ) : Type 0 where
-  pub of : CommandOf "declare-var" text words lexemes p i nowhere
+pub record Declaring (text lexemes names : List ℕ) (p : Progress) (i nowhere : ℕ) : Type 0 where
+  pub of : CommandOf "declare-var" text lexemes p i nowhere
   pub names-hold : NamesHold names (of .known)
 
 -- The command is tested, and where it passes, its name is known.
-pub record Declared {text words lexemes names : List ℕ} {p : Progress} {i nowhere : ℕ} (d : Declaring text words lexemes names p i nowhere)
+pub record Declared {text lexemes names : List ℕ} {p : Progress} {i nowhere : ℕ} (d : Declaring text lexemes names p i nowhere)
     (namesAfter : List ℕ) (v : Verdict) : Type 0 where
   pub verdict-is : Tested (d .of) v
   pub names-hold : v .number ≡ 0 → NamesHold namesAfter (After (d .of))
@@ -40,31 +40,31 @@ LimitFound s variables at nowhere r =
     r ≡ min (commandPast nowhere (allowed .variables) variables at) (sortPlace TooWide nowhere (s .here .label) (s .here .operands))
 
 -- The word of a name at fault is found.
-abbrev pub NameFound : {text words lexemes names : List ℕ} {p : Progress} {i nowhere : ℕ} → Declaring text words lexemes names p i nowhere → (r : ℕ) → Type 0
+abbrev pub NameFound : {text lexemes names : List ℕ} {p : Progress} {i nowhere : ℕ} → Declaring text lexemes names p i nowhere → (r : ℕ) → Type 0
 NameFound {nowhere = nowhere} d r =
     let c = d .of .here .command in
     r ≡ min (newName nowhere (scope (d .of .known)) (item 1 c)) (sortPlace Unknown nowhere (item 2 c) (inside 2 c))
 
 -- A `declare-var` stands at word i.
-pub record VariableAt (text words lexemes : List ℕ) (i : ℕ) : Type 0 where
+pub record VariableAt (text lexemes : List ℕ) (i : ℕ) : Type 0 where
   pub close : ℕ
   pub command : Items
   pub more : Items
   pub end : ℕ
-  pub stands : Stands (sourceOf text words lexemes) i (tree (list i close) command more) end
+  pub stands : Stands (sourceOf text lexemes) i (tree (list i close) command more) end
   pub a-word : isList (item 0 command) ≡ false
   pub shaped : declareVarShape command ≡ true
 
 -- A `declare-var` with a sort at most 64 wide, in a text whose names are short; and the table has the row.
-pub record Adding (text words lexemes names : List ℕ) (row i : ℕ) : Type 0 where
-  pub here : VariableAt text words lexemes i
+pub record Adding (text lexemes names : List ℕ) (row i : ℕ) : Type 0 where
+  pub here : VariableAt text lexemes i
   pub narrow : sortOf (item 2 (here .command)) (inside 2 (here .command)) ≤ maxWidth
-  pub short : ShortNames (sourceOf text words lexemes)
+  pub short : ShortNames (sourceOf text lexemes)
   pub table : Names names
   pub fits : row < rowCount
 
 -- The variable and its sort are put into the row.
-abbrev pub Added : {text words lexemes names : List ℕ} {row i : ℕ} → Adding text words lexemes names row i → (namesAfter : List ℕ) → Type 0
+abbrev pub Added : {text lexemes names : List ℕ} {row i : ℕ} → Adding text lexemes names row i → (namesAfter : List ℕ) → Type 0
 Added {names = names} {row = row} a namesAfter =
     let c = a .here .command in
     namesAfter ≡ sets names (rowWidth * row) (nameRow (sortOf (item 2 c) (inside 2 c)) (nameOf (item 1 c)))

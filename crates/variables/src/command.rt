@@ -33,15 +33,14 @@ fn limit_place(lexemes: &[u64], variables: usize, at: usize, nowhere: usize) -> 
 // The word of a name at fault: that of the variable where it is reserved or taken, or of an unknown sort.
 fn name_place(
     text: &[u8],
-    words: &[u32],
     lexemes: &[u64],
     names: &[u8],
     progress: Progress,
     at: usize,
     nowhere: usize,
 ) -> usize
-    requires { ⌜ Declaring (now text) (now words) (now lexemes) (now names) progress at nowhere ⌝ }
-    ensures { λ r. ⌜ ((d : Declaring (now (text .entry)) (now (words .entry)) (now (lexemes .entry)) (now (names .entry)) progress at nowhere) → NameFound d r) ⌝ }
+    requires { ⌜ Declaring (now text) (now lexemes) (now names) progress at nowhere ⌝ }
+    ensures { λ r. ⌜ ((d : Declaring (now (text .entry)) (now (lexemes .entry)) (now (names .entry)) progress at nowhere) → NameFound d r) ⌝ }
 {
     let scope = Scope {
         variables: progress.variables,
@@ -50,48 +49,30 @@ fn name_place(
         first: ARGUMENTS,
         arguments: 0,
     };
-    let name = new_name(
-        text,
-        words,
-        lexemes,
-        names,
-        scope,
-        ARGUMENTS,
-        0,
-        at + 2,
-        nowhere,
-    );
+    let name = new_name(text, lexemes, names, scope, ARGUMENTS, 0, at + 2, nowhere);
     least(name, sort_place(lexemes, at + 3, Fault::Unknown, nowhere))
 }
 
 // Puts the variable and its sort into a row.
-fn add_variable(
-    text: &[u8],
-    words: &[u32],
-    lexemes: &[u64],
-    names: &mut [u8],
-    row: usize,
-    at: usize,
-)
-    requires { ⌜ Adding (now text) (now words) (now lexemes) (now names) row at ⌝ }
-    ensures { λ r. ⌜ ((a : Adding (now (text .entry)) (now (words .entry)) (now (lexemes .entry)) (now (names .entry)) row at) → Added a (now (names .exit))) ⌝ }
+fn add_variable(text: &[u8], lexemes: &[u64], names: &mut [u8], row: usize, at: usize)
+    requires { ⌜ Adding (now text) (now lexemes) (now names) row at ⌝ }
+    ensures { λ r. ⌜ ((a : Adding (now (text .entry)) (now (lexemes .entry)) (now (names .entry)) row at) → Added a (now (names .exit))) ⌝ }
 {
     let sort = sort_of(lexemes, at + 3) as u8;
-    put_name(names, row, sort, bytes_at(text, words, at + 2));
+    put_name(names, row, sort, bytes_at(text, lexemes, at + 2));
 }
 
 // The `declare-var` at a word: its variable stands in its row where it passes.
 pub fn declare_var(
     text: &[u8],
-    words: &[u32],
     lexemes: &[u64],
     names: &mut [u8],
     progress: Progress,
     at: usize,
     nowhere: usize,
 ) -> Verdict
-    requires { ⌜ Declaring (now text) (now words) (now lexemes) (now names) progress at nowhere ⌝ }
-    ensures { λ r. ⌜ ((d : Declaring (now (text .entry)) (now (words .entry)) (now (lexemes .entry)) (now (names .entry)) progress at nowhere) → Declared d (now (names .exit)) r) ⌝ }
+    requires { ⌜ Declaring (now text) (now lexemes) (now names) progress at nowhere ⌝ }
+    ensures { λ r. ⌜ ((d : Declaring (now (text .entry)) (now (lexemes .entry)) (now (names .entry)) progress at nowhere) → Declared d (now (names .exit)) r) ⌝ }
 {
     let limit = limit_place(lexemes, progress.variables, at, nowhere);
     if limit < nowhere {
@@ -101,7 +82,7 @@ pub fn declare_var(
             rows: 0,
         };
     }
-    let name = name_place(text, words, lexemes, names, progress, at, nowhere);
+    let name = name_place(text, lexemes, names, progress, at, nowhere);
     if name < nowhere {
         return Verdict {
             number: 7,
@@ -117,14 +98,7 @@ pub fn declare_var(
             rows: 0,
         };
     }
-    add_variable(
-        text,
-        words,
-        lexemes,
-        names,
-        VARIABLES + progress.variables,
-        at,
-    );
+    add_variable(text, lexemes, names, VARIABLES + progress.variables, at);
     Verdict {
         number: 0,
         place: 0,

@@ -1,6 +1,1 @@
-pub mod Chains
-pub mod Faults
-pub mod Gathering
-pub mod Offsets
-pub mod Turns
 pub mod Whole

@@ -1,25 +1,20 @@
 //! The reader of words: from the bytes of a text to its words, or to the refusal at the least offset.
-mod links;
-mod rows;
-mod scan;
-mod spans;
-
-use links::link;
 use readings::Limits;
 use readings::Reading;
 use readings::answers::number_of;
 use readings::answers::passed_of;
 use readings::answers::place_of;
 use readings::table::ROW;
-use scan::scan_text;
-use spans::first_start;
-use spans::word_end;
+use scanning::links::link;
+use scanning::scan::scan_text;
+use scanning::spans::first_start;
+use scanning::spans::word_end;
 use spelling::Fault;
 ghost use mathlib.Core.Path.{_≡_};
 ghost use lib.ListN.{length};
 ghost use Prim.Native.Nat.{min};
-ghost use Rattle.words.specs.Reading.{ReadWords, WordsForC, roomFor};
-ghost use Rattle.words.specs.Words.{enquired};
+ghost use Rattle.scanning.specs.Reading.{ReadWords, WordsForC, roomFor};
+ghost use Rattle.scanning.specs.Words.{enquired};
 
 // The lesser of two numbers.
 fn least(first: usize, second: usize) -> usize

@@ -1,5 +1,5 @@
 use Rattle.meaning_run.specs.Case.{answerOf}
-use Rattle.meaning.specs.Running.{leftOf}
+use Rattle.running.specs.Running.{leftOf}
 use mathlib.Core.Path.{ap, _∙_}
 use borrow.Author.Tests.{eq-eqb}
 use Rattle.meaning_run.proofs.Small.{run-ended, run-false, shifted-held}

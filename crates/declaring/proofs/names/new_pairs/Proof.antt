@@ -7,11 +7,11 @@ use Rattle.declaring.proofs.names.new_pairs.Statement.{statement}
 use Rattle.declaring.proofs.names.new_pairs.Tie as tie
 
 abbrev Inv-loop : tie.InvT-loop
-Inv-loop text words lexemes names₀ scope row first close nowhere place₀ at₀ done₀ names place at done =
-    Going text words lexemes names₀ scope row first close nowhere names place at done
+Inv-loop text lexemes names₀ scope row first close nowhere place₀ at₀ done₀ names place at done =
+    Going text lexemes names₀ scope row first close nowhere names place at done
 
 abbrev μ-loop : tie.MeasureT-loop
-μ-loop text words lexemes names₀ scope row first close nowhere place₀ at₀ done₀ names place at done = close - at
+μ-loop text lexemes names₀ scope row first close nowhere place₀ at₀ done₀ names place at done = close - at
 
 loop-holds : tie.Need-loop-holds Inv-loop μ-loop
 loop-holds c = search go-start

@@ -5,16 +5,16 @@ use Rattle.declaring.proofs.names.put_pair.Statement.{statement}
 use Rattle.declaring.proofs.names.put_pair.Tie as tie
 
 add-sort-of : tie.Need-add-sort-of
-add-sort-of c = omega (arith, pair-room (c .before .before .before .before .pre))
+add-sort-of c = omega (arith, pair-room (c .before .before .before .pre))
 
 sort-of-requires : tie.Need-sort-of-requires
 sort-of-requires c κs = search sort-here
 
 cast-sort : tie.Need-cast-sort
-cast-sort c = record { fits = omega (arith, sort-small (c .before .before .before .before .before .pre) (c .sort-of .ensures)) }
+cast-sort c = record { fits = omega (arith, sort-small (c .before .before .before .before .pre) (c .sort-of .ensures)) }
 
 add-bytes-at : tie.Need-add-bytes-at
-add-bytes-at c = omega (arith, pair-room (c .before .before .before .before .before .before .pre))
+add-bytes-at c = omega (arith, pair-room (c .before .before .before .before .before .pre))
 
 bytes-at-requires : tie.Need-bytes-at-requires
 bytes-at-requires c κs = search needs

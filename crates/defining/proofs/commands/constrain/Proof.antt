@@ -6,7 +6,7 @@ use Rattle.defining.proofs.commands.constrain.Statement.{statement}
 use Rattle.defining.proofs.commands.constrain.Tie as tie
 
 add-body-limit : tie.Need-add-body-limit
-add-body-limit c = let d = c .before .before .before .before .before .before .before .pre .of in omega (arith, command-word (d .here), d .here .few)
+add-body-limit c = let d = c .before .before .before .before .before .before .pre .of in omega (arith, command-word (d .here), d .here .few)
 
 body-limit-requires : tie.Need-body-limit-requires
 body-limit-requires c κs = search term-at
@@ -39,10 +39,10 @@ returns-2 : tie.Need-returns-2
 returns-2 c = term-refused (c .before .before .before .before .before .before .before .before .before .before .before .before .before .before .before .body-limit .ensures) (c .before .before .before .before .before .before .before .before .before .before .before .before .command-past .ensures) (c .before .before .before .before .before .before .before .before .before .before .before .least .ensures) (c .before .before .before .before .before .before .before .before .before .before .if1 .left) (c .before .before .before .before .before .before .judge-body .ensures) (c .if2 .taken)
 
 add-put-row : tie.Need-add-put-row
-add-put-row c = omega (arith, c .before .before .before .before .before .before .before .before .before .before .before .before .before .before .before .before .before .before .before .before .before .before .before .before .before .before .pre .of .counted .few-constraints)
+add-put-row c = omega (arith, c .before .before .before .before .before .before .before .before .before .before .before .before .before .before .before .before .before .before .before .before .before .before .before .before .before .pre .of .counted .few-constraints)
 
 put-row-requires : tie.Need-put-row-requires
-put-row-requires c κs = row-place (c .before .before .before .before .before .before .before .before .before .before .before .before .before .before .before .before .before .body-limit .ensures) (c .before .before .before .before .before .before .before .before .before .before .before .before .before .before .command-past .ensures) (c .before .before .before .before .before .before .before .before .before .before .before .before .before .least .ensures) (c .before .before .before .before .before .before .before .before .before .before .before .before .if1 .left) (c .before .before .before .before .before .before .before .before .before .before .before .before .before .before .before .before .before .before .before .before .before .before .before .before .before .before .pre)
+put-row-requires c κs = row-place (c .before .before .before .before .before .before .before .before .before .before .before .before .before .before .before .before .before .body-limit .ensures) (c .before .before .before .before .before .before .before .before .before .before .before .before .before .before .command-past .ensures) (c .before .before .before .before .before .before .before .before .before .before .before .before .before .least .ensures) (c .before .before .before .before .before .before .before .before .before .before .before .before .if1 .left) (c .before .before .before .before .before .before .before .before .before .before .before .before .before .before .before .before .before .before .before .before .before .before .before .before .before .pre)
 
 same-length-5 : tie.Need-same-length-5
 same-length-5 c = search needs

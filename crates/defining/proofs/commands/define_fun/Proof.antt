@@ -6,7 +6,7 @@ use Rattle.defining.proofs.commands.define_fun.Statement.{statement}
 use Rattle.defining.proofs.commands.define_fun.Tie as tie
 
 add-next-at : tie.Need-add-next-at
-add-next-at c = let d = c .before .before .before .before .before .before .before .pre .of in omega (arith, command-word (d .here), d .here .few)
+add-next-at c = let d = c .before .before .before .before .before .before .pre .of in omega (arith, command-word (d .here), d .here .few)
 
 next-at-requires : tie.Need-next-at-requires
 next-at-requires c κs = search needs
@@ -18,13 +18,13 @@ next-at-requires-3 : tie.Need-next-at-requires-3
 next-at-requires-3 c κs = search needs
 
 body-limit-requires : tie.Need-body-limit-requires
-body-limit-requires c κs = body-at (c .before .before .before .next-at .ensures) (c .before .before .next-at2 .ensures) (c .before .next-at3 .ensures) (c .before .before .before .before .before .before .before .before .before .before .before .pre)
+body-limit-requires c κs = body-at (c .before .before .before .next-at .ensures) (c .before .before .next-at2 .ensures) (c .before .next-at3 .ensures) (c .before .before .before .before .before .before .before .before .before .before .pre)
 
 command-past-requires : tie.Need-command-past-requires
 command-past-requires c κs = search needs
 
 head-past-requires : tie.Need-head-past-requires
-head-past-requires c κs = its-header (c .before .before .before .before .before .before .before .before .before .before .before .before .before .before .before .pre)
+head-past-requires c κs = its-header (c .before .before .before .before .before .before .before .before .before .before .before .before .before .before .pre)
 
 least-requires : tie.Need-least-requires
 least-requires c κs = search needs
@@ -39,7 +39,7 @@ returns : tie.Need-returns
 returns c = limit-refused (c .before .before .before .before .before .before .before .before .before .before .before .next-at .ensures) (c .before .before .before .before .before .before .before .before .before .before .next-at2 .ensures) (c .before .before .before .before .before .before .before .before .before .next-at3 .ensures) (c .before .before .before .before .before .before .before .body-limit .ensures) (c .before .before .before .before .command-past .ensures) (c .before .before .before .head-past .ensures) (c .before .before .least .ensures) (c .before .least2 .ensures) (c .if1 .taken)
 
 define-within-requires : tie.Need-define-within-requires
-define-within-requires c κs = within-limits (c .before .before .before .before .before .before .before .before .before .before .before .before .before .before .before .next-at .ensures) (c .before .before .before .before .before .before .before .before .before .before .before .before .before .before .next-at2 .ensures) (c .before .before .before .before .before .before .before .before .before .before .before .before .before .next-at3 .ensures) (c .before .before .before .before .before .before .before .before .before .before .before .body-limit .ensures) (c .before .before .before .before .before .before .before .before .command-past .ensures) (c .before .before .before .before .before .before .before .head-past .ensures) (c .before .before .before .before .before .before .least .ensures) (c .before .before .before .before .before .least2 .ensures) (c .before .before .before .before .if1 .left) (c .before .before .before .before .before .before .before .before .before .before .before .before .before .before .before .before .before .before .before .before .before .before .before .pre)
+define-within-requires c κs = within-limits (c .before .before .before .before .before .before .before .before .before .before .before .before .before .before .before .next-at .ensures) (c .before .before .before .before .before .before .before .before .before .before .before .before .before .before .next-at2 .ensures) (c .before .before .before .before .before .before .before .before .before .before .before .before .before .next-at3 .ensures) (c .before .before .before .before .before .before .before .before .before .before .before .body-limit .ensures) (c .before .before .before .before .before .before .before .before .command-past .ensures) (c .before .before .before .before .before .before .before .head-past .ensures) (c .before .before .before .before .before .before .least .ensures) (c .before .before .before .before .before .least2 .ensures) (c .before .before .before .before .if1 .left) (c .before .before .before .before .before .before .before .before .before .before .before .before .before .before .before .before .before .before .before .before .before .before .pre)
 
 same-length-2 : tie.Need-same-length-2
 same-length-2 c = search needs

@@ -12,7 +12,7 @@ non-terminals-at-requires c κs = search command-of
 
 add-first : tie.Need-add-first
 add-first c =
-    let command = command-of (c .before .before .before .before .before .before .before .pre) in
+    let command = command-of (c .before .before .before .before .before .before .pre) in
     omega (arith, item-room (pairs command (c .non-terminals-at .ensures) .here))
 
 close-at-requires : tie.Need-close-at-requires
@@ -35,7 +35,7 @@ write-forms-requires c κs =
     let counted = c .before .before .before .before .before in
     let named = counted .before .before .before .before .before in
     let listed = named .before .before in
-    let entry = listed .before .before .before .before .before .before .before .before .before in
+    let entry = listed .before .before .before .before .before .before .before .before in
     rules-of (entry .pre) (listed .before .before .non-terminals-at .ensures) (listed .before .close-at .ensures) (listed .count-items .ensures) (named .new-pairs .ensures)
     (counted .count-nodes .ensures)
 

@@ -5,7 +5,7 @@ use Rattle.headers.proofs.compare.header_differs.Statement.{statement}
 use Rattle.headers.proofs.compare.header_differs.Tie as tie
 
 add-is-named : tie.Need-add-is-named
-add-is-named c = omega (arith, name-within (c .before .before .before .before .pre))
+add-is-named c = omega (arith, name-within (c .before .before .before .pre))
 
 add-is-named-2 : tie.Need-add-is-named-2
 add-is-named-2 c = search needs
@@ -14,13 +14,13 @@ is-named-requires : tie.Need-is-named-requires
 is-named-requires c κs = search needs
 
 add-result : tie.Need-add-result
-add-result c = omega (arith, name-within (c .before .before .before .before .before .before .pre))
+add-result c = omega (arith, name-within (c .before .before .before .before .before .pre))
 
 returns : tie.Need-returns
 returns c = name-differs (c .before .is-named .ensures) (c .if1 .taken) _
 
 add-next-at : tie.Need-add-next-at
-add-next-at c = omega (arith, name-within (c .before .before .before .before .before .before .pre))
+add-next-at c = omega (arith, name-within (c .before .before .before .before .before .pre))
 
 next-at-requires : tie.Need-next-at-requires
 next-at-requires c κs = search needs
@@ -35,19 +35,19 @@ add-row : tie.Need-add-row
 add-row c = search needs
 
 add-pairs-differ : tie.Need-add-pairs-differ
-add-pairs-differ c = omega (arith, pairs-within (c .before .next-at .ensures) (c .before .before .before .before .before .before .before .before .pre))
+add-pairs-differ c = omega (arith, pairs-within (c .before .next-at .ensures) (c .before .before .before .before .before .before .before .pre))
 
 sub-pairs-differ : tie.Need-sub-pairs-differ
-sub-pairs-differ c = omega (arith, sort-behind (c .before .next-at .ensures) (c .next-at2 .ensures) (c .before .before .before .before .before .before .before .before .pre))
+sub-pairs-differ c = omega (arith, sort-behind (c .before .next-at .ensures) (c .next-at2 .ensures) (c .before .before .before .before .before .before .before .pre))
 
 pairs-differ-requires : tie.Need-pairs-differ-requires
-pairs-differ-requires c κs = pairs-at (c .before .next-at .ensures) (c .next-at2 .ensures) (c .before .before .before .before .before .before .before .before .pre)
+pairs-differ-requires c κs = pairs-at (c .before .next-at .ensures) (c .next-at2 .ensures) (c .before .before .before .before .before .before .before .pre)
 
 returns-2 : tie.Need-returns-2
 returns-2 c = arguments-differ (c .before .before .before .next-at .ensures) (c .before .before .next-at2 .ensures) (c .before .before .before .before .before .is-named .ensures) (c .before .before .before .before .if1 .left) (c .before .pairs-differ .ensures) (c .if2 .taken) _
 
 sort-differs-requires : tie.Need-sort-differs-requires
-sort-differs-requires c κs = let given = c .before .before .before .before .before .before .before .before .before .before .pre in let behind = sort-behind (c .before .before .before .next-at .ensures) (c .before .before .next-at2 .ensures) given in (own-sort (c .before .before .before .next-at .ensures) (c .before .before .next-at2 .ensures) given, omega arith)
+sort-differs-requires c κs = let given = c .before .before .before .before .before .before .before .before .before .pre in let behind = sort-behind (c .before .before .before .next-at .ensures) (c .before .before .next-at2 .ensures) given in (own-sort (c .before .before .before .next-at .ensures) (c .before .before .next-at2 .ensures) given, omega arith)
 
 returns-3 : tie.Need-returns-3
 returns-3 c = sort-differs (c .before .before .before .before .before .next-at .ensures) (c .before .before .before .before .next-at2 .ensures) (c .before .before .before .before .before .before .before .is-named .ensures) (c .before .before .before .before .before .before .if1 .left) (c .before .before .before .pairs-differ .ensures) (c .before .before .if2 .left) (c .before .sort-differs .ensures) (c .if3 .taken) _

@@ -6,25 +6,25 @@ use Rattle.headers.proofs.compare.pair_differs.Statement.{statement}
 use Rattle.headers.proofs.compare.pair_differs.Tie as tie
 
 add-is-named : tie.Need-add-is-named
-add-is-named c = omega (arith, item-room (sort-of-pair (c .before .before .before .before .pre) .here))
+add-is-named c = omega (arith, item-room (sort-of-pair (c .before .before .before .pre) .here))
 
 is-named-requires : tie.Need-is-named-requires
 is-named-requires c κs = search needs
 
 add-result : tie.Need-add-result
-add-result c = omega (arith, item-room (sort-of-pair (c .before .before .before .before .before .before .pre) .here))
+add-result c = omega (arith, item-room (sort-of-pair (c .before .before .before .before .before .pre) .here))
 
 returns : tie.Need-returns
 returns c = search pair-other
 
 add-sort-differs : tie.Need-add-sort-differs
-add-sort-differs c = omega (arith, item-room (sort-of-pair (c .before .before .before .before .before .before .pre) .here))
+add-sort-differs c = omega (arith, item-room (sort-of-pair (c .before .before .before .before .before .pre) .here))
 
 sort-in-requires : tie.Need-sort-in-requires
 sort-in-requires c κs = search needs
 
 sort-differs-requires : tie.Need-sort-differs-requires
-sort-differs-requires c κs = (sort-of-pair (c .before .before .before .before .before .before .before .pre), omega arith)
+sort-differs-requires c κs = (sort-of-pair (c .before .before .before .before .before .before .pre), omega arith)
 
 returns-2 : tie.Need-returns-2
 returns-2 c = search pair-sorted

@@ -7,10 +7,10 @@ use Rattle.headers.proofs.compare.pairs_differ.Statement.{statement}
 use Rattle.headers.proofs.compare.pairs_differ.Tie as tie
 
 abbrev Inv-loop : tie.InvT-loop
-Inv-loop text words lexemes names first close row arguments passed₀ at₀ passed at = Passing text words lexemes names first close row arguments passed at
+Inv-loop text lexemes names first close row arguments passed₀ at₀ passed at = Passing text lexemes names first close row arguments passed at
 
 abbrev μ-loop : tie.MeasureT-loop
-μ-loop text words lexemes names first close row arguments passed₀ at₀ passed at = close - at
+μ-loop text lexemes names first close row arguments passed₀ at₀ passed at = close - at
 
 loop-holds : tie.Need-loop-holds Inv-loop μ-loop
 loop-holds c = search pass-start
@@ -22,7 +22,7 @@ add-pair-differs : tie.Need-add-pair-differs Inv-loop μ-loop
 add-pair-differs c = omega arith
 
 pair-differs-requires : tie.Need-pair-differs-requires Inv-loop μ-loop
-pair-differs-requires c κs = pass-pair (c .before .before .loop .inv) (c .before .loop-test .taken) (c .if1 .left) (c .before .before .before .before .before .before .before .pre)
+pair-differs-requires c κs = pass-pair (c .before .before .loop .inv) (c .before .loop-test .taken) (c .if1 .left) (c .before .before .before .before .before .before .pre)
 
 returns-2 : tie.Need-returns-2 Inv-loop μ-loop
 returns-2 c = search pass-other

@@ -6,7 +6,7 @@ use Rattle.heading.proofs.heads.head_names.Statement.{statement}
 use Rattle.heading.proofs.heads.head_names.Tie as tie
 
 add-next-at : tie.Need-add-next-at
-add-next-at c = omega (arith, head-room (c .before .before .before .before .pre))
+add-next-at c = omega (arith, head-room (c .before .before .before .pre))
 
 next-at-requires : tie.Need-next-at-requires
 next-at-requires c κs = search needs
@@ -16,7 +16,7 @@ next-at-requires-2 c κs = search needs
 
 sub-close : tie.Need-sub-close
 sub-close c =
-    let header = header-here (c .before .before .before .before .before .before .pre) in
+    let header = header-here (c .before .before .before .before .before .pre) in
     omega (arith, arguments-ahead header (c .before .next-at .ensures) (c .next-at2 .ensures))
 
 grown-requires : tie.Need-grown-requires
@@ -31,7 +31,7 @@ own-name-requires c κs = search needs
 add-new-pairs : tie.Need-add-new-pairs
 add-new-pairs c =
     let come = c .before .before .before .before .before .before .before .before in
-    omega (arith, arguments-room (header-here (come .before .before .before .before .before .pre)) (come .next-at .ensures))
+    omega (arith, arguments-room (header-here (come .before .before .before .before .pre)) (come .next-at .ensures))
 
 new-pairs-requires : tie.Need-new-pairs-requires
 new-pairs-requires c κs =
@@ -44,7 +44,7 @@ new-pairs-requires c κs =
     (named .before .before .first-row .ensures)
     _
     (named .own-name .ensures)
-    (come .before .before .before .before .before .pre)
+    (come .before .before .before .before .pre)
 
 header-place-requires : tie.Need-header-place-requires
 header-place-requires c κs = search header-here

@@ -9,7 +9,7 @@ own-row-requires : tie.Need-own-row-requires
 own-row-requires c κs = search needs
 
 add-next-at : tie.Need-add-next-at
-add-next-at c = omega (arith, head-room (c .before .before .before .before .before .pre))
+add-next-at c = omega (arith, head-room (c .before .before .before .before .pre))
 
 next-at-requires : tie.Need-next-at-requires
 next-at-requires c κs = search needs
@@ -22,17 +22,17 @@ sort-of-requires c κs = search result-sort
 
 cast-sort : tie.Need-cast-sort
 cast-sort c =
-    let p = c .before .before .before .before .before .before .before .before .pre in
+    let p = c .before .before .before .before .before .before .before .pre in
     record { fits = omega (arith, sort-small p (c .before .before .next-at .ensures) (c .before .next-at2 .ensures) (c .sort-of .ensures)) }
 
 add-new-name : tie.Need-add-new-name
-add-new-name c = omega (arith, head-room (c .before .before .before .before .before .before .before .before .before .pre))
+add-new-name c = omega (arith, head-room (c .before .before .before .before .before .before .before .before .pre))
 
 new-name-requires : tie.Need-new-name-requires
 new-name-requires c κs = search name-here
 
 add-bytes-at : tie.Need-add-bytes-at
-add-bytes-at c = omega (arith, head-room (c .before .before .before .before .before .before .before .before .before .before .before .pre))
+add-bytes-at c = omega (arith, head-room (c .before .before .before .before .before .before .before .before .before .before .pre))
 
 bytes-at-requires : tie.Need-bytes-at-requires
 bytes-at-requires c κs = search needs

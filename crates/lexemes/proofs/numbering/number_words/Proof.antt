@@ -54,6 +54,45 @@ mul-lexemes-4 c = search needs
 slice-write-lexemes-3 : tie.Need-slice-write-lexemes-3 Inv-loop μ-loop
 slice-write-lexemes-3 c = simp length-set (omega arith)
 
+start-at-requires : tie.Need-start-at-requires Inv-loop μ-loop
+start-at-requires c κs = search needs
+
+add-lexemes-3 : tie.Need-add-lexemes-3 Inv-loop μ-loop
+add-lexemes-3 c = omega arith
+
+mul-lexemes-5 : tie.Need-mul-lexemes-5 Inv-loop μ-loop
+mul-lexemes-5 c = search needs
+
+slice-write-lexemes-4 : tie.Need-slice-write-lexemes-4 Inv-loop μ-loop
+slice-write-lexemes-4 c = simp length-set (omega arith)
+
+end-at-requires : tie.Need-end-at-requires Inv-loop μ-loop
+end-at-requires c κs = search needs
+
+add-lexemes-4 : tie.Need-add-lexemes-4 Inv-loop μ-loop
+add-lexemes-4 c = omega arith
+
+mul-lexemes-6 : tie.Need-mul-lexemes-6 Inv-loop μ-loop
+mul-lexemes-6 c = search needs
+
+slice-write-lexemes-5 : tie.Need-slice-write-lexemes-5 Inv-loop μ-loop
+slice-write-lexemes-5 c = simp length-set (omega arith)
+
+width-at-requires : tie.Need-width-at-requires Inv-loop μ-loop
+width-at-requires c κs = search needs
+
+cast-lexemes : tie.Need-cast-lexemes Inv-loop μ-loop
+cast-lexemes c = search needs
+
+add-lexemes-5 : tie.Need-add-lexemes-5 Inv-loop μ-loop
+add-lexemes-5 c = omega arith
+
+mul-lexemes-7 : tie.Need-mul-lexemes-7 Inv-loop μ-loop
+mul-lexemes-7 c = search needs
+
+slice-write-lexemes-6 : tie.Need-slice-write-lexemes-6 Inv-loop μ-loop
+slice-write-lexemes-6 c = simp length-set (omega arith)
+
 add-word : tie.Need-add-word Inv-loop μ-loop
 add-word c = omega arith
 
@@ -89,6 +128,19 @@ number-words-spec =
     add-lexemes-2
     mul-lexemes-4
     slice-write-lexemes-3
+    start-at-requires
+    add-lexemes-3
+    mul-lexemes-5
+    slice-write-lexemes-4
+    end-at-requires
+    add-lexemes-4
+    mul-lexemes-6
+    slice-write-lexemes-5
+    width-at-requires
+    cast-lexemes
+    add-lexemes-5
+    mul-lexemes-7
+    slice-write-lexemes-6
     add-word
     loop-less
     loop-again

@@ -9,7 +9,7 @@ name-misfit-requires : tie.Need-name-misfit-requires
 name-misfit-requires c κs = search needs
 
 add-next-at : tie.Need-add-next-at
-add-next-at c = omega (arith, item-room (c .before .before .before .before .before .pre .here))
+add-next-at c = omega (arith, item-room (c .before .before .before .before .pre .here))
 
 next-at-requires : tie.Need-next-at-requires
 next-at-requires c κs = search needs

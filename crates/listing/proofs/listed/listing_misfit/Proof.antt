@@ -8,26 +8,26 @@ use Rattle.listing.proofs.listed.listing_misfit.Statement.{statement}
 use Rattle.listing.proofs.listed.listing_misfit.Tie as tie
 
 abbrev Inv-loop : tie.InvT-loop
-Inv-loop text words lexemes names at listed nowhere close past place₀ group₀ row₀ place group row =
-    Listing text words lexemes names at listed close nowhere place group row
+Inv-loop text lexemes names at listed nowhere close past place₀ group₀ row₀ place group row =
+    Listing text lexemes names at listed close nowhere place group row
 
 abbrev μ-loop : tie.MeasureT-loop
-μ-loop text words lexemes names at listed nowhere close past place₀ group₀ row₀ place group row = close - group
+μ-loop text lexemes names at listed nowhere close past place₀ group₀ row₀ place group row = close - group
 
 next-at-requires : tie.Need-next-at-requires Inv-loop μ-loop
 next-at-requires c κs = search needs
 
 sub-close : tie.Need-sub-close Inv-loop μ-loop
-sub-close c = omega (arith, item-ahead (as-item (groups-list (c .before .before .before .before .before .pre))) (c .next-at .ensures))
+sub-close c = omega (arith, item-ahead (as-item (groups-list (c .before .before .before .before .pre))) (c .next-at .ensures))
 
 add-past : tie.Need-add-past Inv-loop μ-loop
 add-past c = omega arith
 
 add-group : tie.Need-add-group Inv-loop μ-loop
-add-group c = omega (arith, list-room (groups-list (c .before .before .before .before .before .pre)))
+add-group c = omega (arith, list-room (groups-list (c .before .before .before .before .pre)))
 
 loop-holds : tie.Need-loop-holds Inv-loop μ-loop
-loop-holds c = listing-start (c .before .before .before .before .before .pre) (c .next-at .ensures) (omega arith) (omega arith)
+loop-holds c = listing-start (c .before .before .before .before .pre) (c .next-at .ensures) (omega arith) (omega arith)
 
 add-least : tie.Need-add-least Inv-loop μ-loop
 add-least c = omega arith

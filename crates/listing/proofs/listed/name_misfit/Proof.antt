@@ -6,7 +6,7 @@ use Rattle.listing.proofs.listed.name_misfit.Statement.{statement}
 use Rattle.listing.proofs.listed.name_misfit.Tie as tie
 
 add-bytes-at : tie.Need-add-bytes-at
-add-bytes-at c = omega (arith, item-room (c .before .before .before .before .pre .here))
+add-bytes-at c = omega (arith, item-room (c .before .before .before .pre .here))
 
 bytes-at-requires : tie.Need-bytes-at-requires
 bytes-at-requires c κs = search needs
@@ -15,7 +15,7 @@ find-name-requires : tie.Need-find-name-requires
 find-name-requires c κs = search needs
 
 add-sort-of : tie.Need-add-sort-of
-add-sort-of c = omega (arith, item-room (c .before .before .before .before .before .before .pre .here))
+add-sort-of c = omega (arith, item-room (c .before .before .before .before .before .pre .here))
 
 sort-of-requires : tie.Need-sort-of-requires
 sort-of-requires c κs = search listed-sort
@@ -27,7 +27,7 @@ returns : tie.Need-returns
 returns c = search name-fits
 
 add-result : tie.Need-add-result
-add-result c = omega (arith, item-room (c .before .before .before .before .before .before .before .before .before .pre .here))
+add-result c = omega (arith, item-room (c .before .before .before .before .before .before .before .before .pre .here))
 
 returns-2 : tie.Need-returns-2
 returns-2 c = search name-differs

@@ -6,11 +6,11 @@ use Rattle.naming.proofs.forms.write_forms.Statement.{statement}
 use Rattle.naming.proofs.forms.write_forms.Tie as tie
 
 abbrev Inv-loop : tie.InvT-loop
-Inv-loop names seen text words lexemes raw count forms₀ base nowhere unknown₀ node₀ forms unknown node =
-    Going names text words lexemes raw forms₀ seen count base nowhere forms unknown node
+Inv-loop names seen text lexemes raw count forms₀ base nowhere unknown₀ node₀ forms unknown node =
+    Going names text lexemes raw forms₀ seen count base nowhere forms unknown node
 
 abbrev μ-loop : tie.MeasureT-loop
-μ-loop names seen text words lexemes raw count forms₀ base nowhere unknown₀ node₀ forms unknown node =
+μ-loop names seen text lexemes raw count forms₀ base nowhere unknown₀ node₀ forms unknown node =
     count - node
 
 loop-holds : tie.Need-loop-holds Inv-loop μ-loop
@@ -26,7 +26,7 @@ node-means-requires : tie.Need-node-means-requires Inv-loop μ-loop
 node-means-requires c κs = search node-here
 
 add-put-form : tie.Need-add-put-form Inv-loop μ-loop
-add-put-form c = let room = c .before .before .before .before .before .loop .inv .given .room in let inside = c .before .before .before .before .loop-test .taken in let fits = c .before .before .before .before .before .before .before .before .before .before .before .before .good .1 .1 .1 .1 .1 .1 .1 .0 .1 in omega arith
+add-put-form c = let room = c .before .before .before .before .before .loop .inv .given .room in let inside = c .before .before .before .before .loop-test .taken in let fits = c .before .before .before .before .before .before .before .before .before .before .before .good .1 .1 .1 .1 .1 .1 .0 .1 in omega arith
 
 operands-at-requires : tie.Need-operands-at-requires Inv-loop μ-loop
 operands-at-requires c κs = search needs
@@ -44,7 +44,7 @@ lesser-requires : tie.Need-lesser-requires Inv-loop μ-loop
 lesser-requires c κs = search needs
 
 add-node : tie.Need-add-node Inv-loop μ-loop
-add-node c = let inside = c .before .before .before .before .before .before .before .before .before .before .before .loop-test .taken in let fits = c .before .before .before .before .before .before .before .before .before .before .before .before .before .before .before .before .before .before .before .good .1 .1 .1 .1 .1 .1 .0 in omega arith
+add-node c = let inside = c .before .before .before .before .before .before .before .before .before .before .before .loop-test .taken in let fits = c .before .before .before .before .before .before .before .before .before .before .before .before .before .before .before .before .before .before .good .1 .1 .1 .1 .1 .0 in omega arith
 
 loop-less : tie.Need-loop-less Inv-loop μ-loop
 loop-less c = omega arith

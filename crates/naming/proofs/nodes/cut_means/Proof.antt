@@ -1,6 +1,6 @@
 use native.Mathlib.Omega.{arith}
 use Rattle.naming.proofs.ByWords.{cut-small, is-beyond, is-cut}
-use Rattle.naming.proofs.Patterns.{in-table}
+use Rattle.lexemes.proofs.Standing.{coded}
 use borrow.Author.Needs.{needs}
 use Rattle.naming.proofs.nodes.cut_means.Statement.{statement}
 use Rattle.naming.proofs.nodes.cut_means.Tie as tie
@@ -9,7 +9,7 @@ value-at-requires : tie.Need-value-at-requires
 value-at-requires c κs = search needs
 
 add-value-at : tie.Need-add-value-at
-add-value-at c = let h = in-table _ _ (c .before .before .pre) in omega arith
+add-value-at c = let h = coded _ _ (c .before .before .pre) in omega arith
 
 value-at-requires-2 : tie.Need-value-at-requires-2
 value-at-requires-2 c κs = search needs

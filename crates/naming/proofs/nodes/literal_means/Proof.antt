@@ -15,9 +15,6 @@ written-of-requires c κs = rw (c .bytes-at .ensures) (search needs)
 width-at-requires : tie.Need-width-at-requires
 width-at-requires c κs = search needs
 
-cast-known-as : tie.Need-cast-known-as
-cast-known-as c = search needs
-
 mul-known-as : tie.Need-mul-known-as
 mul-known-as c = let h : c .before .written-of .result < mostWritten = search written-small in omega arith
 
@@ -46,7 +43,6 @@ literal-means-spec =
     bytes-at-requires
     written-of-requires
     width-at-requires
-    cast-known-as
     mul-known-as
     add-known-as
     mul-known-as-2

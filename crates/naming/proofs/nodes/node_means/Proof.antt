@@ -1,4 +1,4 @@
-use Rattle.naming.proofs.ByWords.{cut-coded, cut-node, literal-node, literal-small, number-node, pattern-at, pattern-node, symbol-coded, symbol-node}
+use Rattle.naming.proofs.ByWords.{cut-coded, cut-node, literal-narrow, literal-node, literal-small, number-node, pattern-at, pattern-node, symbol-coded, symbol-node}
 use borrow.Author.Needs.{needs}
 use Rattle.naming.proofs.nodes.node_means.Statement.{statement}
 use Rattle.naming.proofs.nodes.node_means.Tie as tie
@@ -19,13 +19,13 @@ bytes-at-requires : tie.Need-bytes-at-requires
 bytes-at-requires c κs = search needs
 
 symbol-means-requires : tie.Need-symbol-means-requires
-symbol-means-requires c κs = (record { view = c .before .before .before .before .before .before .before .before .before .pre .view; sees = c .before .before .before .before .before .before .before .before .before .pre .sees }, search symbol-coded)
+symbol-means-requires c κs = (record { view = c .before .before .before .before .before .before .before .before .pre .view; sees = c .before .before .before .before .before .before .before .before .pre .sees }, search symbol-coded)
 
 returns-2 : tie.Need-returns-2
 returns-2 c = λ given. search symbol-node
 
 literal-means-requires : tie.Need-literal-means-requires
-literal-means-requires c κs = search literal-small
+literal-means-requires c κs = (search literal-small, search literal-narrow)
 
 returns-3 : tie.Need-returns-3
 returns-3 c = λ given. search literal-node

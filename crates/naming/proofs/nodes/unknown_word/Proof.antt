@@ -16,7 +16,7 @@ is-pattern-requires : tie.Need-is-pattern-requires
 is-pattern-requires c κs = search needs
 
 add-result : tie.Need-add-result
-add-result c = let h : 3 * c .before .before .before .before .before .args .head < length (c .before .before .before .before .before .args .lexemes .now) = search pattern-within in omega arith
+add-result c = let h : 6 * c .before .before .before .before .before .args .head < length (c .before .before .before .before .before .args .lexemes .now) = search pattern-within in omega arith
 
 returns-2 : tie.Need-returns-2
 returns-2 c = search sort-word

@@ -1,19 +1,47 @@
+use native.Mathlib.Omega.{arith}
+use lib.ListN.{length-take}
+use Rattle.script.specs.Tables.{formsPlace}
 use Rattle.reader.proofs.Testing.{constrained, constraining, declared, declaring, defined, defining, others, synthesized, synthesizing}
 use borrow.Author.Needs.{needs}
 use Rattle.reader.proofs.commands.test_command.Statement.{statement}
 use Rattle.reader.proofs.commands.test_command.Tie as tie
 
 declare-var-requires : tie.Need-declare-var-requires
-declare-var-requires c κs = declaring (c .before .before .before .before .before .before .before .before .before .before .pre) (c .before .match .keys1)
+declare-var-requires c κs = declaring (c .before .before .before .before .before .before .before .before .pre) (c .before .match .keys1)
+
+slice-relend-prefix-define-fun : tie.Need-slice-relend-prefix-define-fun
+slice-relend-prefix-define-fun c = search needs
+
+slice-aggregate-define-fun : tie.Need-slice-aggregate-define-fun
+slice-aggregate-define-fun c =
+    let s = c .before .before .before .before .before .before .before .before .before .before .before in
+    omega (arith, length-take formsPlace (s .args .nodes .now), s .pre .commanded .roomy .nodes-room)
 
 define-fun-requires : tie.Need-define-fun-requires
-define-fun-requires c κs = defining (c .before .before .before .before .before .before .before .before .before .before .before .before .before .pre) (c .before .before .before .before .match .keys2)
+define-fun-requires c κs = defining (c .before .before .before .before .before .before .before .before .before .before .before .pre) (c .before .before .before .before .match .keys2)
+
+sub-synth-fun : tie.Need-sub-synth-fun
+sub-synth-fun c = search needs
+
+part-synth-fun-start : tie.Need-part-synth-fun-start
+part-synth-fun-start c = search needs
+
+part-synth-fun-end : tie.Need-part-synth-fun-end
+part-synth-fun-end c = search needs
 
 synth-fun-requires : tie.Need-synth-fun-requires
-synth-fun-requires c κs = synthesizing (c .before .before .before .before .before .before .before .before .before .before .before .before .before .pre) (c .before .before .before .before .match .keys3)
+synth-fun-requires c κs = synthesizing (c .before .before .before .before .before .before .before .before .before .before .before .pre) (c .before .before .before .before .match .keys3)
+
+slice-relend-prefix-constrain : tie.Need-slice-relend-prefix-constrain
+slice-relend-prefix-constrain c = search needs
+
+slice-aggregate-constrain : tie.Need-slice-aggregate-constrain
+slice-aggregate-constrain c =
+    let s = c .before .before .before .before .before .before .before .before .before .before .before in
+    omega (arith, length-take formsPlace (s .args .nodes .now), s .pre .commanded .roomy .nodes-room)
 
 constrain-requires : tie.Need-constrain-requires
-constrain-requires c κs = constraining (c .before .before .before .before .before .before .before .before .before .before .before .before .before .pre) (c .before .before .before .before .match .keys4)
+constrain-requires c κs = constraining (c .before .before .before .before .before .before .before .before .before .before .before .pre) (c .before .before .before .before .match .keys4)
 
 passing-requires : tie.Need-passing-requires
 passing-requires c κs = search needs
@@ -78,8 +106,15 @@ test-command-spec =
     tie.close
     (tie.spec
     declare-var-requires
+    slice-relend-prefix-define-fun
+    slice-aggregate-define-fun
     define-fun-requires
+    sub-synth-fun
+    part-synth-fun-start
+    part-synth-fun-end
     synth-fun-requires
+    slice-relend-prefix-constrain
+    slice-aggregate-constrain
     constrain-requires
     passing-requires
     same-length

@@ -17,7 +17,7 @@ returns c =
     (word-read (c .before .before .code-at .ensures) (c .before .if1 .taken))
 
 extra-requires : tie.Need-extra-requires
-extra-requires c κs = extra-list (c .before .before .before .before .code-at .ensures) (c .before .before .before .if1 .left) (c .before .before .before .before .before .before .before .before .before .before .before .before .pre)
+extra-requires c κs = extra-list (c .before .before .before .before .code-at .ensures) (c .before .before .before .if1 .left) (c .before .before .before .before .before .before .before .before .before .before .before .pre)
 
 same-length : tie.Need-same-length
 same-length c = search needs
@@ -26,10 +26,10 @@ returns-2 : tie.Need-returns-2
 returns-2 c = extra-read (c .before .before .before .before .before .before .before .code-at .ensures) (c .before .before .before .before .before .before .if1 .left) (c .before .before .before .before .if2 .taken) (c .before .before .extra .ensures)
 
 add-base : tie.Need-add-base
-add-base c = omega (arith, base-room (c .before .before .before .before .before .before .before .before .before .before .before .before .pre))
+add-base c = omega (arith, base-room (c .before .before .before .before .before .before .before .before .before .before .before .pre))
 
 read-body-requires : tie.Need-read-body-requires
-read-body-requires c κs = body-asked (c .before .before .before .before .before .before .before .code-at .ensures) (c .before .before .before .before .before .before .if1 .left) (c .before .before .before .before .if2 .left) refl (c .before .before .before .before .before .before .before .before .before .before .before .before .before .before .before .pre)
+read-body-requires c κs = body-asked (c .before .before .before .before .before .before .before .code-at .ensures) (c .before .before .before .before .before .before .if1 .left) (c .before .before .before .before .if2 .left) refl (c .before .before .before .before .before .before .before .before .before .before .before .before .before .before .pre)
 
 same-length-2 : tie.Need-same-length-2
 same-length-2 c = search needs

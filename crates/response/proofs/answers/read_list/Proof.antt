@@ -6,21 +6,21 @@ use Rattle.response.proofs.answers.read_list.Statement.{statement}
 use Rattle.response.proofs.answers.read_list.Tie as tie
 
 abbrev Inv-loop : tie.InvT-loop
-Inv-loop text words lexemes names raw₀ places₀ nodes₀ progress nowhere close at₀ function₀ rows₀ raw places nodes at function rows =
-    Going text words lexemes names raw₀ places₀ nodes₀ progress nowhere raw places nodes close at function rows
+Inv-loop text lexemes names raw₀ places₀ nodes₀ progress nowhere close at₀ function₀ rows₀ raw places nodes at function rows =
+    Going text lexemes names raw₀ places₀ nodes₀ progress nowhere raw places nodes close at function rows
 
 abbrev μ-loop : tie.MeasureT-loop
-μ-loop text words lexemes names raw₀ places₀ nodes₀ progress nowhere close at₀ function₀ rows₀ raw places nodes at function rows =
+μ-loop text lexemes names raw₀ places₀ nodes₀ progress nowhere close at₀ function₀ rows₀ raw places nodes at function rows =
     close - at
 
 next-at-requires : tie.Need-next-at-requires Inv-loop μ-loop
 next-at-requires c κs = search needs
 
 sub-close : tie.Need-sub-close Inv-loop μ-loop
-sub-close c = omega (arith, first-ahead (c .next-at .ensures) (c .before .before .before .before .before .before .before .before .pre .1) (c .before .before .before .before .before .before .before .before .pre .0))
+sub-close c = omega (arith, first-ahead (c .next-at .ensures) (c .before .before .before .before .before .before .before .pre .1) (c .before .before .before .before .before .before .before .pre .0))
 
 loop-holds : tie.Need-loop-holds Inv-loop μ-loop
-loop-holds c = going-start (c .next-at .ensures) (c .before .before .before .before .before .before .before .before .pre .1) (c .before .before .before .before .before .before .before .before .pre .0)
+loop-holds c = going-start (c .next-at .ensures) (c .before .before .before .before .before .before .before .pre .1) (c .before .before .before .before .before .before .before .pre .0)
 
 read-item-requires : tie.Need-read-item-requires Inv-loop μ-loop
 read-item-requires c κs = item-asked (c .before .before .before .before .loop .inv) (c .before .before .before .loop-test .taken)

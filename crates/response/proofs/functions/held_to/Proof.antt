@@ -32,7 +32,7 @@ shared-slice-read-result : tie.Need-shared-slice-read-result
 shared-slice-read-result c = search needs
 
 header-differs-requires : tie.Need-header-differs-requires
-header-differs-requires c κs = header-compared refl refl (c .before .before .before .before .before .before .before .before .before .pre)
+header-differs-requires c κs = header-compared refl refl (c .before .before .before .before .before .before .before .before .pre)
 
 verdict-requires : tie.Need-verdict-requires
 verdict-requires c κs = search needs
@@ -44,12 +44,12 @@ returns c =
 
 seen-by-requires : tie.Need-seen-by-requires
 seen-by-requires c κs =
-    let given = c .before .before .before .before .before .before .before .before .before .before .before .pre .asked in
+    let given = c .before .before .before .before .before .before .before .before .before .before .pre .asked in
     (j-low given, given .reading .places-hold .long)
 
 body-names-requires : tie.Need-body-names-requires
 body-names-requires c κs =
-    names-sought refl refl (c .before .before .before .before .header-differs .ensures) (c .before .before .before .if1 .left) (c .before .before .seen-by .ensures) (c .before .before .before .before .before .before .before .before .before .before .before .before .before .before .pre)
+    names-sought refl refl (c .before .before .before .before .header-differs .ensures) (c .before .before .before .if1 .left) (c .before .before .seen-by .ensures) (c .before .before .before .before .before .before .before .before .before .before .before .before .before .pre)
 
 verdict-requires-2 : tie.Need-verdict-requires-2
 verdict-requires-2 c κs = search needs
@@ -82,7 +82,7 @@ body-sort-requires c κs =
     (c .before .before .before .before .before .before .before .before .before .before .seen-by .ensures)
     (c .before .before .before .before .before .before .before .body-names .ensures)
     (c .before .before .if2 .left)
-    (c .before .before .before .before .before .before .before .before .before .before .before .before .before .before .before .before .before .before .before .before .before .before .pre)
+    (c .before .before .before .before .before .before .before .before .before .before .before .before .before .before .before .before .before .before .before .before .before .pre)
 
 verdict-requires-3 : tie.Need-verdict-requires-3
 verdict-requires-3 c κs = search needs

@@ -8,7 +8,7 @@ use Rattle.response.proofs.functions.read_body.Statement.{statement}
 use Rattle.response.proofs.functions.read_body.Tie as tie
 
 outline-requires : tie.Need-outline-requires
-outline-requires c κs = list-in (c .before .before .before .before .before .before .before .before .pre)
+outline-requires c κs = list-in (c .before .before .before .before .before .before .before .pre)
 
 same-length : tie.Need-same-length
 same-length c = search needs
@@ -17,7 +17,7 @@ returns : tie.Need-returns
 returns c = outline-stops (c .before .before .before .before .outline .ensures) (c .if1 .taken)
 
 held-to-requires : tie.Need-held-to-requires
-held-to-requires c κs = to-compare (c .before .before .before .before .before .before .before .outline .ensures) (c .before .before .before .if1 .left) (c .before .before .before .before .before .before .before .before .before .before .before .before .before .before .before .before .pre)
+held-to-requires c κs = to-compare (c .before .before .before .before .before .before .before .outline .ensures) (c .before .before .before .if1 .left) (c .before .before .before .before .before .before .before .before .before .before .before .before .before .before .before .pre)
 
 same-length-2 : tie.Need-same-length-2
 same-length-2 c = search needs
@@ -32,27 +32,27 @@ returns-2 : tie.Need-returns-2
 returns-2 c = matched-stops (c .before .before .before .before .before .before .before .before .before .before .before .before .before .before .outline .ensures) (c .before .before .before .before .before .before .before .before .before .before .if1 .left) (c .before .before .before .before .before .before .held-to .ensures) (c .if2 .taken)
 
 body-word-requires : tie.Need-body-word-requires
-body-word-requires c κs = command-list (c .before .before .before .before .before .before .before .before .before .before .before .before .before .before .before .before .before .before .before .before .before .before .before .pre)
+body-word-requires c κs = command-list (c .before .before .before .before .before .before .before .before .before .before .before .before .before .before .before .before .before .before .before .before .before .before .pre)
 
 add-places : tie.Need-add-places
-add-places c = omega (arith, j-low (c .before .before .before .before .before .before .before .before .before .before .before .before .before .before .before .before .before .before .before .before .before .before .before .before .pre))
+add-places c = omega (arith, j-low (c .before .before .before .before .before .before .before .before .before .before .before .before .before .before .before .before .before .before .before .before .before .before .before .pre))
 
 mul-places : tie.Need-mul-places
-mul-places c = omega (arith, j-low (c .before .before .before .before .before .before .before .before .before .before .before .before .before .before .before .before .before .before .before .before .before .before .before .before .pre), c .before .before .before .before .before .before .before .before .before .before .before .before .before .before .before .before .before .before .before .before .before .before .before .before .pre .reading .places-hold .long)
+mul-places c = omega (arith, j-low (c .before .before .before .before .before .before .before .before .before .before .before .before .before .before .before .before .before .before .before .before .before .before .before .pre), c .before .before .before .before .before .before .before .before .before .before .before .before .before .before .before .before .before .before .before .before .before .before .before .pre .reading .places-hold .long)
 
 slice-write-places : tie.Need-slice-write-places
-slice-write-places c = omega (arith, j-low (c .before .before .before .before .before .before .before .before .before .before .before .before .before .before .before .before .before .before .before .before .before .before .before .before .pre), c .before .before .before .before .before .before .before .before .before .before .before .before .before .before .before .before .before .before .before .before .before .before .before .before .pre .reading .places-hold .long)
+slice-write-places c = omega (arith, j-low (c .before .before .before .before .before .before .before .before .before .before .before .before .before .before .before .before .before .before .before .before .before .before .before .pre), c .before .before .before .before .before .before .before .before .before .before .before .before .before .before .before .before .before .before .before .before .before .before .before .pre .reading .places-hold .long)
 
 add-places-2 : tie.Need-add-places-2
-add-places-2 c = omega (arith, j-low (c .before .before .before .before .before .before .before .before .before .before .before .before .before .before .before .before .before .before .before .before .before .before .before .before .pre))
+add-places-2 c = omega (arith, j-low (c .before .before .before .before .before .before .before .before .before .before .before .before .before .before .before .before .before .before .before .before .before .before .before .pre))
 
 mul-places-2 : tie.Need-mul-places-2
-mul-places-2 c = omega (arith, j-low (c .before .before .before .before .before .before .before .before .before .before .before .before .before .before .before .before .before .before .before .before .before .before .before .before .pre), c .before .before .before .before .before .before .before .before .before .before .before .before .before .before .before .before .before .before .before .before .before .before .before .before .pre .reading .places-hold .long)
+mul-places-2 c = omega (arith, j-low (c .before .before .before .before .before .before .before .before .before .before .before .before .before .before .before .before .before .before .before .before .before .before .before .pre), c .before .before .before .before .before .before .before .before .before .before .before .before .before .before .before .before .before .before .before .before .before .before .before .pre .reading .places-hold .long)
 
 slice-write-places-2 : tie.Need-slice-write-places-2
 slice-write-places-2 c =
-    let given = c .before .before .before .before .before .before .before .before .before .before .before .before .before .before .before .before .before .before .before .before .before .before .before .before .pre in
-    lt-length-set (c .before .before .before .before .before .before .before .before .before .before .before .before .before .before .before .before .before .before .before .before .before .before .before .before .args .places .now) _ _ (omega (arith, j-low given, given .reading .places-hold .long))
+    let given = c .before .before .before .before .before .before .before .before .before .before .before .before .before .before .before .before .before .before .before .before .before .before .before .pre in
+    lt-length-set (c .before .before .before .before .before .before .before .before .before .before .before .before .before .before .before .before .before .before .before .before .before .before .before .args .places .now) _ _ (omega (arith, j-low given, given .reading .places-hold .long))
 
 same-length-5 : tie.Need-same-length-5
 same-length-5 c = search needs

@@ -1,17 +1,11 @@
+use mathlib.Core.Path.{_∙_}
+use native.Mathlib.Omega.{arith}
+use lib.ListN.{length-take}
 use Rattle.texts.proofs.Wording.{found-in, placed, room-of, worded-in}
 use Rattle.texts.proofs.Answers.{commands-told, responding, words-refused}
-use lib.ListN.{length-take}
-use native.Mathlib.Omega.{arith}
-use mathlib.Core.Path.{_∙_}
 use borrow.Author.Needs.{needs}
 use Rattle.texts.proofs.responses.read_response_text.Statement.{statement}
 use Rattle.texts.proofs.responses.read_response_text.Tie as tie
-
-word-rows-requires : tie.Need-word-rows-requires
-word-rows-requires c κs = search needs
-
-word-values-requires : tie.Need-word-values-requires
-word-values-requires c κs = search needs
 
 lexeme-rows-requires : tie.Need-lexeme-rows-requires
 lexeme-rows-requires c κs = search needs
@@ -22,16 +16,8 @@ response-limits-requires c κs = search needs
 slice-aggregate-read-lexemes : tie.Need-slice-aggregate-read-lexemes
 slice-aggregate-read-lexemes c = search needs
 
-slice-aggregate-read-lexemes-2 : tie.Need-slice-aggregate-read-lexemes-2
-slice-aggregate-read-lexemes-2 c = search needs
-
-slice-aggregate-read-lexemes-3 : tie.Need-slice-aggregate-read-lexemes-3
-slice-aggregate-read-lexemes-3 c = search needs
-
 read-lexemes-requires : tie.Need-read-lexemes-requires
-read-lexemes-requires c κs =
-    room-of (c .before .before .before .response-limits .ensures) (c .before .before .before .before .before .before .word-rows .ensures)
-    (c .before .before .before .before .before .word-values .ensures) (c .before .before .before .before .lexeme-rows .ensures)
+read-lexemes-requires c κs = room-of (c .before .response-limits .ensures) (omega arith) (c .before .before .lexeme-rows .ensures)
 
 number-of-requires : tie.Need-number-of-requires
 number-of-requires c κs = search needs
@@ -39,55 +25,48 @@ number-of-requires c κs = search needs
 number-of-requires-2 : tie.Need-number-of-requires-2
 number-of-requires-2 c κs = search needs
 
-cast-t26 : tie.Need-cast-t26
-cast-t26 c = search needs
+cast-t18 : tie.Need-cast-t18
+cast-t18 c = search needs
 
 place-of-requires : tie.Need-place-of-requires
 place-of-requires c κs = search needs
 
 returns : tie.Need-returns
 returns c =
-    let l = c .before .before .before .before .before .before .before in
-    λ q. words-refused q _ (found-in (l .before .before .before .before .response-limits .ensures) (l .read-lexemes .ensures))
+    let l = c .before .before .before .before .before in
+    λ q. words-refused q _ (found-in (l .before .before .response-limits .ensures) (l .read-lexemes .ensures))
     (λ z. c .before .before .if1 .taken (c .before .before .before .number-of .ensures ∙ z)) (c .before .number-of2 .ensures) (c .place-of .ensures)
 
 passed-of-requires : tie.Need-passed-of-requires
 passed-of-requires c κs = search needs
 
-slice-aggregate-read-response : tie.Need-slice-aggregate-read-response
-slice-aggregate-read-response c = search needs
-
 mul-lexemes : tie.Need-mul-lexemes
 mul-lexemes c =
-    let p = c .before in
-    let l = p .before .before .before .before .before .before in
-    let w = worded-in (l .before .before .before .before .response-limits .ensures) (l .read-lexemes .ensures)
-    (p .before .before .number-of .ensures) (p .before .if1 .left) (p .passed-of .ensures) in
+    let p = c in
+    let l = p .before .before .before .before in
+    let w = worded-in (l .before .before .response-limits .ensures) (l .read-lexemes .ensures) (p .before .before .number-of .ensures) (p .before .if1 .left) (p .passed-of .ensures) in
     omega (arith, w .few)
 
 array-share-prefix-lexemes : tie.Need-array-share-prefix-lexemes
 array-share-prefix-lexemes c =
-    let p = c .before in
-    let l = p .before .before .before .before .before .before in
-    let w = worded-in (l .before .before .before .before .response-limits .ensures) (l .read-lexemes .ensures)
-    (p .before .before .number-of .ensures) (p .before .if1 .left) (p .passed-of .ensures) in
-    omega (arith, w .few, l .read-lexemes .kept .1 .1 .1 .1 .0, l .before .before .before .before .before .lexeme-rows .ensures)
+    let p = c in
+    let l = p .before .before .before .before in
+    let w = worded-in (l .before .before .response-limits .ensures) (l .read-lexemes .ensures) (p .before .before .number-of .ensures) (p .before .if1 .left) (p .passed-of .ensures) in
+    omega (arith, w .few, l .read-lexemes .kept .1 .1 .0, l .before .before .before .lexeme-rows .ensures)
 
-slice-aggregate-read-response-2 : tie.Need-slice-aggregate-read-response-2
-slice-aggregate-read-response-2 c =
-    let p = c .before .before in
-    let l = p .before .before .before .before .before .before in
-    let w = worded-in (l .before .before .before .before .response-limits .ensures) (l .read-lexemes .ensures)
-    (p .before .before .number-of .ensures) (p .before .if1 .left) (p .passed-of .ensures) in
-    simp length-take (omega (arith, w .few, l .read-lexemes .kept .1 .1 .1 .1 .0, l .before .before .before .before .before .lexeme-rows .ensures))
+slice-aggregate-read-response : tie.Need-slice-aggregate-read-response
+slice-aggregate-read-response c =
+    let p = c .before in
+    let l = p .before .before .before .before in
+    let w = worded-in (l .before .before .response-limits .ensures) (l .read-lexemes .ensures) (p .before .before .number-of .ensures) (p .before .if1 .left) (p .passed-of .ensures) in
+    simp length-take (omega (arith, w .few, l .read-lexemes .kept .1 .1 .0, l .before .before .before .lexeme-rows .ensures))
 
 read-response-requires : tie.Need-read-response-requires
 read-response-requires c κs =
-    let p = c .before .before .before .before .before in
-    let l = p .before .before .before .before .before .before in
-    let w = worded-in (l .before .before .before .before .response-limits .ensures) (l .read-lexemes .ensures)
-    (p .before .before .number-of .ensures) (p .before .if1 .left) (p .passed-of .ensures) in
-    responding w (l .before .before .before .before .before .before .before .before .before .before .before .before .before .pre)
+    let p = c .before .before .before .before in
+    let l = p .before .before .before .before in
+    let w = worded-in (l .before .before .response-limits .ensures) (l .read-lexemes .ensures) (p .before .before .number-of .ensures) (p .before .if1 .left) (p .passed-of .ensures) in
+    responding w (l .before .before .before .before .before .before .before .before .before .pre)
 
 slice-aggregate-refusal-offset : tie.Need-slice-aggregate-refusal-offset
 slice-aggregate-refusal-offset c = search needs
@@ -95,10 +74,9 @@ slice-aggregate-refusal-offset c = search needs
 refusal-offset-requires : tie.Need-refusal-offset-requires
 refusal-offset-requires c κs =
     let r = c .before .before .before .before .before .before .before in
-    let p = r .before .before .before .before .before .before in
-    let l = p .before .before .before .before .before .before in
-    let w = worded-in (l .before .before .before .before .response-limits .ensures) (l .read-lexemes .ensures)
-    (p .before .before .number-of .ensures) (p .before .if1 .left) (p .passed-of .ensures) in
+    let p = r .before .before .before .before .before in
+    let l = p .before .before .before .before in
+    let w = worded-in (l .before .before .response-limits .ensures) (l .read-lexemes .ensures) (p .before .before .number-of .ensures) (p .before .if1 .left) (p .passed-of .ensures) in
     placed w
 
 same-length : tie.Need-same-length
@@ -113,34 +91,28 @@ same-length-3 c = search needs
 returns-2 : tie.Need-returns-2
 returns-2 c =
     let r = c .before .before .before .before .before .before .before .before in
-    let p = r .before .before .before .before .before .before in
-    let l = p .before .before .before .before .before .before in
-    let w = worded-in (l .before .before .before .before .response-limits .ensures) (l .read-lexemes .ensures)
-    (p .before .before .number-of .ensures) (p .before .if1 .left) (p .passed-of .ensures) in
+    let p = r .before .before .before .before .before in
+    let l = p .before .before .before .before in
+    let w = worded-in (l .before .before .response-limits .ensures) (l .read-lexemes .ensures) (p .before .before .number-of .ensures) (p .before .if1 .left) (p .passed-of .ensures) in
     λ q. commands-told w q (r .read-response .ensures (responding w q)) (c .refusal-offset .ensures)
 
 pub read-response-text-spec : {M : Type 1} → statement M
 read-response-text-spec =
     tie.close
     (tie.spec
-    word-rows-requires
-    word-values-requires
     lexeme-rows-requires
     response-limits-requires
     slice-aggregate-read-lexemes
-    slice-aggregate-read-lexemes-2
-    slice-aggregate-read-lexemes-3
     read-lexemes-requires
     number-of-requires
     number-of-requires-2
-    cast-t26
+    cast-t18
     place-of-requires
     returns
     passed-of-requires
-    slice-aggregate-read-response
     mul-lexemes
     array-share-prefix-lexemes
-    slice-aggregate-read-response-2
+    slice-aggregate-read-response
     read-response-requires
     slice-aggregate-refusal-offset
     refusal-offset-requires

@@ -1,13 +1,8 @@
+use native.Mathlib.Omega.{arith}
 use Rattle.texts.proofs.Wording.{placed-whole, room-of}
 use borrow.Author.Needs.{needs}
 use Rattle.texts.proofs.responses.word_offset.Statement.{statement}
 use Rattle.texts.proofs.responses.word_offset.Tie as tie
-
-word-rows-requires : tie.Need-word-rows-requires
-word-rows-requires c κs = search needs
-
-word-values-requires : tie.Need-word-values-requires
-word-values-requires c κs = search needs
 
 lexeme-rows-requires : tie.Need-lexeme-rows-requires
 lexeme-rows-requires c κs = search needs
@@ -18,16 +13,8 @@ response-limits-requires c κs = search needs
 slice-aggregate-read-lexemes : tie.Need-slice-aggregate-read-lexemes
 slice-aggregate-read-lexemes c = search needs
 
-slice-aggregate-read-lexemes-2 : tie.Need-slice-aggregate-read-lexemes-2
-slice-aggregate-read-lexemes-2 c = search needs
-
-slice-aggregate-read-lexemes-3 : tie.Need-slice-aggregate-read-lexemes-3
-slice-aggregate-read-lexemes-3 c = search needs
-
 read-lexemes-requires : tie.Need-read-lexemes-requires
-read-lexemes-requires c κs =
-    room-of (c .before .before .before .response-limits .ensures) (c .before .before .before .before .before .before .word-rows .ensures)
-    (c .before .before .before .before .before .word-values .ensures) (c .before .before .before .before .lexeme-rows .ensures)
+read-lexemes-requires c κs = room-of (c .before .response-limits .ensures) (omega arith) (c .before .before .lexeme-rows .ensures)
 
 slice-aggregate-offset-of : tie.Need-slice-aggregate-offset-of
 slice-aggregate-offset-of c = search needs
@@ -37,8 +24,8 @@ passed-of-requires c κs = search needs
 
 offset-of-requires : tie.Need-offset-of-requires
 offset-of-requires c κs =
-    let l = c .before .before .before .before .before in
-    placed-whole (l .before .before .before .before .response-limits .ensures) (l .read-lexemes .ensures) (l .before .before .before .before .before .before .before .before .before .pre) (c .passed-of .ensures)
+    let l = c .before .before .before in
+    placed-whole (l .before .before .response-limits .ensures) (l .read-lexemes .ensures) (l .before .before .before .before .before .pre) (c .passed-of .ensures)
 
 returns : tie.Need-returns
 returns c = search needs
@@ -47,13 +34,9 @@ pub word-offset-spec : {M : Type 1} → statement M
 word-offset-spec =
     tie.close
     (tie.spec
-    word-rows-requires
-    word-values-requires
     lexeme-rows-requires
     response-limits-requires
     slice-aggregate-read-lexemes
-    slice-aggregate-read-lexemes-2
-    slice-aggregate-read-lexemes-3
     read-lexemes-requires
     slice-aggregate-offset-of
     passed-of-requires

@@ -1,17 +1,11 @@
 use mathlib.Core.Path.{_∙_}
+use native.Mathlib.Omega.{arith}
+use lib.ListN.{length-take}
 use Rattle.texts.proofs.Wording.{found-in, placed, room-of, worded-in}
 use Rattle.texts.proofs.Commands.{commands-told, script-at, words-refused}
-use lib.ListN.{length-take}
-use native.Mathlib.Omega.{arith}
 use borrow.Author.Needs.{needs}
 use Rattle.texts.proofs.scripts.read_script_text.Statement.{statement}
 use Rattle.texts.proofs.scripts.read_script_text.Tie as tie
-
-word-rows-requires : tie.Need-word-rows-requires
-word-rows-requires c κs = search needs
-
-word-values-requires : tie.Need-word-values-requires
-word-values-requires c κs = search needs
 
 lexeme-rows-requires : tie.Need-lexeme-rows-requires
 lexeme-rows-requires c κs = search needs
@@ -22,16 +16,8 @@ script-limits-requires c κs = search needs
 slice-aggregate-read-lexemes : tie.Need-slice-aggregate-read-lexemes
 slice-aggregate-read-lexemes c = search needs
 
-slice-aggregate-read-lexemes-2 : tie.Need-slice-aggregate-read-lexemes-2
-slice-aggregate-read-lexemes-2 c = search needs
-
-slice-aggregate-read-lexemes-3 : tie.Need-slice-aggregate-read-lexemes-3
-slice-aggregate-read-lexemes-3 c = search needs
-
 read-lexemes-requires : tie.Need-read-lexemes-requires
-read-lexemes-requires c κs =
-    room-of (c .before .before .before .script-limits .ensures) (c .before .before .before .before .before .before .word-rows .ensures)
-    (c .before .before .before .before .before .word-values .ensures) (c .before .before .before .before .lexeme-rows .ensures)
+read-lexemes-requires c κs = room-of (c .before .script-limits .ensures) (omega arith) (c .before .before .lexeme-rows .ensures)
 
 number-of-requires : tie.Need-number-of-requires
 number-of-requires c κs = search needs
@@ -50,68 +36,50 @@ refused-word-requires c κs = search needs
 
 returns : tie.Need-returns
 returns c =
-    let l = c .before .before .before .before .before .before .before .before in
-    words-refused _ (found-in (l .before .before .before .before .script-limits .ensures) (l .read-lexemes .ensures))
-    (λ z. c .before .before .before .if1 .taken (c .before .before .before .before .number-of .ensures ∙ z))
+    let l = c .before .before .before .before .before .before in
+    words-refused _ (found-in (l .before .before .script-limits .ensures) (l .read-lexemes .ensures)) (λ z. c .before .before .before .if1 .taken (c .before .before .before .before .number-of .ensures ∙ z))
     (c .refused-word .ensures .0 ∙ c .before .before .number-of2 .ensures, c .refused-word .ensures .1 ∙ c .before .place-of .ensures)
 
 passed-of-requires : tie.Need-passed-of-requires
 passed-of-requires c κs = search needs
 
-slice-aggregate-read-script : tie.Need-slice-aggregate-read-script
-slice-aggregate-read-script c = search needs
-
 mul-lexemes : tie.Need-mul-lexemes
 mul-lexemes c =
-    let p = c .before in
-    let l = p .before .before .before .before .before .before in
-    let w = worded-in (l .before .before .before .before .script-limits .ensures) (l .read-lexemes .ensures)
-    (p .before .before .number-of .ensures) (p .before .if1 .left) (p .passed-of .ensures) in
+    let p = c in
+    let l = p .before .before .before .before in
+    let w = worded-in (l .before .before .script-limits .ensures) (l .read-lexemes .ensures) (p .before .before .number-of .ensures) (p .before .if1 .left) (p .passed-of .ensures) in
     omega (arith, w .few)
 
 array-share-prefix-lexemes : tie.Need-array-share-prefix-lexemes
 array-share-prefix-lexemes c =
+    let p = c in
+    let l = p .before .before .before .before in
+    let w = worded-in (l .before .before .script-limits .ensures) (l .read-lexemes .ensures) (p .before .before .number-of .ensures) (p .before .if1 .left) (p .passed-of .ensures) in
+    omega (arith, w .few, l .read-lexemes .kept .1 .1 .0, l .before .before .before .lexeme-rows .ensures)
+
+slice-aggregate-read-script : tie.Need-slice-aggregate-read-script
+slice-aggregate-read-script c =
     let p = c .before in
-    let l = p .before .before .before .before .before .before in
-    let w = worded-in (l .before .before .before .before .script-limits .ensures) (l .read-lexemes .ensures)
-    (p .before .before .number-of .ensures) (p .before .if1 .left) (p .passed-of .ensures) in
-    omega (arith, w .few, l .read-lexemes .kept .1 .1 .1 .1 .0, l .before .before .before .before .before .lexeme-rows .ensures)
-
-slice-aggregate-read-script-2 : tie.Need-slice-aggregate-read-script-2
-slice-aggregate-read-script-2 c =
-    let p = c .before .before in
-    let l = p .before .before .before .before .before .before in
-    let w = worded-in (l .before .before .before .before .script-limits .ensures) (l .read-lexemes .ensures)
-    (p .before .before .number-of .ensures) (p .before .if1 .left) (p .passed-of .ensures) in
-    simp length-take (omega (arith, w .few, l .read-lexemes .kept .1 .1 .1 .1 .0, l .before .before .before .before .before .lexeme-rows .ensures))
-
-slice-relend-prefix-read-script : tie.Need-slice-relend-prefix-read-script
-slice-relend-prefix-read-script c = search needs
-
-slice-aggregate-read-script-3 : tie.Need-slice-aggregate-read-script-3
-slice-aggregate-read-script-3 c =
-    let l = c .before .before .before .before .before .before .before .before .before .before .before .before in
-    let s = l .before .before .before .before .before .before .before .before .before .before .before .before .before .before in
-    omega (arith, length-take 16384 (s .args .nodes .now), s .pre .nodes-room)
+    let l = p .before .before .before .before in
+    let w = worded-in (l .before .before .script-limits .ensures) (l .read-lexemes .ensures) (p .before .before .number-of .ensures) (p .before .if1 .left) (p .passed-of .ensures) in
+    simp length-take (omega (arith, w .few, l .read-lexemes .kept .1 .1 .0, l .before .before .before .lexeme-rows .ensures))
 
 read-script-requires : tie.Need-read-script-requires
 read-script-requires c κs =
-    let p = c .before .before .before .before .before .before .before in
-    let l = p .before .before .before .before .before .before in
-    let w = worded-in (l .before .before .before .before .script-limits .ensures) (l .read-lexemes .ensures)
-    (p .before .before .number-of .ensures) (p .before .if1 .left) (p .passed-of .ensures) in
-    script-at w (l .before .before .before .before .before .before .before .before .before .before .before .before .before .before .pre)
+    let p = c .before .before .before .before .before in
+    let l = p .before .before .before .before in
+    let w = worded-in (l .before .before .script-limits .ensures) (l .read-lexemes .ensures) (p .before .before .number-of .ensures) (p .before .if1 .left) (p .passed-of .ensures) in
+    script-at w (l .before .before .before .before .before .before .before .before .before .pre)
 
 slice-aggregate-offset-of : tie.Need-slice-aggregate-offset-of
 slice-aggregate-offset-of c = search needs
 
 offset-of-requires : tie.Need-offset-of-requires
 offset-of-requires c κs =
-    let r = c .before .before .before .before .before .before .before .before .before .before .before .before in
-    let p = r .before .before .before .before .before .before .before .before in
-    let l = p .before .before .before .before .before .before in
-    let w = worded-in (l .before .before .before .before .script-limits .ensures) (l .read-lexemes .ensures)
-    (p .before .before .number-of .ensures) (p .before .if1 .left) (p .passed-of .ensures) in
+    let r = c .before .before .before .before .before .before .before .before .before .before in
+    let p = r .before .before .before .before .before .before in
+    let l = p .before .before .before .before in
+    let w = worded-in (l .before .before .script-limits .ensures) (l .read-lexemes .ensures) (p .before .before .number-of .ensures) (p .before .if1 .left) (p .passed-of .ensures) in
     placed w
 
 same-length : tie.Need-same-length
@@ -126,34 +94,22 @@ same-length-3 c = search needs
 same-length-4 : tie.Need-same-length-4
 same-length-4 c = search needs
 
-same-length-5 : tie.Need-same-length-5
-same-length-5 c = search needs
-
 returns-2 : tie.Need-returns-2
 returns-2 c =
-    let r = c .before .before .before .before .before .before .before .before .before .before .before .before .before in
-    let p = r .before .before .before .before .before .before .before .before in
-    let l = p .before .before .before .before .before .before in
-    let w = worded-in (l .before .before .before .before .script-limits .ensures) (l .read-lexemes .ensures)
-    (p .before .before .number-of .ensures) (p .before .if1 .left) (p .passed-of .ensures) in
-    let s = l .before .before .before .before .before .before .before .before .before .before .before .before .before .before in
-    let kept = r .read-script .kept .1 .1 .1 .1 .1 .1 .0 in
-    let last = r .read-script .last .1 .1 .1 in
-    commands-told w (last .0) (last .1 .1 .0) (last .1 .1 .1 .0) (last .1 .1 .1 .1 .0) _ (r .read-script .result)
-    (omega (arith, kept, length-take 16384 (s .args .nodes .now), s .pre .nodes-room))
-    (r .read-script .ensures (script-at w (s .pre))) (c .offset-of .ensures)
+    let r = c .before .before .before .before .before .before .before .before .before .before .before in
+    let p = r .before .before .before .before .before .before in
+    let l = p .before .before .before .before in
+    let w = worded-in (l .before .before .script-limits .ensures) (l .read-lexemes .ensures) (p .before .before .number-of .ensures) (p .before .if1 .left) (p .passed-of .ensures) in
+    let lent = l .before .before .before .before .before .before .before .before .before .pre in
+    commands-told w lent (r .read-script .ensures (script-at w lent)) (c .offset-of .ensures)
 
 pub read-script-text-spec : {M : Type 1} → statement M
 read-script-text-spec =
     tie.close
     (tie.spec
-    word-rows-requires
-    word-values-requires
     lexeme-rows-requires
     script-limits-requires
     slice-aggregate-read-lexemes
-    slice-aggregate-read-lexemes-2
-    slice-aggregate-read-lexemes-3
     read-lexemes-requires
     number-of-requires
     number-of-requires-2
@@ -162,12 +118,9 @@ read-script-text-spec =
     refused-word-requires
     returns
     passed-of-requires
-    slice-aggregate-read-script
     mul-lexemes
     array-share-prefix-lexemes
-    slice-aggregate-read-script-2
-    slice-relend-prefix-read-script
-    slice-aggregate-read-script-3
+    slice-aggregate-read-script
     read-script-requires
     slice-aggregate-offset-of
     offset-of-requires
@@ -175,5 +128,4 @@ read-script-text-spec =
     same-length-2
     same-length-3
     same-length-4
-    same-length-5
     returns-2)

@@ -6,16 +6,16 @@ use Rattle.variables.proofs.command.add_variable.Statement.{statement}
 use Rattle.variables.proofs.command.add_variable.Tie as tie
 
 add-sort-of : tie.Need-add-sort-of
-add-sort-of c = omega (arith, sort-room (c .before .before .before .before .pre .here))
+add-sort-of c = omega (arith, sort-room (c .before .before .before .pre .here))
 
 sort-of-requires : tie.Need-sort-of-requires
 sort-of-requires c κs = search sort-here
 
 cast-sort : tie.Need-cast-sort
-cast-sort c = record { fits = omega (arith, sort-small (c .before .before .before .before .before .pre) (c .sort-of .ensures)) }
+cast-sort c = record { fits = omega (arith, sort-small (c .before .before .before .before .pre) (c .sort-of .ensures)) }
 
 add-bytes-at : tie.Need-add-bytes-at
-add-bytes-at c = omega (arith, sort-room (c .before .before .before .before .before .before .pre .here))
+add-bytes-at c = omega (arith, sort-room (c .before .before .before .before .before .pre .here))
 
 bytes-at-requires : tie.Need-bytes-at-requires
 bytes-at-requires c κs = search needs

@@ -6,7 +6,7 @@ use Rattle.variables.proofs.command.declare_var.Statement.{statement}
 use Rattle.variables.proofs.command.declare_var.Tie as tie
 
 limit-place-requires : tie.Need-limit-place-requires
-limit-place-requires c κs = sort-here (variable-here (c .before .before .before .before .pre .of))
+limit-place-requires c κs = sort-here (variable-here (c .before .before .before .pre .of))
 
 returns : tie.Need-returns
 returns c = search past-limit
@@ -21,10 +21,10 @@ returns-2 : tie.Need-returns-2
 returns-2 c = search name-faulty
 
 add-sort-place : tie.Need-add-sort-place
-add-sort-place c = omega (arith, sort-room (variable-here (c .before .before .before .before .before .before .before .before .before .pre .of)))
+add-sort-place c = omega (arith, sort-room (variable-here (c .before .before .before .before .before .before .before .before .pre .of)))
 
 sort-place-requires : tie.Need-sort-place-requires
-sort-place-requires c κs = sort-here (variable-here (c .before .before .before .before .before .before .before .before .before .pre .of))
+sort-place-requires c κs = sort-here (variable-here (c .before .before .before .before .before .before .before .before .pre .of))
 
 same-length-2 : tie.Need-same-length-2
 same-length-2 c = search needs

@@ -6,16 +6,16 @@ use Rattle.variables.proofs.command.name_place.Statement.{statement}
 use Rattle.variables.proofs.command.name_place.Tie as tie
 
 add-new-name : tie.Need-add-new-name
-add-new-name c = omega (arith, sort-room (variable-here (c .before .before .before .before .pre .of)))
+add-new-name c = omega (arith, sort-room (variable-here (c .before .before .before .pre .of)))
 
 new-name-requires : tie.Need-new-name-requires
 new-name-requires c κs = search name-new
 
 add-sort-place : tie.Need-add-sort-place
-add-sort-place c = omega (arith, sort-room (variable-here (c .before .before .before .before .before .pre .of)))
+add-sort-place c = omega (arith, sort-room (variable-here (c .before .before .before .before .pre .of)))
 
 sort-place-requires : tie.Need-sort-place-requires
-sort-place-requires c κs = sort-here (variable-here (c .before .before .before .before .before .pre .of))
+sort-place-requires c κs = sort-here (variable-here (c .before .before .before .before .pre .of))
 
 least-requires : tie.Need-least-requires
 least-requires c κs = search needs

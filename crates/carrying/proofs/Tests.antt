@@ -1,0 +1,74 @@
+-- The tests of a list by the codes of its words.
+use Prim.Native.Nat.{ℕ, _+_, _≤_}
+use native.Mathlib.Omega.{arith}
+use mathlib.Core.Path.{_≡_, refl, sym, ap, _∙_}
+use mathlib.Core.Bool.{Bool, true, false, _&&_, _||_, not}
+use mathlib.Core.List.{List, [], _∷_}
+use lib.Dec.{eqb}
+use borrow.Author.Tests.{eqb-true, ne-eqb}
+use Rattle.forest.specs.Forest.{count}
+use Rattle.lexemes.specs.Lists.{after, is}
+use Rattle.lexemes.specs.Table.{codeAt}
+use Rattle.lexemes.specs.Standing.{ListAt}
+use Rattle.lexemes.proofs.ByCode.{codeFor, front-word, front-words, frontCode}
+use Rattle.lexemes.proofs.Standing.{front}
+use Rattle.lexemes.proofs.Listed.{first-code, held}
+use Rattle.lexemes.proofs.Spelt.{behind-word}
+use Rattle.shapes.specs.Shapes.{setLogicShape}
+use Rattle.carrying.specs.Carried.{noGrammar, otherLogic, uncarriedStart}
+
+module _ {lexemes : List ℕ} {at : ℕ} where
+  -- the second word of a list whose first is no bracket
+  second-code : (x : ListAt lexemes at) → 3 ≤ frontCode (x .operands) → codeAt lexemes (at + 2) ≡ frontCode (after 1 (x .operands))
+  second-code x h =
+      let l = held x in
+      let e : at + 1 + 1 ≡ at + 2 = omega arith in
+      rw (← e) (front (x .same) (behind-word (x .same) (x .operands) (l .stands) h) (l .closes))
+
+  module _ {first : ℕ} (ef : first ≡ codeAt lexemes (at + 1)) {second : ℕ} (es : second ≡ codeAt lexemes (at + 2)) where
+    pub start-test : (x : ListAt lexemes at)
+        → eqb first 42 || eqb first 43 || eqb first 44 || eqb first 41 || eqb first 40 && not (eqb second 39 || eqb second 69) ≡ uncarriedStart (x .operands)
+    unfolding after codeFor
+    start-test x =
+        rw (
+          ef,
+          first-code x,
+          front-words ("let" ∷ "exists" ∷ "forall" ∷ "!" ∷ []) refl 0 (x .operands),
+          front-word "_" refl 0 (x .operands),
+          front-words ("BitVec" ∷ "extract" ∷ []) refl 1 (x .operands),
+        )
+        (ap (λ (t : Bool). eqb f 42 || eqb f 43 || eqb f 44 || eqb f 41 || t) (go (eqb f 40) refl))
+      where
+        f : ℕ
+        f = frontCode (x .operands)
+
+        s : ℕ
+        s = frontCode (after 1 (x .operands))
+
+        go : (b : Bool) → eqb f 40 ≡ b → b && not (eqb second 39 || eqb second 69) ≡ b && not (eqb s 39 || eqb s 69)
+        go true e = rw (es, second-code x (omega (arith, eqb-true f 40 e)))
+        go false e = refl
+
+    -- `set-logic` with another logic
+    pub logic-test : first ≡ 8 → {r : Bool} → ((x : ListAt lexemes at) → r ≡ setLogicShape (x .operands))
+        → (x : ListAt lexemes at) → r && not (eqb second 5) ≡ otherLogic (x .operands)
+    unfolding after codeFor
+    logic-test e8 known x =
+        let f : frontCode (x .operands) ≡ 8 = sym (first-code x) ∙ sym ef ∙ e8 in
+        rw (known x, es, second-code x (omega arith), front-word "set-logic" refl 0 (x .operands), front-word "BV" refl 1 (x .operands), f)
+
+  module _ {first : ℕ} (ef : first ≡ codeAt lexemes (at + 1)) where
+    pub no-logic-test : (first ≡ 8 → ⊥) → (x : ListAt lexemes at) → false ≡ otherLogic (x .operands)
+    unfolding after codeFor
+    no-logic-test other x =
+        rw (front-word "set-logic" refl 0 (x .operands), ← first-code x, ← ef, ne-eqb first 8 other)
+
+    pub no-grammar-test : (first ≡ 11 → ⊥) → (x : ListAt lexemes at) → false ≡ noGrammar (x .operands)
+    unfolding after codeFor
+    no-grammar-test other x =
+        rw (front-word "synth-fun" refl 0 (x .operands), ← first-code x, ← ef, ne-eqb first 11 other)
+
+    pub grammar-test : {n : ℕ} → ((x : ListAt lexemes at) → n ≡ count (x .operands))
+        → (x : ListAt lexemes at) → eqb first 11 && eqb n 4 ≡ noGrammar (x .operands)
+    unfolding after codeFor
+    grammar-test counted x = rw (front-word "synth-fun" refl 0 (x .operands), ← first-code x, ← ef, counted x)

@@ -1,0 +1,4 @@
+pub mod Blanking
+pub mod Bodies
+pub mod Judged
+pub mod Passing

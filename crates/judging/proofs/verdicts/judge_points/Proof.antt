@@ -1,0 +1,43 @@
+use native.Mathlib.Omega.{arith}
+use mathlib.Core.Path.{refl}
+use lib.ListN.{length-take}
+use Rattle.script.specs.Tables.{formsPlace}
+use borrow.Author.Needs.{needs}
+use Rattle.judging.proofs.verdicts.judge_points.Statement.{statement}
+use Rattle.judging.proofs.verdicts.judge_points.Tie as tie
+
+slice-aggregate-evaluate : tie.Need-slice-aggregate-evaluate
+slice-aggregate-evaluate c =
+    let start = c .before .before .before .before .before .before in
+    omega (arith, start .pre .1, length-take formsPlace (start .args .nodes .now))
+
+evaluate-requires : tie.Need-evaluate-requires
+evaluate-requires c κs = search needs
+
+blank-area-requires : tie.Need-blank-area-requires
+blank-area-requires c κs = search needs
+
+same-length : tie.Need-same-length
+same-length c = search needs
+
+returns : tie.Need-returns
+returns c =
+    record {
+      given = c .before .before .before .before .before .before .evaluate .ensures;
+      bad! = λ n. c .before .before .blank-area .ensures;
+      other! = λ other. absurd (other (omega arith));
+    }
+
+returns-2 : tie.Need-returns-2
+returns-2 c = record { given = c .before .before .evaluate .ensures; bad! = λ n. absurd (omega arith); other! = λ other. refl }
+
+pub judge-points-spec : {M : Type 1} → statement M
+judge-points-spec =
+    tie.close
+    (tie.spec
+    slice-aggregate-evaluate
+    evaluate-requires
+    blank-area-requires
+    same-length
+    returns
+    returns-2)

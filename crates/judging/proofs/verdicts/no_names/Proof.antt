@@ -1,0 +1,9 @@
+use Rattle.judging.proofs.Passing.{blank-names}
+use Rattle.judging.proofs.verdicts.no_names.Statement.{statement}
+use Rattle.judging.proofs.verdicts.no_names.Tie as tie
+
+returns : tie.Need-returns
+returns c = blank-names
+
+pub no-names-spec : {M : Type 1} → statement M
+no-names-spec = tie.close (tie.spec returns)

@@ -1,0 +1,55 @@
+-- What judging two texts asks and gives.
+use Prim.Native.Nat.{ℕ, _≤_}
+use mathlib.Core.List.{List}
+use mathlib.Core.Option.{none as nothing}
+use mathlib.Core.Path.{_≡_}
+use lib.ListN.{drop, length, take}
+use Rattle.script.specs.Tables.{formsPlace}
+use Rattle.script.specs.declared.Progress.{Progress}
+use Rattle.response.specs.Response.{Body, inScriptOrder}
+use Rattle.texts.specs.Outcome.{offsetOf}
+use Rattle.texts.specs.Steps.{ReadWhole}
+use Rattle.outcome.specs.Checked.{sizeAnswer, unshown}
+use Rattle.outcome.specs.Derived.{FirstUnderived, blankArea}
+use Rattle.outcome.specs.declared.Outcome.{Outcome}
+use Rattle.derivations.specs.Steps.{AllShown, Derivable}
+use Rattle.evaluation.specs.Steps.{Evaluates}
+
+-- Every size is right, and the area shows nothing.
+pub record Judging (script response points area : List ℕ) : Type 0 where
+  pub sized : sizeAnswer script response points area ≡ nothing
+  pub blank : area ≡ blankArea
+
+-- The tables hold a script and a response that pass, in one table of nodes the terms in front of the forms; the area shows nothing; and the response's words
+-- are read whole, so that the place of each can be told.
+pub record Deriving (response places nodes : List ℕ) (p : Progress) (area : List ℕ) : Type 0 where
+  pub tables : Derivable places (take formsPlace nodes) (drop formsPlace nodes) p area
+  pub room : formsPlace ≤ length nodes
+  pub whole : ReadWhole response
+
+-- 13: function j is the first whose grammar derives its body by no list of rules; the answer names the function and the place of the body's first word, and the
+-- area shows nothing.
+pub record BodyUnderived {response places nodes area : List ℕ} {p : Progress} (q : Deriving response places nodes p area) (r : Outcome)
+    (areaAfter : List ℕ) : Type 0 where
+  pub j : ℕ
+  pub body : Body
+  pub first : FirstUnderived (inScriptOrder (q .tables .known .functions)) (q .tables .bodies) j body
+  pub answer : r ≡ record { number = 13; text = 1; place = offsetOf response (body .first); second = j; units = 0 }
+  pub blanked : areaAfter ≡ blankArea
+
+-- Where the number is 0 every body is derived, and the area shows how; where it is another it is 13.
+pub record Sought {response places nodes area : List ℕ} {p : Progress} (q : Deriving response places nodes p area) (r : Outcome)
+    (areaAfter : List ℕ) : Type 0 where
+  pub all! : r .number ≡ 0 → AllShown (q .tables) areaAfter
+  pub one! : (r .number ≡ 0 → ⊥) → BodyUnderived q r areaAfter
+
+-- The answer on the bodies that the tables hold.
+abbrev pub BodiesDerived : (response places nodes : List ℕ) → Progress → (area : List ℕ) → Outcome → (areaAfter : List ℕ) → Type 0
+BodiesDerived response places nodes p area r areaAfter = (q : Deriving response places nodes p area) → Sought q r areaAfter
+
+-- The answer is what the points give with these terms; where it is 16 the area shows nothing afterwards, and after any other it is as it was.
+pub record PointsJudged (names places terms : List ℕ) (p : Progress) (points : List ℕ) (budget : ℕ) (area : List ℕ) (r : Outcome)
+    (areaAfter : List ℕ) : Type 0 where
+  pub given : Evaluates names places terms p points budget r
+  pub bad! : r .number ≡ 16 → areaAfter ≡ unshown area
+  pub other! : (r .number ≡ 16 → ⊥) → areaAfter ≡ area

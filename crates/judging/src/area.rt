@@ -1,0 +1,23 @@
+//! The lent area.
+ghost use mathlib.Core.Path.{_≡_};
+ghost use Rattle.outcome.specs.Checked.{unshown};
+
+// How many entries the area has.
+pub const AREA: usize = 32768;
+
+// An entry that no list uses.
+const UNUSED: u16 = 65535;
+
+// Makes every entry of an area unused; one of wrong size is left as it is.
+pub fn blank_area(shown: &mut [u16])
+    ensures { λ r. ⌜ now (shown .exit) ≡ unshown (now (shown .entry)) ⌝ }
+{
+    if shown.len() != AREA {
+        return;
+    }
+    let mut i = 0;
+    while i < shown.len() {
+        shown[i] = UNUSED;
+        i += 1;
+    }
+}

@@ -1,0 +1,90 @@
+-- Points as a list of numbers: the loop that looks for a number outside its sort, and the tests on the list's length.
+use Prim.Native.Nat.{ℕ, zero, suc, _+_, _-_, _%_, _^_, _≤_, _<_}
+use native.Mathlib.Omega.{arith}
+use mathlib.Core.Path.{_≡_, refl, sym, ap, _∙_}
+use mathlib.Core.Bool.{Bool, true, false, not}
+use mathlib.Core.List.{List, []}
+use lib.Dec.{eqb, leb, ltb}
+use lib.ListN.{drop, getD, length}
+use lib.Seq.{drop-length}
+use borrow.Author.Tests.{eqb-true, le-leb, le-ltb, lt-leb, lt-ltb, ltb-false, ltb-true, not-false, not-true}
+use Rattle.forest.proofs.Lists.{drop-next}
+use Rattle.bits.proofs.Below.{mod-below}
+use Rattle.bits.specs.Sorts.{valuesOf}
+use Rattle.running.specs.Points.{cutShort, firstOutside, pointCount, pointsOf}
+use Rattle.running.specs.Steps.{SortsSmall, VariableSorts}
+use Rattle.running.specs.declared.PointList.the-variants.{Bad, Good}
+
+-- A number is below b where it is at most b - 1.
+below-is-most : (a b : ℕ) → 0 < b → leb a (b - 1) ≡ ltb a b
+below-is-most a b h = go (ltb a b) refl
+  where
+    go : (t : Bool) → ltb a b ≡ t → leb a (b - 1) ≡ ltb a b
+    go true e = let l = ltb-true a b e in le-leb a (b - 1) (omega arith) ∙ sym e
+    go false e = let l = ltb-false a b e in lt-leb a (b - 1) (omega arith) ∙ sym e
+
+-- A Bool is below 2.
+pub bool-test : {s : ℕ} (x : ℕ) → s ≡ 0 → ltb x 2 ≡ ltb x (valuesOf s)
+bool-test x e = rw e
+
+-- A vector is at most all ones.
+pub vector-test : {s m : ℕ} (x : ℕ) → (s ≡ 0 → ⊥) → m ≡ 2 ^ s - 1 → leb x m ≡ ltb x (valuesOf s)
+vector-test {s} x h e =
+    let p = mod-below s 0 in
+    rw (e, lt-ltb 0 s (omega arith)) (below-is-most x (2 ^ s) (omega arith))
+
+-- No number before i is outside its sort.
+pub record NoneBefore (sorts numbers : List ℕ) (i : ℕ) : Type 0 where
+  pub inside : i ≤ length numbers
+  pub so-far : firstOutside sorts (drop i numbers) i ≡ firstOutside sorts numbers 0
+
+-- So it is at the start.
+pub none-before : (sorts numbers : List ℕ) → NoneBefore sorts numbers 0
+none-before sorts numbers = record { inside = omega arith; so-far = refl }
+
+module _ {sorts numbers : List ℕ} {i : ℕ} (before : NoneBefore sorts numbers i) where
+  -- Where no number is left, none is outside its sort.
+  pub none-outside : length numbers ≤ i → i ≡ firstOutside sorts numbers 0
+  unfolding firstOutside
+  none-outside h =
+      let e : i ≡ length numbers = omega arith in
+      let n : drop i numbers ≡ [] = ap (λ (k : ℕ). drop k numbers) e ∙ drop-length numbers in
+      ap (λ (l : List ℕ). firstOutside sorts l i) (sym n) ∙ before .so-far
+
+  module _ {fits : Bool} (left : i < length numbers) (tested : fits ≡ ltb (getD numbers i 0) (valuesOf (getD sorts (i % length sorts) 0))) where
+    -- A number that does not fit its sort is the first outside.
+    pub outside-here : not fits ≡ true → i ≡ firstOutside sorts numbers 0
+    unfolding firstOutside
+    outside-here h = rw (drop-next numbers i left, ← tested, not-true fits h) at (before .so-far)
+
+    -- Past one that fits the search goes on.
+    pub outside-later : not fits ≡ false → NoneBefore sorts numbers (i + 1)
+    unfolding firstOutside
+    outside-later h = record { inside = omega arith; so-far = rw (drop-next numbers i left, ← tested, not-false fits h) at (before .so-far) }
+
+-- A list that is whole points has no numbers where there are no variables.
+no-numbers : (n size : ℕ) → cutShort n size ≡ false → 0 < size → 0 < n
+no-numbers zero size h p = absurd (omega (arith, eqb-true size 0 (not-false (eqb size 0) h)))
+no-numbers (suc n) size h p = omega arith
+
+module _ (sorts numbers : List ℕ) {cut : Bool} (tested : cut ≡ cutShort (length sorts) (length numbers)) where
+  -- A list that is no whole points is bad at its length.
+  pub bad-length : cut ≡ true → Bad (length numbers) ≡ pointsOf sorts numbers
+  unfolding pointsOf
+  bad-length h = rw (sym tested ∙ h)
+
+  module _ (whole : cut ≡ false) where
+    -- In whole points each number has a variable.
+    pub variable-sorts : SortsSmall sorts → VariableSorts sorts numbers
+    variable-sorts e = record { small = e .small; some-variable = no-numbers (length sorts) (length numbers) (sym tested ∙ whole) }
+
+    -- A number outside its sort makes the list bad there.
+    pub bad-number : {i : ℕ} → i ≡ firstOutside sorts numbers 0 → i < length numbers → Bad i ≡ pointsOf sorts numbers
+    unfolding pointsOf
+    bad-number {i} e h = rw (sym tested ∙ whole, ← e, lt-ltb i (length numbers) h)
+
+    -- Any other list is good.
+    pub good-points : {i n : ℕ} → i ≡ firstOutside sorts numbers 0 → length numbers ≤ i → n ≡ pointCount (length sorts) (length numbers)
+        → Good n ≡ pointsOf sorts numbers
+    unfolding pointsOf
+    good-points {i} e h q = rw (sym tested ∙ whole, ← e, le-ltb i (length numbers) h, q)

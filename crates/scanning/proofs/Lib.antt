@@ -1,0 +1,5 @@
+pub mod Chains
+pub mod Faults
+pub mod Gathering
+pub mod Offsets
+pub mod Turns

@@ -1,0 +1,55 @@
+use Rattle.synthesizing.proofs.Naming.{grammar-here, head-here, names-found}
+use borrow.Author.Needs.{needs}
+use Rattle.synthesizing.proofs.name_tests.names_place.Statement.{statement}
+use Rattle.synthesizing.proofs.name_tests.names_place.Tie as tie
+
+mul-t14 : tie.Need-mul-t14
+mul-t14 c = search needs
+
+add-t15 : tie.Need-add-t15
+add-t15 c = search needs
+
+head-names-requires : tie.Need-head-names-requires
+head-names-requires c κs = head-here (c .before .before .before .before .before .before .before .pre)
+
+add-scope : tie.Need-add-scope
+add-scope c = search needs
+
+grammar-names-requires : tie.Need-grammar-names-requires
+grammar-names-requires c κs =
+    let head = c .before .before .before .before .before .before in
+    let entry = head .before .before .before .before .before .before .before .before in
+    grammar-here (entry .pre) (head .head-names .ensures)
+
+least-requires : tie.Need-least-requires
+least-requires c κs = search needs
+
+same-length : tie.Need-same-length
+same-length c = search needs
+
+same-length-2 : tie.Need-same-length-2
+same-length-2 c = search needs
+
+same-length-3 : tie.Need-same-length-3
+same-length-3 c = search needs
+
+returns : tie.Need-returns
+returns c =
+    let grammar = c .before .before .before .before .before .before .before in
+    let head = grammar .before .before .before .before .before .before .before in
+    λ u. names-found u (head .head-names .ensures) (grammar .grammar-names .ensures) (c .least .ensures)
+
+pub names-place-spec : {M : Type 1} → statement M
+names-place-spec =
+    tie.close
+    (tie.spec
+    mul-t14
+    add-t15
+    head-names-requires
+    add-scope
+    grammar-names-requires
+    least-requires
+    same-length
+    same-length-2
+    same-length-3
+    returns)
