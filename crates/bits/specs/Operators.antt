@@ -98,7 +98,8 @@ named (r ∷ more) o name =
     let later = named more (o + 1) name in
     cond (sameBytes (spelling (r .name)) name) o later
 
--- The number of the operator that a word names, `operatorCount` where it names none; `extract` names one only within `(_ extract i j)`.
+-- The number of the operator that a word names, `operatorCount` where it names none. `extract` has a number too; that it heads no term but within
+-- `(_ extract i j)` is said where symbols get their meaning.
 unfoldable pub operatorOf : (word : List ℕ) → ℕ
 operatorOf word = named operators 0 word
 

@@ -27,7 +27,7 @@ use Rattle.script.specs.Script.{Known, Read, knownAfter, passed, refused
 use Rattle.script.specs.declared.Progress.{Progress}
 use Rattle.script.specs.declared.Verdict.{Verdict}
 
--- Where the numbers of bodies begin, behind 56 rows of signatures: 32 of `define-fun`s and 8 of synthesized functions.
+-- Where the numbers of bodies begin, behind 56 rows of signatures: 32 of `define-fun`s, 8 of synthesized functions and 16 of non-terminals.
 abbrev pub bodiesPlace : ℕ
 bodiesPlace = 560
 
