@@ -5,6 +5,7 @@ It takes each code span that names a definition or a theorem (`crate/specs/File:
 (`crate::module::function, function`), a must-fail edit (`crate/label`), a file of the repository, or after "vector" a record of crates/vectors/stdin. It prints
 each name that is not found, and each decided reading that no row has; the exit status is 1 if there is any.
 """
+import glob
 import os
 import re
 import sys
@@ -79,8 +80,12 @@ def missing_functions(crate, path, more):
 
 
 def missing_edit(crate, label):
-    """The must-fail edit of a span, where it is not there."""
-    return [] if text_of(crate, "must-fail", label + ".edit") is not None else ["%s/%s" % (crate, label)]
+    """The must-fail edit of a span, where no file of the crate has it."""
+    for path in glob.glob(os.path.join(CRATES, crate, "must-fail", "*.edit")):
+        with open(path, encoding="utf-8") as file:
+            if "edit: %s\n" % label in file:
+                return []
+    return ["%s/%s" % (crate, label)]
 
 
 def missing_path(path):

@@ -7,12 +7,12 @@ use mathlib.Core.List.{List}
 use mathlib.Core.Option.{none as nothing, some}
 use borrow.Author.Tests.{eq-eqb, le-ltb, lt-ltb, ne-eqb}
 use lib.Dec.{eqb}
-use lib.ListN.{length, length-replicate}
-use Rattle.grammar.specs.Answer.{areaSize, unused}
+use lib.ListN.{length}
+use Rattle.grammar.specs.Answer.{areaSize}
 use Rattle.outcome.specs.Checked.{Checked, judged, missized, refusal, response-refused, script-refused, sizeAnswer, unshown}
 use Rattle.outcome.specs.Derived.{blankArea}
 use Rattle.outcome.specs.declared.Outcome.{Outcome}
-use Rattle.outcome.proofs.Areas.{unshown-blank}
+use Rattle.outcome.proofs.Areas.{blank-long, unshown-blank}
 use Rattle.judging.specs.Steps.{Judging}
 use Rattle.checker.specs.Steps.{SizesTold}
 
@@ -84,7 +84,7 @@ module _ {script response points after : List ℕ} {r : Outcome} (area : List �
     pub sizes-right : Judging script response points after
     sizes-right =
         let blank : after ≡ blankArea = blanked ∙ unshown-blank area (told .sized zero) in
-        let long = ap length blank ∙ length-replicate {A = ℕ} areaSize unused in
+        let long = ap length blank ∙ blank-long in
         record { sized = told .passes zero after (omega (arith, long, told .sized zero)); blank = blank }
 
     -- and the texts are judged

@@ -47,5 +47,5 @@ module _ (lists : List (List ℕ)) (ds : List ℕ) (j : ℕ) (long : length (lis
 
 -- The blank area shows no list.
 pub area-blank : blankArea ≡ shownArea []
-unfolding listsOf shownArea
+unfolding blankArea listsOf shownArea
 area-blank = refl

@@ -5,9 +5,9 @@ use native.Mathlib.Omega.{arith}
 use mathlib.Core.Path.{_≡_, refl, sym, ap, _∙_}
 use mathlib.Core.Bool.{Bool, true, false}
 use mathlib.Core.List.{List, [], _∷_, _++_, append-assoc, append-nil}
-use lib.ListN.{drop, drop-of-length-le, length, length-replicate}
+use lib.ListN.{drop, drop-of-length-le, length}
 use lib.Seq.{length-sets, sets}
-use Rattle.grammar.specs.Answer.{areaSize, listOf, listSize, unused}
+use Rattle.grammar.specs.Answer.{listOf, listSize}
 use Rattle.grammar.specs.Derivation.{Admitted, LeavesFit}
 use Rattle.grammar.proofs.Leaves.{sorted-fit}
 use Rattle.grammar.proofs.Simple.{simple-derives}
@@ -21,6 +21,7 @@ use Rattle.assured.specs.Assured.{AllAdmitted}
 use Rattle.outcome.specs.Derived.{FirstUnderived, ListsShown, listsOf, shownArea, termsOf}
 use Rattle.outcome.specs.Derived.FirstUnderived.{here, later}
 use Rattle.outcome.specs.Derived.ListsShown.{also, no-more}
+use Rattle.outcome.proofs.Areas.{blank-long}
 use Rattle.derivations.specs.Steps.{Derivable, Judged, OneDerivable, OneJudged}
 use Rattle.derivations.proofs.Areas.{area-blank, area-more, lists-more}
 use Rattle.derivations.proofs.Numbered.{Both, as-many, both}
@@ -121,7 +122,7 @@ module _ {places nodes forms area₀ : List ℕ} {p : Progress} (q : Derivable p
             stands = next-body .begins;
             few = next .few;
             leaves = next-leaves;
-            sized = g .long ∙ ap length (q .blank) ∙ length-replicate areaSize unused;
+            sized = g .long ∙ ap length (q .blank) ∙ blank-long;
             low = omega (arith, q .held .counted .few-functions);
           }
 

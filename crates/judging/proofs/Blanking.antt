@@ -8,6 +8,7 @@ use lib.ListN.{drop, length, length-set, replicate, set}
 use lib.Seq.{drop-length}
 use Rattle.grammar.specs.Answer.{areaSize, unused}
 use Rattle.outcome.specs.Checked.{unshown}
+use Rattle.outcome.specs.Derived.{blankArea}
 use Rattle.outcome.proofs.Areas.{unshown-blank}
 
 -- the first i entries of an area of right size are unused, and the others are as they were
@@ -34,6 +35,7 @@ module _ {area shown : List ℕ} {i : ℕ} (so-far : Blanking area shown i) wher
 
   -- every entry
   pub blanking-ends : length shown ≤ i → shown ≡ unshown area
+  unfolding blankArea
   blanking-ends h =
       let all : i ≡ areaSize = omega (arith, so-far .long, so-far .reached) in
       let same : i ≡ length area = omega (arith, so-far .sized) in

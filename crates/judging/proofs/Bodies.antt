@@ -3,25 +3,23 @@ use Prim.Native.Nat.{ℕ, _+_, _<_}
 use native.Mathlib.Omega.{arith}
 use mathlib.Core.Path.{_≡_, ap, refl, subst, subst⁻¹, _∙_}
 use mathlib.Core.List.{List}
-use lib.ListN.{drop, getD, length, length-replicate, take}
+use lib.ListN.{drop, getD, length, take}
 use Rattle.script.specs.Tables.{firstsPlace, formsPlace}
 use Rattle.reader.proofs.Parts.{all-lent, formsLent}
 use Rattle.script.specs.declared.Progress.{Progress}
 use Rattle.response.proofs.Picked.{order-length}
 use Rattle.texts.specs.Outcome.{offsetOf}
-use Rattle.grammar.specs.Answer.{areaSize, unused}
 use Rattle.outcome.specs.Checked.{unshown}
 use Rattle.outcome.specs.declared.Outcome.{Outcome}
-use Rattle.outcome.proofs.Areas.{unshown-blank}
+use Rattle.outcome.proofs.Areas.{blank-long, unshown-blank}
 use Rattle.outcome.proofs.Deriving.{underived-within}
 use Rattle.derivations.specs.Steps.{Derivable, Judged}
 use Rattle.judging.specs.Steps.{BodiesDerived, Deriving, Sought}
 
 -- the forms are all that is lent behind the terms
-pub lent-tables : {response places area : List ℕ} {p : Progress} (nodes : List ℕ) → Deriving response places nodes p area
+pub lent-tables : (nodes : List ℕ) {places area : List ℕ} {p : Progress} → Derivable places (take formsPlace nodes) (drop formsPlace nodes) p area
     → Derivable places (take formsPlace nodes) (formsLent nodes) p area
-lent-tables {places = places} {area} {p} nodes q =
-    subst⁻¹ (λ (forms : List ℕ). Derivable places (take formsPlace nodes) forms p area) (all-lent nodes) (q .tables)
+lent-tables nodes {places} {area} {p} = subst⁻¹ (λ (forms : List ℕ). Derivable places (take formsPlace nodes) forms p area) (all-lent nodes)
 
 -- the search gives of the forms what it gives of all that is lent behind the terms
 pub lent-searched : (nodes : List ℕ) {places area areaAfter : List ℕ} {p : Progress} {r : ℕ}
@@ -51,12 +49,12 @@ module _ {response places nodes area : List ℕ} {p : Progress} {areaAfter : Lis
         )
 
     -- 13: its grammar derives the body by no list of rules
-    pub one-underived : {after : List ℕ} {place : ℕ} → after ≡ unshown areaAfter → place ≡ offsetOf response (getD places (firstsPlace + r) 0)
-        → Sought q (record { number = 13; text = 1; place = place; second = r; units = 0 }) after
-    one-underived e f =
+    pub one-underived : {after : List ℕ} {word place : ℕ} → after ≡ unshown areaAfter → word ≡ getD places (firstsPlace + r) 0
+        → place ≡ offsetOf response word → Sought q (record { number = 13; text = 1; place = place; second = r; units = 0 }) after
+    one-underived e f g =
         let one = searched (q .tables) .one! other in
-        let at = f ∙ ap (offsetOf response) (one .word) in
-        let sized = searched (q .tables) .long ∙ ap length (q .tables .blank) ∙ length-replicate {A = ℕ} areaSize unused in
+        let at = g ∙ ap (offsetOf response) (f ∙ one .word) in
+        let sized = searched (q .tables) .long ∙ ap length (q .tables .blank) ∙ blank-long in
         record {
           all! = λ zero. absurd (omega arith);
           one! = λ h. record { j = r; body = one .body; first = one .first; answer = rw at refl; blanked = e ∙ unshown-blank areaAfter sized };

@@ -3,20 +3,19 @@ use Prim.Native.Nat.{ℕ}
 use native.Mathlib.Omega.{arith}
 use mathlib.Core.Path.{_≡_, refl, sym, ap, subst, _∙_}
 use mathlib.Core.List.{List}
-use lib.ListN.{drop, length, length-replicate, take}
+use lib.ListN.{drop, length, take}
 use Rattle.running.specs.Points.{pointsOf}
 use Rattle.running.specs.declared.PointList.{PointList}
 use Rattle.running.specs.declared.PointList.the-variants.{Good, Bad}
 use Rattle.naming.specs.Scopes.{namedSorts}
 use Rattle.script.specs.Tables.{formsPlace}
 use Rattle.script.specs.declared.Progress.{Progress}
-use Rattle.grammar.specs.Answer.{areaSize, unused}
 use Rattle.outcome.specs.Checked.{Judgement, evaluated, points-refused, underived}
 use Rattle.outcome.specs.Demands.{Showing}
 use Rattle.outcome.specs.Derived.{termsOf}
 use Rattle.outcome.specs.Evaluated.{ranWith}
 use Rattle.outcome.specs.declared.Outcome.{Outcome}
-use Rattle.outcome.proofs.Areas.{unshown-blank}
+use Rattle.outcome.proofs.Areas.{blank-long, unshown-blank}
 use Rattle.outcome.proofs.Stages.{not-showing, ran-showing}
 use Rattle.evaluation.specs.Steps.{Evaluable, pointsOutcome}
 use Rattle.judging.specs.Steps.{BodiesDerived, Deriving, PointsJudged}
@@ -41,7 +40,7 @@ module _ {response places nodes area : List ℕ} {p : Progress} (q : Deriving re
             → r ≡ pointsOutcome (q .tables .known) (termsOf (q .tables .bodies)) points budget found
             → Judgement response (q .tables .known) (q .tables .bodies) points budget r after
         go (Bad place) found f =
-            let sized = long ∙ ap length (q .tables .blank) ∙ length-replicate {A = ℕ} areaSize unused in
+            let sized = long ∙ ap length (q .tables .blank) ∙ blank-long in
             let blank = answer .bad! (ap (λ (x : Outcome). x .number) f) ∙ unshown-blank between sized in
             rw (f, blank) (points-refused (sought q .all! zero .shown) found)
         go (Good m) found f =

@@ -4,21 +4,39 @@ use mathlib.Core.List.{List}
 use mathlib.Core.Option.{none as nothing}
 use mathlib.Core.Path.{_≡_}
 use lib.ListN.{drop, length, take}
+use Rattle.script.specs.Script.{Known}
 use Rattle.script.specs.Tables.{formsPlace}
 use Rattle.script.specs.declared.Progress.{Progress}
 use Rattle.response.specs.Response.{Body, inScriptOrder}
-use Rattle.texts.specs.Outcome.{offsetOf}
+use Rattle.texts.specs.Outcome.{given, offsetOf, responseOutcome, said, scriptOutcome}
 use Rattle.texts.specs.Steps.{ReadWhole}
-use Rattle.outcome.specs.Checked.{sizeAnswer, unshown}
+use Rattle.assured.specs.Held.{Held}
+use Rattle.outcome.specs.Checked.{Checked, sizeAnswer, unshown}
 use Rattle.outcome.specs.Derived.{FirstUnderived, blankArea}
 use Rattle.outcome.specs.declared.Outcome.{Outcome}
 use Rattle.derivations.specs.Steps.{AllShown, Derivable}
 use Rattle.evaluation.specs.Steps.{Evaluates}
+use Rattle.judging.specs.declared.verdicts.Told.{Told}
 
 -- Every size is right, and the area shows nothing.
 pub record Judging (script response points area : List ℕ) : Type 0 where
   pub sized : sizeAnswer script response points area ≡ nothing
   pub blank : area ≡ blankArea
+
+-- Both texts pass: the tables hold what the script says and the bodies that the response gives, in one table of nodes the terms in front of the forms.
+pub record BothHeld (script response names places nodes : List ℕ) (p : Progress) : Type 0 where
+  pub known : Known
+  pub bodies : List Body
+  pub says : scriptOutcome script ≡ said known
+  pub gives : responseOutcome known response ≡ given bodies
+  pub held : Held names places (take formsPlace nodes) (drop formsPlace nodes) p known bodies
+  pub room : formsPlace ≤ length nodes
+
+-- Where the number is 0 the tables hold both texts; where it is another the answer is that for texts of right sizes.
+pub record TextsRead (script response names places nodes : List ℕ) (r : Told) : Type 0 where
+  pub both! : r .outcome .number ≡ 0 → BothHeld script response names places nodes (r .progress)
+  pub one! : (r .outcome .number ≡ 0 → ⊥) → {points area : List ℕ} {budget : ℕ} → sizeAnswer script response points area ≡ nothing
+      → Checked script response points budget area (r .outcome) blankArea
 
 -- The tables hold a script and a response that pass, in one table of nodes the terms in front of the forms; the area shows nothing; and the response's words
 -- are read whole, so that the place of each can be told.

@@ -6,17 +6,26 @@ use outcome::Outcome;
 use outcome::refusal;
 use script::FORMS;
 use script::Progress;
+use script::Verdict;
 use texts::responses::read_response_text;
 use texts::responses::word_offset;
 use texts::scripts::read_script_text;
 ghost use mathlib.Core.Path.{_≡_};
-ghost use lib.ListN.{length, take};
-ghost use Prim.Native.Nat.{_≤_};
-ghost use Rattle.script.specs.Tables.{formsPlace};
+ghost use lib.ListN.{drop, getD, length, take};
+ghost use Prim.Native.Nat.{_+_, _≤_, _<_};
+ghost use Rattle.script.specs.Tables.{firstsPlace, formsPlace};
 ghost use Rattle.naming.specs.Steps.{Names};
+ghost use Rattle.texts.specs.Steps.{Ready, ResponseRead};
 ghost use Rattle.outcome.specs.Checked.{Checked};
+ghost use Rattle.derivations.specs.Steps.{Derivable, Judged};
 ghost use Rattle.evaluation.specs.Steps.{Evaluable};
-ghost use Rattle.judging.specs.Steps.{Judging, Deriving, BodiesDerived, PointsJudged};
+ghost use Rattle.judging.specs.Steps.{Judging, TextsRead, Deriving, BodiesDerived, PointsJudged};
+
+// The answer on two texts, whose number is 0 where both pass; and what the script has said.
+struct Told {
+    outcome: Outcome,
+    progress: Progress,
+}
 
 // The number of a body that no list of rules derives.
 const NO_DERIVATION: usize = 13;
@@ -55,6 +64,71 @@ fn node_room() -> [u64; 40960]
     [0; 40960]
 }
 
+// Reads a response to a script whose tables are given, in one table of nodes the terms in front of the forms.
+fn read_bodies(
+    response: &[u8],
+    names: &[u8],
+    raw: &mut [u64],
+    places: &mut [u64],
+    nodes: &mut [u64],
+    progress: Progress,
+) -> Verdict
+    requires { ⌜ Ready (now names) (now raw) (now places) (take formsPlace (now nodes)) progress ⌝ }
+    requires { ⌜ formsPlace ≤ length (now nodes) ⌝ }
+    ensures { λ r. ⌜ ((q : Ready (now (names .entry)) (now (raw .entry)) (now (places .entry)) (take formsPlace (now (nodes .entry))) progress)
+        → ResponseRead q (now (response .entry)) (now (places .exit)) (take formsPlace (now (nodes .exit))) r) ⌝ }
+    ensures { λ r. ⌜ drop formsPlace (now (nodes .exit)) ≡ drop formsPlace (now (nodes .entry)) ⌝ }
+{
+    read_response_text(response, names, raw, places, &mut nodes[..FORMS], progress)
+}
+
+// Reads a script and a response to it: the tables hold both, or one is refused at an offset.
+fn read_texts(
+    script: &[u8],
+    response: &[u8],
+    names: &mut [u8],
+    places: &mut [u64],
+    nodes: &mut [u64],
+) -> Told
+    requires { ⌜ Names (now names) ⌝ }
+    requires { ⌜ length (now places) ≡ 2752 ⌝ }
+    requires { ⌜ length (now nodes) ≡ 40960 ⌝ }
+    ensures { λ r. ⌜ TextsRead (now (script .entry)) (now (response .entry)) (now (names .exit)) (now (places .exit)) (now (nodes .exit)) r ⌝ }
+{
+    let mut raw = word_room();
+    let step = read_script_text(script, names, &mut raw, places, nodes);
+    let progress = step.progress;
+    if step.number != 0 {
+        return Told {
+            outcome: refusal(step.number, 0, step.place),
+            progress,
+        };
+    }
+    let verdict = read_bodies(response, names, &mut raw, places, nodes, progress);
+    Told {
+        outcome: refusal(verdict.number, 1, verdict.place),
+        progress,
+    }
+}
+
+// Searches for derivations of all bodies, in one table of nodes the terms in front of the forms.
+fn derive_tables(places: &[u64], nodes: &[u64], progress: Progress, shown: &mut [u16]) -> usize
+    requires { ⌜ Derivable (now places) (take formsPlace (now nodes)) (drop formsPlace (now nodes)) progress (now shown) ⌝ }
+    requires { ⌜ formsPlace ≤ length (now nodes) ⌝ }
+    ensures { λ r. ⌜ ((q : Derivable (now (places .entry)) (take formsPlace (now (nodes .entry))) (drop formsPlace (now (nodes .entry))) progress (now (shown .entry)))
+        → Judged q (now (shown .exit)) r) ⌝ }
+{
+    derive_all(places, &nodes[..FORMS], &nodes[FORMS..], progress, shown)
+}
+
+// The first word of a function's body, by the table of places.
+fn first_word(places: &[u64], function: usize) -> usize
+    requires { ⌜ firstsPlace + function < length (now places) ⌝ }
+    ensures { λ r. ⌜ r ≡ getD (now (places .entry)) (firstsPlace + function) 0 ⌝ }
+{
+    places[FIRSTS + function] as usize
+}
+
 // The answer on the bodies of texts that pass: 13 at the first word of the first body that its grammar does not derive, after which the area shows nothing; or
 // 0, after which it shows a derivation of each.
 fn derive_bodies(
@@ -67,7 +141,7 @@ fn derive_bodies(
     requires { ⌜ Deriving (now response) (now places) (now nodes) progress (now shown) ⌝ }
     ensures { λ r. ⌜ BodiesDerived (now (response .entry)) (now (places .entry)) (now (nodes .entry)) progress (now (shown .entry)) r (now (shown .exit)) ⌝ }
 {
-    let function = derive_all(places, &nodes[..FORMS], &nodes[FORMS..], progress, shown);
+    let function = derive_tables(places, nodes, progress, shown);
     if function == progress.functions {
         return Outcome {
             number: 0,
@@ -81,7 +155,7 @@ fn derive_bodies(
     Outcome {
         number: NO_DERIVATION,
         text: 1,
-        place: word_offset(response, places[FIRSTS + function] as usize),
+        place: word_offset(response, first_word(places, function)),
         second: function,
         units: 0,
     }
@@ -102,11 +176,11 @@ fn judge_points(
     ensures { λ r. ⌜ PointsJudged (now (names .entry)) (now (places .entry)) (take formsPlace (now (nodes .entry))) progress
         (now (points .entry)) budget (now (shown .entry)) r (now (shown .exit)) ⌝ }
 {
-    let outcome = evaluate(names, places, &nodes[..FORMS], progress, points, budget);
-    if outcome.number == BAD_POINTS {
+    let answer = evaluate(names, places, &nodes[..FORMS], progress, points, budget);
+    if answer.number == BAD_POINTS {
         blank_area(shown);
     }
-    outcome
+    answer
 }
 
 // The answer for texts, points and an area of right sizes, where the area shows nothing.
@@ -121,25 +195,13 @@ pub fn judge_texts(
     ensures { λ r. ⌜ Checked (now (script .entry)) (now (response .entry)) (now (points .entry)) budget (now (shown .entry)) r (now (shown .exit)) ⌝ }
 {
     let mut names = no_names();
-    let mut raw = word_room();
     let mut places = no_places();
     let mut nodes = node_room();
-    let step = read_script_text(script, &mut names, &mut raw, &mut places, &mut nodes);
-    if step.number != 0 {
-        return refusal(step.number, 0, step.place);
+    let told = read_texts(script, response, &mut names, &mut places, &mut nodes);
+    if told.outcome.number != 0 {
+        return told.outcome;
     }
-    let said = step.progress;
-    let verdict = read_response_text(
-        response,
-        &names,
-        &mut raw,
-        &mut places,
-        &mut nodes[..FORMS],
-        said,
-    );
-    if verdict.number != 0 {
-        return refusal(verdict.number, 1, verdict.place);
-    }
+    let said = told.progress;
     let derived = derive_bodies(response, &places, &nodes, said, shown);
     if derived.number != 0 {
         return derived;

@@ -3,10 +3,15 @@ use Prim.Native.Nat.{ℕ}
 use mathlib.Core.List.{List}
 use mathlib.Core.Path.{_≡_}
 use borrow.Author.Tests.{eq-eqb, ne-eqb}
-use lib.ListN.{length}
-use Rattle.grammar.specs.Answer.{areaSize}
+use lib.ListN.{length, length-replicate}
+use Rattle.grammar.specs.Answer.{areaSize, unused}
 use Rattle.outcome.specs.Checked.{unshown}
 use Rattle.outcome.specs.Derived.{blankArea}
+
+-- The blank area is of its size.
+pub blank-long : length blankArea ≡ areaSize
+unfolding blankArea
+blank-long = length-replicate areaSize unused
 
 -- One of right size is blank.
 pub unshown-blank : (area : List ℕ) → length area ≡ areaSize → unshown area ≡ blankArea

@@ -41,5 +41,5 @@ unfoldable pub shownArea : List (List ℕ) → List ℕ
 shownArea lists = listsOf lists ++ replicate (areaSize - length (listsOf lists)) unused
 
 -- The area that shows none: "after any other answer each entry is 65,535".
-abbrev pub blankArea : List ℕ
+unfoldable pub blankArea : List ℕ
 blankArea = replicate areaSize unused

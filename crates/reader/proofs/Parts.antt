@@ -2,7 +2,7 @@
 use Prim.Native.Nat.{ℕ, _-_, _≤_}
 use native.Mathlib.Omega.{arith}
 use mathlib.Core.List.{List, _++_, append-nil}
-use mathlib.Core.Path.{_≡_, refl, ap, _∙_}
+use mathlib.Core.Path.{_≡_, refl, ap, subst⁻¹, _∙_}
 use lib.ListN.{drop, drop-of-length-le, length, length-append, length-drop, take}
 use lib.Seq.{drop-at, length-take-le, take-all, take-at}
 use Rattle.script.specs.Tables.{formsPlace}
@@ -48,7 +48,7 @@ module _ {nodes : List ℕ} (room : formsPlace ≤ length nodes) where
       → Parts nodes (take formsPlace nodes ++ (forms ++ drop (length nodes - formsPlace) (drop formsPlace nodes))) (take formsPlace nodes) forms
   parts-behind {forms} same =
       let long : length (take formsPlace nodes) ≡ formsPlace = length-take-le formsPlace nodes room in
-      rw (none-behind nodes forms) (record {
+      subst⁻¹ (λ (behind : List ℕ). Parts nodes (take formsPlace nodes ++ behind) (take formsPlace nodes) forms) (none-behind nodes forms) (record {
         terms-are = take-at (take formsPlace nodes) forms formsPlace long;
         forms-are = drop-at (take formsPlace nodes) forms formsPlace long;
         long = omega (arith, long, same, length-append (take formsPlace nodes) forms, ap length (all-lent nodes), length-drop formsPlace nodes);

@@ -1,13 +1,13 @@
 //! What is written of the checker's answer.
-use crate::area::area_room;
-use crate::area::report_area;
-use crate::hex::decode;
-use crate::hex::decode_numbers;
-use crate::hex::number_of;
-use crate::report::text_room;
-use crate::report::write_number;
 use checker::check;
 use outcome::Outcome;
+use reporting::area::area_room;
+use reporting::area::report_area;
+use reporting::hex::decode;
+use reporting::hex::decode_numbers;
+use reporting::hex::number_of;
+use reporting::texts::text_room;
+use reporting::texts::write_number;
 ghost use mathlib.Core.Path.{_≡_};
 ghost use Prim.Native.Nat.{_≤_};
 ghost use lib.ListN.{length, take};

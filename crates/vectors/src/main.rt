@@ -2,12 +2,7 @@
 //! for none; a budget and the size of the area in hex; with a space between. For each it writes a line that says what the reader of words finds in the two texts,
 //! the checker's answer (number, text, place, second number, units), and what stands in the area afterwards: `unchanged`, `blank`, the lists shown, or `other`.
 mod answers;
-mod area;
-mod digest;
-mod fields;
-mod hex;
 mod records;
-mod report;
 
 use libc::STDIN_FILENO;
 ghost use mathlib.Core.Path.{_≡_};

@@ -1,11 +1,11 @@
 //! Records, one a line.
 use crate::answers::report_answer;
-use crate::fields::field_end;
-use crate::fields::next_field;
-use crate::report::report_text;
 use libc::STDOUT_FILENO;
 use readings::response_limits;
 use readings::script_limits;
+use reporting::fields::field_end;
+use reporting::fields::next_field;
+use reporting::texts::report_text;
 ghost use Prim.Native.Nat.{_≤_};
 ghost use lib.ListN.{length};
 

@@ -1,0 +1,6 @@
+//! What the program `vectors` reads and writes beside the checker's answer: fields and hex digits of a record, what is found in one text, and the lent area.
+pub mod area;
+mod digest;
+pub mod fields;
+pub mod hex;
+pub mod texts;
