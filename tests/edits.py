@@ -4,7 +4,8 @@
 A file crates/CRATE/must-fail/NAME.edit makes one wrong answer or more, each in another function: above its replacements stand `edit: LABEL` and `refused: FUNCTION
 at PLACE`. `rt` only sees that the crate is not proved with all of them. This reads what the prover said, which `rt must-fail` and `rt ci` leave in target/must-fail,
 and asks of each wrong answer that its function's own proof fails at that place, and not because something that it rests on is not proved. A wrong definition is
-refused in a law: `refused: FILE at LAW`. It prints each that is not refused so; the exit status is 1 if there is any.
+refused in a law: `refused: FILE at LAW`. It prints each that is not refused so, and each function that another crate can call and that has less than two wrong
+answers; the exit status is 1 if there is any.
 """
 import glob
 import os
@@ -13,8 +14,13 @@ import sys
 
 ROOT = os.path.join(os.path.dirname(os.path.abspath(__file__)), "..")
 
+# Crates that only a program of the tests calls.
+FOR_TESTS = ("reporting",)
+
 FUNCTION = re.compile(r'^(?:#\[.*\]\n)*(?:pub(?:\([a-z]+\))? )?(?:extern "C" )?fn (\w+)', re.MULTILINE)
 REFUSED = re.compile(r"(\S+) at (\S+)")
+PUBLIC_FUNCTION = re.compile(r'^pub (?:extern "C" )?fn (\w+)', re.MULTILINE)
+PUBLIC_MODULE = re.compile(r"^pub mod (\w+);", re.MULTILINE)
 IN_PROOF = re.compile(r"\S+?/proofs/(\S+?)(?:/Proof)?\.antt:\d+:\d+: error: `([^`]+)`: (.*)")
 IN_CODE = re.compile(r"note: \S+?/src/(\S+)\.rt:(\d+):\d+: it is not proved that .*\(`([^`]+)`\)")
 RESTS_ON_OTHER = re.compile(r"`[^`]*` was not admitted")
@@ -42,6 +48,26 @@ def edits_of(text):
             label = None
     if label:
         yield label, None
+
+
+def public_functions(library):
+    """The functions of a crate that another crate can call, by the path of its src/lib.rt."""
+    text = text_of(library)
+    yield from PUBLIC_FUNCTION.findall(text)
+    for module in PUBLIC_MODULE.findall(text):
+        code = text_of(os.path.join(os.path.dirname(library), module + ".rt"))
+        yield from ("%s::%s" % (module, name) for name in PUBLIC_FUNCTION.findall(code))
+
+
+def too_few():
+    """The functions that another crate can call and that have less than two wrong answers."""
+    for library in sorted(glob.glob(os.path.join(ROOT, "crates", "*", "src", "lib.rt"))):
+        crate = library.split(os.sep)[-3]
+        paths = glob.glob(os.path.join(ROOT, "crates", crate, "must-fail", "*.edit"))
+        wrong = [said[0] for path in paths for _, said in edits_of(text_of(path)) if said]
+        for name in public_functions(library):
+            if crate not in FOR_TESTS and wrong.count(name) < 2:
+                yield "%s::%s has less than two wrong answers" % (crate, name)
 
 
 # What the prover said
@@ -80,8 +106,9 @@ def faults_of(path):
     if not os.path.isfile(log):
         return ["%s/%s: there is no log of it: run `rt must-fail` first" % (crate, name)]
     refused = set(refusals(text_of(log), folder))
-    faults = []
-    for label, said in edits_of(text_of(path)):
+    edits = list(edits_of(text_of(path)))
+    faults = [] if edits else ["%s/%s: no line says what is wrong" % (crate, name)]
+    for label, said in edits:
         if said is None:
             faults.append("%s/%s: no line says where it is refused" % (crate, label))
         elif said not in refused:
@@ -91,12 +118,12 @@ def faults_of(path):
 
 
 def main():
-    """Prints each edit that was not refused by itself, and how many were."""
+    """Prints each edit that was not refused by itself, each function with too few, and how many edits there are."""
     paths = sorted(glob.glob(os.path.join(ROOT, "crates", "*", "must-fail", "*.edit")))
-    faults = [fault for path in paths for fault in faults_of(path)]
+    faults = [fault for path in paths for fault in faults_of(path)] + list(too_few())
     for fault in faults:
         print(fault)
-    print("%d wrong answers, %d not refused by themselves" % (sum(len(list(edits_of(text_of(path)))) for path in paths), len(faults)))
+    print("%d wrong answers, %d faults" % (sum(len(list(edits_of(text_of(path)))) for path in paths), len(faults)))
     return 1 if faults else 0
 
 
