@@ -1,4 +1,13 @@
-pub mod Variables
-pub mod Tables
-pub mod Constraints
-pub mod Outcomes
+pub mod Parts
+pub mod Fitting
+pub mod Bodies
+pub mod Cursors
+pub mod Sums
+pub mod CostTurns
+pub mod Prices
+pub mod Operators
+pub mod Arguments
+pub mod Operands
+pub mod LabelValues
+pub mod Evaluating
+pub mod Calls

@@ -1,2 +1,0 @@
-pub mod Assured
-pub mod Held

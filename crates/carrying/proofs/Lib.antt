@@ -1,3 +1,0 @@
-pub mod Walks
-pub mod Tests
-pub mod Choosing

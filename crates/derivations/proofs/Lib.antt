@@ -1,5 +1,0 @@
-pub mod Bodies
-pub mod Areas
-pub mod Numbered
-pub mod Singles
-pub mod Turns

@@ -1,4 +1,0 @@
-pub mod Blanking
-pub mod Bodies
-pub mod Judged
-pub mod Passing

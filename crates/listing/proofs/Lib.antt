@@ -1,4 +1,0 @@
-pub mod Empty
-pub mod Start
-pub mod Groups
-pub mod Listing

@@ -1,3 +1,0 @@
-pub mod Tables
-pub mod Budget
-pub mod Steps

@@ -1,4 +1,0 @@
-pub mod Scopes
-pub mod Unknown
-pub mod Table
-pub mod Steps

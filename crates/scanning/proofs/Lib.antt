@@ -1,5 +1,0 @@
-pub mod Chains
-pub mod Faults
-pub mod Gathering
-pub mod Offsets
-pub mod Turns

@@ -1,6 +1,0 @@
-pub mod Spans
-pub mod Words
-pub mod Table
-pub mod Reading
-pub mod Trees
-pub mod Steps

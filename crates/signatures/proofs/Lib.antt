@@ -1,4 +1,0 @@
-pub mod Written
-pub mod Writing
-pub mod Signed
-pub mod Sorted

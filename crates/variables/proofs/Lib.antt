@@ -1,3 +1,0 @@
-pub mod Parts
-pub mod Putting
-pub mod Testing

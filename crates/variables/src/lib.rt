@@ -1,2 +1,0 @@
-//! The command that declares a variable: `declare-var`.
-pub mod command;

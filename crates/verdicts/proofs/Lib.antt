@@ -1,0 +1,4 @@
+pub mod Variables
+pub mod Tables
+pub mod Constraints
+pub mod Outcomes

@@ -1,0 +1,123 @@
+//! The points and the run, of a script and a response whose tables are given.
+use meaning::costs::body_costs;
+use naming::table::VARIABLES;
+use naming::table::sort_in;
+use outcome::Outcome;
+use running::PointList;
+use running::Ran;
+use running::points::points_of;
+use running::running::left_of;
+use running::running::run_points;
+use script::Progress;
+ghost use mathlib.Core.Path.{_≡_};
+ghost use Prim.Native.Nat.{_≤_};
+ghost use lib.ListN.{take};
+ghost use Rattle.running.specs.Running.{leftOf};
+ghost use Rattle.naming.specs.Steps.{Names};
+ghost use Rattle.naming.specs.Table.{sortsFrom, variableRow};
+ghost use Rattle.outcome.specs.Evaluated.{ranOutcome};
+ghost use Rattle.evaluation.specs.Steps.{Constrained, ConstraintsRan, Evaluable, Evaluates};
+
+// Where the numbers of bodies begin in the table of places.
+const BODIES: usize = 560;
+
+// Where those of constraints begin.
+const CONSTRAINTS: usize = 600;
+
+// The sorts of the variables, `count` of them, at the front.
+fn variable_sorts(names: &[u8], count: usize) -> [u64; 16]
+    requires { ⌜ Names (now names) ⌝ }
+    requires { ⌜ count ≤ 16 ⌝ }
+    ensures { λ r. ⌜ take count r ≡ sortsFrom (now (names .entry)) variableRow count ⌝ }
+{
+    let mut sorts = [0u64; 16];
+    let mut k = 0;
+    while k < count {
+        sorts[k] = sort_in(names, VARIABLES + k);
+        k += 1;
+    }
+    sorts
+}
+
+// Runs the constraints over a list of numbers that is points, where the variables have these sorts.
+fn run_constraints(
+    places: &[u64],
+    nodes: &[u64],
+    progress: Progress,
+    sorts: &[u64],
+    points: &[u64],
+    budget: u64,
+) -> Ran
+    requires { ⌜ Constrained (now places) (now nodes) progress (now sorts) (now points) ⌝ }
+    ensures { λ r. ⌜ ConstraintsRan (now (places .entry)) (now (nodes .entry)) progress (now (sorts .entry)) (now (points .entry)) budget r ⌝ }
+{
+    let bodies = &places[BODIES..];
+    let costs = body_costs(nodes, bodies, progress.defined, progress.functions);
+    let end = CONSTRAINTS + progress.constraints;
+    run_points(
+        nodes,
+        bodies,
+        &costs,
+        &places[CONSTRAINTS..end],
+        sorts,
+        points,
+        budget,
+    )
+}
+
+// An answer that speaks of the points.
+fn points_answer(number: usize, place: usize, second: usize, units: u64) -> Outcome
+    ensures { λ r. ⌜ r ≡ record { number = number; text = 2; place = place; second = second; units = units } ⌝ }
+{
+    Outcome {
+        number: number,
+        text: 2,
+        place: place,
+        second: second,
+        units: units,
+    }
+}
+
+// The answer of a run over so many points.
+fn run_outcome(ran: Ran, count: usize, budget: u64) -> Outcome
+    requires { ⌜ leftOf ran ≤ budget ⌝ }
+    ensures { λ r. ⌜ r ≡ ranOutcome count budget ran ⌝ }
+{
+    let units = budget - left_of(ran);
+    match ran {
+        Ran::Passed(_) => Outcome {
+            number: 0,
+            text: 3,
+            place: 0,
+            second: count,
+            units: units,
+        },
+        Ran::False(point, constraint, _) => points_answer(14, point, constraint, units),
+        Ran::Ended(point, constraint, _) => points_answer(15, point, constraint, units),
+    }
+}
+
+// Tests the points and runs the constraints over them within the budget.
+pub fn evaluate(
+    names: &[u8],
+    places: &[u64],
+    nodes: &[u64],
+    progress: Progress,
+    points: &[u64],
+    budget: u64,
+) -> Outcome
+    requires { ⌜ Evaluable (now names) (now places) (now nodes) progress ⌝ }
+    ensures { λ r. ⌜ Evaluates (now (names .entry)) (now (places .entry)) (now (nodes .entry)) progress (now (points .entry)) budget r ⌝ }
+{
+    let variables = progress.variables;
+    let sorts = variable_sorts(names, variables);
+    let list = points_of(&sorts[..variables], points);
+    match list {
+        PointList::Bad(place) => points_answer(16, place, 0, 0),
+        PointList::Good(count) => run_outcome(
+            run_constraints(places, nodes, progress, &sorts[..variables], points, budget),
+            count,
+            budget,
+        ),
+    }
+}
