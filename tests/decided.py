@@ -1,13 +1,13 @@
 #!/usr/bin/env python3
-"""The crate decided's table of decided readings: tests/decided.py [--check]
+"""The crate test_decided's table of decided readings: tests/decided.py [--check]
 
-Writes crates/decided/proofs/Readings.antt from tests/readings.jsonl: the readings whose texts have no fault in a word and at most 200 printable bytes each, without
+Writes crates/test_decided/proofs/Readings.antt from tests/readings.jsonl: the readings whose texts have no fault in a word and at most 200 printable bytes each, without
 comments. With --check it says whether that file is what it would write.
 """
 import glob, json, os, re, sys
 
 os.chdir(os.path.join(os.path.dirname(os.path.abspath(__file__)), '..'))
-TABLE = 'crates/decided/proofs/Readings.antt'
+TABLE = 'crates/test_decided/proofs/Readings.antt'
 
 LONGEST = 200
 
@@ -58,29 +58,28 @@ for r in map(json.loads, open('tests/readings.jsonl')):
         if (s, p) in seen: continue
         seen.add((s, p)); cases.append((r['item'], s, p, number, w))
 
-MODULES = ['forest', 'spelling', 'scanning', 'lookup', 'bits', 'terms', 'grammar', 'reserved', 'lexemes', 'shapes', 'carrying', 'sorting', 'sorts', 'gathering', 'rules', 'naming', 'declaring',
-           'faults', 'heading', 'listing', 'headers', 'grammars', 'script', 'response']
-SKIP = {('terms', 'Costs'), ('terms', 'Values'), ('terms', 'Nodes'), ('lexemes', 'Table'), ('gathering', 'Table'), ('sorting', 'Tables'), ('naming', 'Table'),
-        ('scanning', 'Reading'), ('scanning', 'Table'), ('forest', 'Rows'), ('grammar', 'Derivation'), ('grammar', 'Tables'), ('grammar', 'Columns'),
-        ('grammar', 'Answer'), ('script', 'Tables')}
+MODULES = ['forest', 'word_kinds', 'words', 'operators', 'terms', 'derivation', 'lexemes', 'shapes', 'term_sorts', 'written_sorts', 'term_nodes', 'names', 'term_faults', 'headers', 'grammars',
+           'script']
+SKIP = {('terms', 'Costs'), ('terms', 'Values'), ('words', 'Answers'), ('words', 'Limits'), ('words', 'Reading'), ('derivation', 'Derivation'), ('derivation', 'Answer'),
+        ('script', 'Outcome')}
 DROP = set('startTable first from size AllSorted FunctionsSorted sortsOf operatorValue enquired faultFrom sortColumn knownWords placeAmong wordNumber'.split())
 uses = {}; unfolded = []
 for c in MODULES:
-    for f in sorted(glob.glob('crates/%s/specs/*.antt' % c)):
-        m = os.path.basename(f)[:-5]
-        if m == 'Steps' or (c, m) in SKIP: continue
+    for f in sorted(glob.glob('crates/%s/specs/*.antt' % c) + glob.glob('crates/%s/specs/code/Standing.antt' % c)):
+        m = os.path.relpath(f, 'crates/%s/specs' % c)[:-5].replace('/', '.')
+        if (c, m) in SKIP: continue
         kept = []
         for x in re.findall(r'^unfoldable pub (\S+) :', open(f).read(), re.M):
-            if x in DROP or (c, x) == ('lookup', 'wordsIn'): continue
-            if (c, m) == ('spelling', 'Kinds') and x in ('numeral', 'literal', 'symbol'):
+            if x in DROP or (m, x) == ('Search', 'wordsIn'): continue
+            if (c, m) == ('word_kinds', 'Kinds') and x in ('numeral', 'literal', 'symbol'):
                 kept.append('%s as %sKind' % (x, x)); unfolded.append(x + 'Kind')
             else:
                 kept.append(x); unfolded.append(x)
         if kept: uses['Rattle.%s.specs.%s' % (c, m)] = kept
 
-uses['Rattle.heading.specs.Heads'] = ['allowed']
+uses['Rattle.headers.specs.Heads'] = ['allowed']
 uses['Rattle.script.specs.Script'] += ['Known', 'Read', 'passed', 'refused', 'nothingKnown']
-uses['Rattle.response.specs.Response'] += ['Answered', 'bodies', 'refused as refusedBody']
+uses['Rattle.script.specs.Response'] += ['Answered', 'bodies', 'refused as refusedBody']
 
 def imports(names):
     return ', '.join(sorted(names, key=lambda n: (n.lower(), n)))

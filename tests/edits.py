@@ -15,7 +15,7 @@ import sys
 ROOT = os.path.join(os.path.dirname(os.path.abspath(__file__)), "..")
 
 # Crates that only a program of the tests calls.
-FOR_TESTS = ("reporting",)
+FOR_TESTS = ("test_report",)
 
 FUNCTION = re.compile(r'^(?:#\[.*\]\n)*(?:pub(?:\([a-z]+\))? )?(?:extern "C" )?fn (\w+)', re.MULTILINE)
 REFUSED = re.compile(r"(\S+) at (\S+)")

@@ -1,10 +1,10 @@
 #!/usr/bin/env python3
-"""Prints the lines of the program crates/operators_run: for each width 1 to 64 a hash of the values of each operator.
+"""Prints the lines of the program crates/test_operators: for each width 1 to 64 a hash of the values of each operator.
 
 The values are computed here on Python's integers, from what SMT-LIB's theories Core and FixedSizeBitVectors say of the operators.
 Only the operands and the hash, which are said in the program's comments, are the program's.
 
-  python3 tests/operators.py > crates/operators_run/stdout
+  python3 tests/operators.py > crates/test_operators/stdout
 """
 
 WORD = 2**64 - 1

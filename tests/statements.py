@@ -1,8 +1,8 @@
 #!/usr/bin/env python3
 """Whether every name that docs/STATEMENTS.md gives exists: tests/statements.py
 
-It takes each code span that names a definition or a theorem (`crate/specs/File: name, name`, `crate/proofs/File, File`), a function
-(`crate::module::function, function`), a must-fail edit (`crate/label`), a file of the repository, or after "vector" a record of crates/vectors/stdin. It prints
+It takes each code span that names a definition or a theorem (`crate/specs/File: name, name`, `crate/specs/code/File: name`, `crate/proofs/File, File`), a function
+(`crate::module::function, function`), a must-fail edit (`crate/label`), a file of the repository, or after "vector" a record of crates/test_vectors/stdin. It prints
 each name that is not found, and each decided reading that no row has; the exit status is 1 if there is any.
 """
 import glob
@@ -14,10 +14,10 @@ HERE = os.path.dirname(os.path.abspath(__file__))
 ROOT = os.path.join(HERE, "..")
 CRATES = os.path.join(ROOT, "crates")
 PAPER = os.path.join(ROOT, "docs", "STATEMENTS.md")
-RECORDS = os.path.join(CRATES, "vectors", "stdin")
+RECORDS = os.path.join(CRATES, "test_vectors", "stdin")
 
 SPAN = re.compile(r"`([^`]+)`")
-FILES = re.compile(r"(\w+)/(specs|proofs)/(\w+(?:, \w+)*)(?:: (.+))?")
+FILES = re.compile(r"(\w+)/(specs|specs/code|proofs)/(\w+(?:, \w+)*)(?:: (.+))?")
 FUNCTIONS = re.compile(r"(\w+)((?:::\w+)+)((?:, \w+)*)")
 EDIT = re.compile(r"(\w+)/(\w+)")
 FOLDERS = ("crates", "docs", "include", "rust", "tests", "tools")

@@ -1,8 +1,8 @@
 #!/usr/bin/env python3
-"""The records of the program `vectors` and what it must write of them: tests/vectors.py [--check]
+"""The records of the program `test_vectors` and what it must write of them: tests/vectors.py [--check]
 
-It takes the readings of readings.jsonl, texts of its own whose words decide, and the cases of cases.py and limits.py, and writes crates/vectors/stdin and
-crates/vectors/stdout; with --check it only says whether these two files are what it would write, and replays every list of rules in them (derivations.py). What
+It takes the readings of readings.jsonl, texts of its own whose words decide, and the cases of cases.py and limits.py, and writes crates/test_vectors/stdin and
+crates/test_vectors/stdout; with --check it only says whether these two files are what it would write, and replays every list of rules in them (derivations.py). What
 the words of a text are is said by words.py, which is held to each reading whose answer arises from words. The checker's answer is that of the reading, or is
 known from how a text is made; the list shown is the one derivation that there is.
 """
@@ -18,7 +18,7 @@ from limits import all_limits
 from words import RESPONSE, SCRIPT
 
 HERE = os.path.dirname(os.path.abspath(__file__))
-CRATE = os.path.join(HERE, "..", "crates", "vectors")
+CRATE = os.path.join(HERE, "..", "crates", "test_vectors")
 MOST_INPUT = 2000000
 READINGS_FROM_WORDS = 35
 
@@ -324,7 +324,7 @@ def check():
     """Says whether the two files are what would be written, and whether every list that they show is a derivation."""
     other = [name for name, text in files().items() if not is_stored(name, text)]
     for name in other:
-        print("crates/vectors/%s is not what tests/vectors.py writes" % name)
+        print("crates/test_vectors/%s is not what tests/vectors.py writes" % name)
     if not other:
         print("%d lists of rules are derivations" % check_lists())
     return 1 if other else 0

@@ -6,9 +6,9 @@ use mathlib.Core.Bool.{Bool, true, false}
 use Rattle.forest.specs.Forest.{size}
 use Rattle.forest.specs.Lists.{sameBytes}
 use Rattle.lexemes.specs.Lists.{Items, is, item}
-use Rattle.lexemes.specs.Standing.{Source, Stands, bracketed, ends, word}
+use Rattle.lexemes.specs.code.Standing.{Source, Stands, bracketed, ends, word}
 use Rattle.lexemes.proofs.Standing.{forward}
-use Rattle.gathering.specs.Terms.{operandsOf, rawTerms}
+use Rattle.term_nodes.specs.Terms.{operandsOf, rawTerms}
 
 -- the operands of a list
 operands-fewer : (ops : Items) {i c : ℕ} → i ≤ c → i + size (rawTerms true ops) ≤ c → i + size (operandsOf ops) ≤ c

@@ -5,15 +5,15 @@ use mathlib.Core.Path.{_≡_, refl}
 use mathlib.Core.Bool.{false}
 use mathlib.Core.List.{List}
 use Rattle.forest.specs.Forest.{join, nodesOf, none, size, tree}
-use Rattle.forest.specs.Rows.{rows}
-use Rattle.lexemes.specs.Standing.{Stands}
-use Rattle.lexemes.specs.Table.{nextAt}
+use Rattle.forest.specs.code.Rows.{rows}
+use Rattle.lexemes.specs.code.Standing.{Stands}
+use Rattle.lexemes.specs.code.Table.{nextAt}
 use Rattle.lexemes.proofs.Standing.{by-itself}
-use Rattle.gathering.specs.Steps.{Gathered, Gathering, TermNodes, WordPast}
-use Rattle.gathering.specs.Table.{uncountedTable}
-use Rattle.gathering.specs.Terms.{rawTerm}
-use Rattle.gathering.proofs.Saying.{say-terms}
-use Rattle.bodies.specs.Steps.{Limited, TermAt}
+use Rattle.term_nodes.specs.code.Gathering.{Gathered, Gathering, TermNodes, WordPast}
+use Rattle.term_nodes.specs.code.Table.{uncountedTable}
+use Rattle.term_nodes.specs.Terms.{rawTerm}
+use Rattle.term_nodes.proofs.Saying.{say-terms}
+use Rattle.bodies.specs.code.Bodies.{Limited, TermAt}
 use Rattle.bodies.proofs.Fewer.{nodes-fewer}
 
 module _ {lexemes raw : List ℕ} {at : ℕ} where

@@ -4,16 +4,16 @@ use mathlib.Core.Path.{refl}
 use mathlib.Core.Bool.{false}
 use mathlib.Core.List.{List}
 use Rattle.forest.specs.Forest.{none, tree}
-use Rattle.lexemes.specs.Standing.{Stands}
-use Rattle.lexemes.specs.Table.{nextAt}
+use Rattle.lexemes.specs.code.Standing.{Stands}
+use Rattle.lexemes.specs.code.Table.{nextAt}
 use Rattle.lexemes.proofs.Standing.{by-itself}
-use Rattle.gathering.specs.Steps.{Counted, Counting}
-use Rattle.gathering.specs.Terms.{rawTerm}
-use Rattle.gathering.proofs.Saying.{say-terms}
-use Rattle.naming.specs.Steps.{Resolved, Resolving, sourceOf}
-use Rattle.naming.specs.declared.Seen.{Seen}
-use Rattle.bodies.specs.Steps.{Named, Naming}
-use Rattle.standing.proofs.Headed.{terms-headed}
+use Rattle.term_nodes.specs.code.Gathering.{Counted, Counting}
+use Rattle.term_nodes.specs.Terms.{rawTerm}
+use Rattle.term_nodes.proofs.Saying.{say-terms}
+use Rattle.names.specs.code.Lookup.{Resolved, Resolving, sourceOf}
+use Rattle.names.specs.declared.Seen.{Seen}
+use Rattle.bodies.specs.code.Bodies.{Named, Naming}
+use Rattle.term_faults.proofs.Headed.{terms-headed}
 
 module _ {text lexemes names raw nodes : List ℕ} {seen : Seen} {count base nowhere : ℕ} where
   -- the nodes of the term may be counted

@@ -6,14 +6,14 @@ use mathlib.Core.List.{List}
 use lib.ListN.{drop, length, length-append, length-drop, take}
 use lib.Seq.{take-all}
 use Rattle.forest.specs.Forest.{nodesOf}
-use Rattle.forest.specs.Rows.{rows}
-use Rattle.scanning.specs.Trees.{Lexeme}
-use Rattle.grammar.specs.Tables.{formTable}
+use Rattle.forest.specs.code.Rows.{rows}
+use Rattle.words.specs.Trees.{Lexeme}
+use Rattle.derivation.specs.code.Tables.{formTable}
 use Rattle.lexemes.specs.Lists.{Items}
-use Rattle.gathering.specs.Terms.{rawTerm, rawTerms}
-use Rattle.naming.specs.Scopes.{View, formsOf}
-use Rattle.faults.specs.Steps.{BodyFound, BodySought}
-use Rattle.bodies.specs.Steps.{noSorts}
+use Rattle.term_nodes.specs.Terms.{rawTerm, rawTerms}
+use Rattle.names.specs.Scopes.{View, formsOf}
+use Rattle.term_faults.specs.code.Seeking.{BodyFound, BodySought}
+use Rattle.bodies.specs.code.Bodies.{noSorts}
 
 -- a term has a form
 one-form : (view : View) (l : Lexeme) (ops : Items) → 0 < length (formTable (formsOf view (rawTerm l ops)))

@@ -1,17 +1,17 @@
 //! The three tests of a body.
 use crate::Body;
-use faults::bodies::body_fault;
-use gathering::gather::gather_terms;
-use gathering::limits::node_past;
-use gathering::sizes::count_nodes;
 use lexemes::next_at;
-use naming::Seen;
-use naming::forms::write_forms;
+use names::Seen;
+use names::forms::write_forms;
+use term_faults::bodies::body_fault;
+use term_nodes::gather::gather_terms;
+use term_nodes::limits::node_past;
+use term_nodes::sizes::count_nodes;
 ghost use mathlib.Core.Path.{_≡_};
 ghost use Prim.Native.Nat.{_*_};
 ghost use lib.ListN.{drop};
-ghost use Rattle.bodies.specs.Steps.{Limited, Named, Naming, TermAt, noSorts};
-ghost use Rattle.faults.specs.Steps.{BodyFound, BodySought};
+ghost use Rattle.bodies.specs.code.Bodies.{Limited, Named, Naming, TermAt, noSorts};
+ghost use Rattle.term_faults.specs.code.Seeking.{BodyFound, BodySought};
 
 // Gathers the nodes of the term at a word, and finds the node past the first `most`.
 pub fn body_limit(lexemes: &[u64], at: usize, raw: &mut [u64], most: usize, nowhere: usize) -> Body

@@ -4,17 +4,17 @@ use native.Mathlib.Omega.{arith}
 use mathlib.Core.Path.{_≡_, ap, refl, subst, subst⁻¹, _∙_}
 use mathlib.Core.List.{List}
 use lib.ListN.{drop, getD, length, take}
-use Rattle.script.specs.Tables.{firstsPlace, formsPlace}
-use Rattle.reader.proofs.Parts.{all-lent, formsLent}
+use Rattle.script.specs.code.Tables.{firstsPlace, formsPlace}
+use Rattle.script_reader.proofs.Parts.{all-lent, formsLent}
 use Rattle.script.specs.declared.Progress.{Progress}
 use Rattle.response.proofs.Picked.{order-length}
-use Rattle.texts.specs.Outcome.{offsetOf}
+use Rattle.script.specs.Outcome.{offsetOf}
 use Rattle.outcome.specs.Checked.{unshown}
 use Rattle.outcome.specs.declared.Outcome.{Outcome}
 use Rattle.outcome.proofs.Areas.{blank-long, unshown-blank}
 use Rattle.outcome.proofs.Deriving.{underived-within}
-use Rattle.derivations.specs.Steps.{Derivable, Judged}
-use Rattle.judging.specs.Steps.{BodiesDerived, Deriving, Sought}
+use Rattle.verdicts.specs.code.Deriving.{Derivable, Judged}
+use Rattle.checker.specs.code.Judging.{BodiesDerived, Deriving, Sought}
 
 -- the forms are all that is lent behind the terms
 pub lent-tables : (nodes : List ℕ) {places area : List ℕ} {p : Progress} → Derivable places (take formsPlace nodes) (drop formsPlace nodes) p area

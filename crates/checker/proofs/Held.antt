@@ -3,15 +3,15 @@ use Prim.Native.Nat.{ℕ, _+_}
 use mathlib.Core.List.{List}
 use mathlib.Core.Path.{_≡_}
 use Rattle.script.specs.Script.{Known}
-use Rattle.script.specs.Tables.{TablesHold}
+use Rattle.script.specs.code.Tables.{TablesHold}
 use Rattle.script.specs.declared.Progress.{Progress}
 use Rattle.script.specs.declared.Verdict.{Verdict}
-use Rattle.response.specs.Response.{Body}
-use Rattle.texts.specs.Outcome.{given, responseOutcome}
-use Rattle.texts.specs.Steps.{ResponseTold}
-use Rattle.assured.specs.Assured.{Assured}
-use Rattle.assured.specs.Held.{Held}
-use Rattle.assured.proofs.Response.{response-fits}
+use Rattle.script.specs.Response.{Body}
+use Rattle.script.specs.Outcome.{given, responseOutcome}
+use Rattle.texts.specs.code.Texts.{ResponseTold}
+use Rattle.outcome.specs.code.Assured.{Assured}
+use Rattle.verdicts.specs.code.Held.{Held}
+use Rattle.verdicts.proofs.ResponseFits.{response-fits}
 
 -- They hold what the script says and the bodies that the response gives.
 pub held : (response : List ℕ) (v : Verdict) {names places nodes forms placesAfter nodesAfter : List ℕ} {p : Progress} {k : Known} {bs : List Body} → Assured k

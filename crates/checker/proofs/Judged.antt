@@ -4,11 +4,11 @@ use native.Mathlib.Omega.{arith}
 use mathlib.Core.Path.{_≡_, refl, sym, ap, subst, _∙_}
 use mathlib.Core.List.{List}
 use lib.ListN.{drop, length, take}
-use Rattle.running.specs.Points.{pointsOf}
-use Rattle.running.specs.declared.PointList.{PointList}
-use Rattle.running.specs.declared.PointList.the-variants.{Good, Bad}
-use Rattle.naming.specs.Scopes.{namedSorts}
-use Rattle.script.specs.Tables.{formsPlace}
+use Rattle.evaluation.specs.Points.{pointsOf}
+use Rattle.evaluation.specs.declared.PointList.{PointList}
+use Rattle.evaluation.specs.declared.PointList.the-variants.{Good, Bad}
+use Rattle.names.specs.Scopes.{namedSorts}
+use Rattle.script.specs.code.Tables.{formsPlace}
 use Rattle.script.specs.declared.Progress.{Progress}
 use Rattle.outcome.specs.Checked.{Judgement, evaluated, points-refused, underived}
 use Rattle.outcome.specs.Demands.{Showing}
@@ -17,8 +17,8 @@ use Rattle.outcome.specs.Evaluated.{ranWith}
 use Rattle.outcome.specs.declared.Outcome.{Outcome}
 use Rattle.outcome.proofs.Areas.{blank-long, unshown-blank}
 use Rattle.outcome.proofs.Stages.{not-showing, ran-showing}
-use Rattle.evaluation.specs.Steps.{Evaluable, pointsOutcome}
-use Rattle.judging.specs.Steps.{BodiesDerived, Deriving, PointsJudged}
+use Rattle.verdicts.specs.code.Evaluating.{Evaluable, pointsOutcome}
+use Rattle.checker.specs.code.Judging.{BodiesDerived, Deriving, PointsJudged}
 
 module _ {response places nodes area : List ℕ} {p : Progress} (q : Deriving response places nodes p area) where
   -- what the evaluation asks

@@ -5,29 +5,29 @@ use mathlib.Core.Path.{_≡_, refl, sym, ap, subst, _∙_}
 use mathlib.Core.List.{List}
 use lib.ListN.{drop, getD-replicate, length, length-replicate, replicate, take}
 use lib.Seq.{length-take-le}
-use Rattle.scanning.specs.Reading.{readingOf}
-use Rattle.readings.specs.Answers.{numberOf}
-use Rattle.readings.specs.Limits.{responseLimits}
-use Rattle.readings.specs.declared.Reading.{Reading}
-use Rattle.readings.specs.declared.Reading.the-variants.{Whole, Refused}
-use Rattle.naming.specs.Steps.{Names}
+use Rattle.words.specs.Reading.{readingOf}
+use Rattle.words.specs.Answers.{numberOf}
+use Rattle.words.specs.Limits.{responseLimits}
+use Rattle.words.specs.declared.Reading.{Reading}
+use Rattle.words.specs.declared.Reading.the-variants.{Whole, Refused}
+use Rattle.names.specs.code.Lookup.{Names}
 use Rattle.script.specs.Script.{Known}
-use Rattle.script.specs.Tables.{formsPlace}
+use Rattle.script.specs.code.Tables.{formsPlace}
 use Rattle.script.specs.declared.Progress.{Progress}
 use Rattle.script.specs.declared.Verdict.{Verdict}
-use Rattle.reader.specs.declared.Step.{Step}
-use Rattle.reader.proofs.Parts.{Parts}
-use Rattle.response.specs.Response.{Body}
-use Rattle.texts.specs.Outcome.{ResponseOutcome, ScriptOutcome, byResponse, given, responseOutcome, said, scriptOutcome}
-use Rattle.texts.specs.Steps.{ReadWhole, Ready, ResponseRead, ResponseTold, ScriptRead, ScriptTold}
-use Rattle.texts.proofs.Numbers.{Numbered, inResponse, inScript, response-numbered, script-numbered}
-use Rattle.assured.proofs.Held.{held}
-use Rattle.assured.proofs.Script.{script-assured}
+use Rattle.script_reader.specs.declared.Step.{Step}
+use Rattle.script_reader.proofs.Parts.{Parts}
+use Rattle.script.specs.Response.{Body}
+use Rattle.script.specs.Outcome.{ResponseOutcome, ScriptOutcome, byResponse, given, responseOutcome, said, scriptOutcome}
+use Rattle.texts.specs.code.Texts.{ReadWhole, Ready, ResponseRead, ResponseTold, ScriptRead, ScriptTold}
+use Rattle.script.proofs.Numbers.{Numbered, inResponse, inScript, response-numbered, script-numbered}
+use Rattle.checker.proofs.Held.{held}
+use Rattle.outcome.proofs.Script.{script-assured}
 use Rattle.outcome.specs.Checked.{Checked, Passing, judged, refusal}
 use Rattle.outcome.specs.declared.Outcome.{Outcome}
-use Rattle.judging.specs.Steps.{BodiesDerived, BothHeld, Deriving, Judging, PointsJudged, TextsRead}
-use Rattle.judging.specs.declared.verdicts.Told.{Told}
-use Rattle.judging.proofs.Judged.{all-derive, none-derives}
+use Rattle.checker.specs.code.Judging.{BodiesDerived, BothHeld, Deriving, Judging, PointsJudged, TextsRead}
+use Rattle.checker.specs.declared.judge.Told.{Told}
+use Rattle.checker.proofs.Judged.{all-derive, none-derives}
 
 -- a table of zeros is one of names
 pub blank-names : Names (replicate 9504 0)

@@ -8,13 +8,13 @@ use mathlib.Core.Option.{none as nothing, some}
 use borrow.Author.Tests.{eq-eqb, le-ltb, lt-ltb, ne-eqb}
 use lib.Dec.{eqb}
 use lib.ListN.{length}
-use Rattle.grammar.specs.Answer.{areaSize}
+use Rattle.derivation.specs.Answer.{areaSize}
 use Rattle.outcome.specs.Checked.{Checked, judged, missized, refusal, response-refused, script-refused, sizeAnswer, unshown}
 use Rattle.outcome.specs.Derived.{blankArea}
 use Rattle.outcome.specs.declared.Outcome.{Outcome}
 use Rattle.outcome.proofs.Areas.{blank-long, unshown-blank}
-use Rattle.judging.specs.Steps.{Judging}
-use Rattle.checker.specs.Steps.{SizesTold}
+use Rattle.checker.specs.code.Judging.{Judging}
+use Rattle.checker.specs.code.Sizes.{SizesTold}
 
 -- where the script, the response and the points are short enough, the area's size is left to test
 area-left : (script response points area : List ℕ) → length script ≤ 32768 → length response ≤ 8192 → length points ≤ 1024

@@ -3,7 +3,7 @@ use crate::check;
 use words::word_at;
 ghost use mathlib.Core.Path.{_≡_};
 ghost use lib.ListN.{length};
-ghost use Rattle.scanning.specs.Words.{enquired};
+ghost use Rattle.words.specs.Words.{enquired};
 ghost use Rattle.outcome.specs.Checked.{Checked};
 
 // `check` for C: returns the answer's number and puts its text, its place, its second number and its units where the caller lends room for them.

@@ -1,7 +1,5 @@
 //! The two texts, the derivations and the points, in their order.
 use crate::area::blank_area;
-use derivations::derive_all;
-use evaluation::evaluate;
 use outcome::Outcome;
 use outcome::refusal;
 use script::FORMS;
@@ -10,16 +8,18 @@ use script::Verdict;
 use texts::responses::read_response_text;
 use texts::responses::word_offset;
 use texts::scripts::read_script_text;
+use verdicts::derive::derive_all;
+use verdicts::evaluate::evaluate;
 ghost use mathlib.Core.Path.{_≡_};
 ghost use lib.ListN.{drop, getD, length, take};
 ghost use Prim.Native.Nat.{_+_, _≤_, _<_};
-ghost use Rattle.script.specs.Tables.{firstsPlace, formsPlace};
-ghost use Rattle.naming.specs.Steps.{Names};
-ghost use Rattle.texts.specs.Steps.{Ready, ResponseRead};
+ghost use Rattle.script.specs.code.Tables.{firstsPlace, formsPlace};
+ghost use Rattle.names.specs.code.Lookup.{Names};
+ghost use Rattle.texts.specs.code.Texts.{Ready, ResponseRead};
 ghost use Rattle.outcome.specs.Checked.{Checked};
-ghost use Rattle.derivations.specs.Steps.{Derivable, Judged};
-ghost use Rattle.evaluation.specs.Steps.{Evaluable};
-ghost use Rattle.judging.specs.Steps.{Judging, TextsRead, Deriving, BodiesDerived, PointsJudged};
+ghost use Rattle.verdicts.specs.code.Deriving.{Derivable, Judged};
+ghost use Rattle.verdicts.specs.code.Evaluating.{Evaluable};
+ghost use Rattle.checker.specs.code.Judging.{Judging, TextsRead, Deriving, BodiesDerived, PointsJudged};
 
 // The answer on two texts, whose number is 0 where both pass; and what the script has said.
 struct Told {

@@ -1,10 +1,13 @@
 //! The checker: a script, a response, a list of points and a budget, and one answer.
+//! The verdict on two texts of right sizes: what reading them, deriving the bodies and evaluating the constraints give, in their order.
+pub mod area;
 pub mod exports;
+pub mod judge;
 mod sizes;
 
+use crate::area::blank_area;
+use crate::judge::judge_texts;
 use crate::sizes::size_answer;
-use judging::area::blank_area;
-use judging::verdicts::judge_texts;
 use outcome::Outcome;
 ghost use Rattle.outcome.specs.Checked.{Checked};
 

@@ -1,8 +1,8 @@
 //! The sizes of what is lent: answer 1.
-use judging::area::AREA;
+use crate::area::AREA;
 use outcome::Outcome;
 use outcome::refusal;
-ghost use Rattle.checker.specs.Steps.{SizesTold};
+ghost use Rattle.checker.specs.code.Sizes.{SizesTold};
 
 // The number of an answer for what is too long, or not of its size.
 const TOO_LONG: usize = 1;

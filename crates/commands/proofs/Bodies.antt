@@ -7,31 +7,31 @@ use mathlib.Core.List.{List, [], _++_}
 use lib.ListN.{length}
 use lib.Seq.{sets}
 use Rattle.forest.specs.Forest.{count, size, tree}
-use Rattle.bits.specs.Sorts.{maxWidth}
-use Rattle.grammar.specs.Tables.{formTable}
-use Rattle.scanning.specs.Trees.{Lexeme, wordOf}
+use Rattle.operators.specs.Sorts.{maxWidth}
+use Rattle.derivation.specs.code.Tables.{formTable}
+use Rattle.words.specs.Trees.{Lexeme, wordOf}
 use Rattle.lexemes.specs.Lists.{Items, after, inside, isList, item}
-use Rattle.lexemes.specs.Standing.{ListAt, Source, Stands}
-use Rattle.lexemes.specs.Table.{nextAt}
+use Rattle.lexemes.specs.code.Standing.{ListAt, Source, Stands}
+use Rattle.lexemes.specs.code.Table.{nextAt}
 use Rattle.lexemes.proofs.Listed.{from-item}
 use Rattle.lexemes.proofs.Standing.{by-itself, forward, here, here-as}
 use Rattle.shapes.specs.Shapes.{termShape}
-use Rattle.sorts.proofs.Walked.{placed}
-use Rattle.gathering.specs.Table.{uncountedTable}
-use Rattle.gathering.specs.Terms.{rawTerm}
-use Rattle.gathering.proofs.Saying.{say-terms}
-use Rattle.naming.specs.Scopes.{View, formsOf}
-use Rattle.naming.specs.Steps.{Sees, sourceOf}
-use Rattle.naming.specs.declared.Seen.{Seen}
-use Rattle.faults.specs.Steps.{Lawful, Signed}
-use Rattle.bodies.specs.Steps.{Limited, TermAt}
+use Rattle.written_sorts.proofs.Walked.{placed}
+use Rattle.term_nodes.specs.code.Table.{uncountedTable}
+use Rattle.term_nodes.specs.Terms.{rawTerm}
+use Rattle.term_nodes.proofs.Saying.{say-terms}
+use Rattle.names.specs.Scopes.{View, formsOf}
+use Rattle.names.specs.code.Lookup.{Sees, sourceOf}
+use Rattle.names.specs.declared.Seen.{Seen}
+use Rattle.term_faults.specs.code.Seeking.{Lawful, Signed}
+use Rattle.bodies.specs.code.Bodies.{Limited, TermAt}
 use Rattle.bodies.specs.declared.Body.{Body}
 use Rattle.script.specs.Script.{termOf}
-use Rattle.script.specs.Tables.{CommandAt}
+use Rattle.script.specs.code.Tables.{CommandAt}
 use Rattle.script.proofs.Nodes.{Grown}
 use Rattle.script.proofs.Terms.{term-plain, term-size, term-table, term-tree}
-use Rattle.defining.specs.Steps.{Judging}
-use Rattle.defining.proofs.Judging.{item-ends}
+use Rattle.commands.specs.code.Defining.{Judging}
+use Rattle.commands.proofs.Judging.{item-ends}
 
 -- A term stands at word i of a lawful text of so many words, before word `close`.
 pub record BodyAt (text lexemes : List ℕ) (i nowhere close : ℕ) (label : Lexeme) (operands : Items) : Type 0 where

@@ -12,35 +12,35 @@ use borrow.Author.Tests.{eqb-true}
 use Rattle.forest.specs.Forest.{count, nodesOf}
 use Rattle.forest.specs.Lists.{sameBytes}
 use Rattle.forest.proofs.Bools.{and-left, and-right}
-use Rattle.reserved.specs.Reserved.{isWord}
+use Rattle.lexemes.specs.Reserved.{isWord}
 use Rattle.lexemes.specs.Lists.{Items, after, inside, isList, item}
 use Rattle.lexemes.proofs.ByCode.{codeFor}
 use Rattle.shapes.specs.Shapes.{commandShape, constraintShape, termShape}
-use Rattle.sorts.proofs.Walked.{named-word}
-use Rattle.gathering.specs.Terms.{rawTerm}
-use Rattle.heading.specs.Heads.{allowed}
-use Rattle.sorting.specs.Tables.{SortsAre}
-use Rattle.naming.specs.Steps.{Sees}
-use Rattle.naming.specs.Table.{namesFrom}
-use Rattle.naming.specs.declared.Seen.{Seen}
-use Rattle.faults.specs.Faults.{bodyFault}
-use Rattle.faults.specs.Steps.{Signed}
-use Rattle.bodies.specs.Steps.{Limited, TermAt}
+use Rattle.written_sorts.proofs.Walked.{named-word}
+use Rattle.term_nodes.specs.Terms.{rawTerm}
+use Rattle.headers.specs.Heads.{allowed}
+use Rattle.term_sorts.specs.code.Signatures.{SortsAre}
+use Rattle.names.specs.code.Lookup.{Sees}
+use Rattle.names.specs.code.Table.{namesFrom}
+use Rattle.names.specs.declared.Seen.{Seen}
+use Rattle.term_faults.specs.Faults.{bodyFault}
+use Rattle.term_faults.specs.code.Seeking.{Signed}
+use Rattle.bodies.specs.code.Bodies.{Limited, TermAt}
 use Rattle.bodies.specs.declared.Body.{Body}
 use Rattle.script.specs.Limits.{commandPast, nodePast}
 use Rattle.script.specs.Naming.{termNames}
 use Rattle.script.specs.Script.{Known, constraintView, grammarPlace, knownAfter, limitPlace, namePlace, sortingPlace, termOf}
-use Rattle.script.specs.Tables.{After, CommandOf, Tested}
+use Rattle.script.specs.code.Tables.{After, CommandOf, Tested}
 use Rattle.script.specs.declared.Progress.{Progress}
 use Rattle.script.specs.declared.Verdict.{Verdict}
 use Rattle.script.proofs.Commands.{Chosen, chosen}
 use Rattle.script.proofs.Nodes.{constraint-held}
 use Rattle.script.proofs.Places.{command-word}
 use Rattle.script.proofs.Verdicts.{says-limit}
-use Rattle.defining.specs.Steps.{Constrained, Constraining, Judged, Judging, verdictOf}
-use Rattle.defining.proofs.Bodies.{BodyAt, behind-word, body-below, body-grown, body-judging, body-term, body-within, close-below, item-stands}
-use Rattle.defining.proofs.Judging.{unknown-low}
-use Rattle.defining.proofs.Verdicts.{body-says, command-fits, fault-low, passed-rows}
+use Rattle.commands.specs.code.Defining.{Constrained, Constraining, Judged, Judging, verdictOf}
+use Rattle.commands.proofs.Bodies.{BodyAt, behind-word, body-below, body-grown, body-judging, body-term, body-within, close-below, item-stands}
+use Rattle.commands.proofs.Judging.{unknown-low}
+use Rattle.commands.proofs.Verdicts.{body-says, command-fits, fault-low, passed-rows}
 
 -- The rows that a `constraint` sees.
 abbrev pub constraintSeen : Progress → Seen

@@ -3,21 +3,21 @@ use Prim.Native.Nat.{ℕ, _+_, _≤_, _<_, min}
 use native.Mathlib.Omega.{arith}
 use mathlib.Core.Path.{_≡_, refl, sym, ap, ap₂, _∙_}
 use mathlib.Core.List.{List}
-use Rattle.lexemes.specs.Table.{nextAt}
-use Rattle.sorts.specs.Steps.{HeaderAt}
-use Rattle.heading.specs.Heads.{allowed}
-use Rattle.heading.specs.Steps.{HeadLimited}
-use Rattle.bodies.specs.Steps.{Limited, TermAt}
+use Rattle.lexemes.specs.code.Table.{nextAt}
+use Rattle.written_sorts.specs.code.Places.{HeaderAt}
+use Rattle.headers.specs.Heads.{allowed}
+use Rattle.headers.specs.code.Heading.{HeadLimited}
+use Rattle.bodies.specs.code.Bodies.{Limited, TermAt}
 use Rattle.bodies.specs.declared.Body.{Body}
 use Rattle.script.specs.Limits.{commandPast}
 use Rattle.script.specs.Script.{limitPlace}
-use Rattle.script.specs.Tables.{After}
+use Rattle.script.specs.code.Tables.{After}
 use Rattle.script.specs.declared.Progress.{Progress}
 use Rattle.script.specs.declared.Verdict.{Verdict}
 use Rattle.script.proofs.Verdicts.{says-limit}
-use Rattle.defining.specs.Steps.{Defined, Defining, Settled, Within}
-use Rattle.defining.proofs.Bodies.{body-term, body-within}
-use Rattle.defining.proofs.Definitions.{body-behind, body-here, header-here, is-definition, limit-is}
+use Rattle.commands.specs.code.Defining.{Defined, Defining, Settled, Within}
+use Rattle.commands.proofs.Bodies.{body-term, body-within}
+use Rattle.commands.proofs.Definitions.{body-behind, body-here, header-here, is-definition, limit-is}
 
 module _ {text lexemes names raw places nodes : List ℕ} {p : Progress} {at nowhere : ℕ} where
   -- Its header.

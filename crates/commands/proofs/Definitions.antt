@@ -10,29 +10,29 @@ use borrow.Author.Tests.{eqb-true}
 use Rattle.forest.specs.Forest.{count}
 use Rattle.forest.specs.Lists.{sameBytes}
 use Rattle.forest.proofs.Bools.{and-left, and-right, apart}
-use Rattle.reserved.specs.Reserved.{isWord}
-use Rattle.scanning.specs.Trees.{Lexeme, list, literal, numeral, symbol}
+use Rattle.lexemes.specs.Reserved.{isWord}
+use Rattle.words.specs.Trees.{Lexeme, list, literal, numeral, symbol}
 use Rattle.lexemes.specs.Lists.{Items, after, inside, isSymbol, item, nameOf}
-use Rattle.lexemes.specs.Standing.{Stands}
-use Rattle.lexemes.specs.Table.{nextAt}
+use Rattle.lexemes.specs.code.Standing.{Stands}
+use Rattle.lexemes.specs.code.Table.{nextAt}
 use Rattle.lexemes.proofs.ByCode.{codeFor}
 use Rattle.lexemes.proofs.Standing.{forward, here}
 use Rattle.shapes.specs.Shapes.{commandShape, defineFunShape, headerShape, termShape}
-use Rattle.sorts.specs.Steps.{HeaderAt}
-use Rattle.sorts.specs.Written.{headerPlace, sortOf}
-use Rattle.sorts.specs.declared.Fault.the-variants.{Empty}
-use Rattle.sorts.proofs.Walked.{symbol-word}
-use Rattle.heading.specs.Heads.{allowed, headerNames, headerPast}
-use Rattle.naming.specs.Scopes.{Defined, namedSorts}
-use Rattle.naming.specs.Steps.{sourceOf}
-use Rattle.faults.specs.Faults.{bodyFault}
+use Rattle.written_sorts.specs.code.Places.{HeaderAt}
+use Rattle.written_sorts.specs.Written.{headerPlace, sortOf}
+use Rattle.written_sorts.specs.declared.Fault.the-variants.{Empty}
+use Rattle.written_sorts.proofs.Walked.{symbol-word}
+use Rattle.headers.specs.Heads.{allowed, headerNames, headerPast}
+use Rattle.names.specs.Scopes.{Defined, namedSorts}
+use Rattle.names.specs.code.Lookup.{sourceOf}
+use Rattle.term_faults.specs.Faults.{bodyFault}
 use Rattle.script.specs.Limits.{commandPast, nodePast}
 use Rattle.script.specs.Naming.{termNames}
 use Rattle.script.specs.Script.{Known, argumentsOf, bodyView, grammarPlace, knownAfter, limitPlace, namePlace, scope, sortingPlace, termOf}
-use Rattle.script.specs.Tables.{CommandOf}
+use Rattle.script.specs.code.Tables.{CommandOf}
 use Rattle.script.specs.declared.Progress.{Progress}
 use Rattle.script.proofs.Commands.{Chosen, chosen}
-use Rattle.defining.proofs.Bodies.{BodyAt, behind-word, close-below, item-stands, listed, next-stands}
+use Rattle.commands.proofs.Bodies.{BodyAt, behind-word, close-below, item-stands, listed, next-stands}
 
 -- The items of a `define-fun`.
 record Parts (c : Items) : Type 0 where

@@ -10,26 +10,26 @@ use borrow.Author.Tests.{le-ltb, lt-ltb}
 use Rattle.forest.specs.Forest.{Forest, Node, nodesOf, none, size, tree}
 use Rattle.forest.proofs.Nodes.{length-nodes}
 use Rattle.forest.proofs.Rows.{length-rows}
-use Rattle.grammar.specs.Tables.{formTable, itemRow}
-use Rattle.scanning.specs.Trees.{Lexeme}
+use Rattle.derivation.specs.code.Tables.{formTable, itemRow}
+use Rattle.words.specs.Trees.{Lexeme}
 use Rattle.lexemes.specs.Lists.{Items}
-use Rattle.lexemes.specs.Standing.{Source, Stands, bracketed, word}
-use Rattle.lexemes.specs.Table.{nextAt}
+use Rattle.lexemes.specs.code.Standing.{Source, Stands, bracketed, word}
+use Rattle.lexemes.specs.code.Table.{nextAt}
 use Rattle.lexemes.proofs.ByCode.{code-pos}
 use Rattle.lexemes.proofs.Standing.{by-itself}
-use Rattle.gathering.specs.Steps.{AllSay}
-use Rattle.gathering.specs.Table.{rawRow, rawTable, uncounted, uncountedTable}
-use Rattle.gathering.specs.Terms.{Raw, rawTerm}
-use Rattle.gathering.proofs.Saying.{say-terms}
-use Rattle.naming.specs.Scopes.{View, formsOf}
-use Rattle.naming.specs.Steps.{sourceOf}
-use Rattle.naming.specs.Unknown.{unknownIn}
-use Rattle.naming.specs.declared.Seen.{Seen}
-use Rattle.faults.specs.Steps.{BodyFound, BodySought, Lawful, Rising}
-use Rattle.standing.proofs.Rising.{rising-wider, terms-rise}
-use Rattle.bodies.specs.Steps.{Named, Naming, noSorts}
+use Rattle.term_nodes.specs.code.Gathering.{AllSay}
+use Rattle.term_nodes.specs.code.Table.{rawRow, rawTable, uncounted, uncountedTable}
+use Rattle.term_nodes.specs.Terms.{Raw, rawTerm}
+use Rattle.term_nodes.proofs.Saying.{say-terms}
+use Rattle.names.specs.Scopes.{View, formsOf}
+use Rattle.names.specs.code.Lookup.{sourceOf}
+use Rattle.names.specs.Unknown.{unknownIn}
+use Rattle.names.specs.declared.Seen.{Seen}
+use Rattle.term_faults.specs.code.Seeking.{BodyFound, BodySought, Lawful, Rising}
+use Rattle.term_faults.proofs.Rising.{rising-wider, terms-rise}
+use Rattle.bodies.specs.code.Bodies.{Named, Naming, noSorts}
 use Rattle.script.proofs.Terms.{forms-size}
-use Rattle.defining.specs.Steps.{Judged, Judging}
+use Rattle.commands.specs.code.Defining.{Judged, Judging}
 
 -- The least word with an unknown name is at most nowhere.
 pub unknown-low : (nowhere : ℕ) (view : View) (nodes : List (Node Raw)) → unknownIn nowhere view nodes ≤ nowhere

@@ -1,3 +1,6 @@
+pub mod Parts
+pub mod Putting
+pub mod Testing
 pub mod Judging
 pub mod Bodies
 pub mod Verdicts

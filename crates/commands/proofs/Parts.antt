@@ -10,20 +10,20 @@ use borrow.Author.Tests.{eqb-true}
 use Rattle.forest.specs.Forest.{count}
 use Rattle.forest.specs.Lists.{sameBytes}
 use Rattle.forest.proofs.Bools.{and-left, and-right}
-use Rattle.reserved.specs.Reserved.{isWord}
+use Rattle.lexemes.specs.Reserved.{isWord}
 use Rattle.lexemes.specs.Lists.{Items, inside, isList, isSymbol, item}
-use Rattle.lexemes.specs.Standing.{ItemAt, ListAt}
+use Rattle.lexemes.specs.code.Standing.{ItemAt, ListAt}
 use Rattle.lexemes.proofs.ByCode.{codeFor}
 use Rattle.lexemes.proofs.Listed.{item-room}
 use Rattle.shapes.specs.Shapes.{commandShape, declareVarShape, sortShape}
-use Rattle.sorts.specs.Steps.{SortAt}
-use Rattle.sorts.proofs.Parts.{shaped-come}
-use Rattle.sorts.proofs.Walked.{Come, come-behind, come-first, item-come, named-word, symbol-word}
-use Rattle.naming.specs.Steps.{sourceOf}
-use Rattle.script.specs.Tables.{CommandOf}
+use Rattle.written_sorts.specs.code.Places.{SortAt}
+use Rattle.written_sorts.proofs.Parts.{shaped-come}
+use Rattle.written_sorts.proofs.Walked.{Come, come-behind, come-first, item-come, named-word, symbol-word}
+use Rattle.names.specs.code.Lookup.{sourceOf}
+use Rattle.script.specs.code.Tables.{CommandOf}
 use Rattle.script.specs.declared.Progress.{Progress}
 use Rattle.script.proofs.Commands.{Chosen, chosen}
-use Rattle.variables.specs.Steps.{VariableAt}
+use Rattle.commands.specs.code.Declaring.{VariableAt}
 
 -- A variable's name and sort.
 pub record VariableParts (c : Items) : Type 0 where

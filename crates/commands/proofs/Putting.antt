@@ -6,19 +6,19 @@ use mathlib.Core.Path.{_≡_, ap, ap₂, _∙_}
 use lib.ListN.{length, length-append}
 use lib.Seq.{sets}
 use Rattle.lexemes.specs.Lists.{inside, item, nameOf}
-use Rattle.sorts.specs.Steps.{SortAt}
-use Rattle.sorts.specs.Written.{sortOf}
-use Rattle.naming.specs.Scopes.{Named, namesOf, namedSorts}
-use Rattle.naming.specs.Steps.{bytesAt}
-use Rattle.naming.specs.Table.{definedRow, functionRow, longest, nameRow, namesFrom, ownArgumentRow, sortsFrom, variableRow}
-use Rattle.naming.proofs.Putting.{Put, put-row}
-use Rattle.declaring.proofs.Testing.{SymbolAt, symbol-at}
+use Rattle.written_sorts.specs.code.Places.{SortAt}
+use Rattle.written_sorts.specs.Written.{sortOf}
+use Rattle.names.specs.Scopes.{Named, namesOf, namedSorts}
+use Rattle.names.specs.code.Lookup.{bytesAt}
+use Rattle.names.specs.code.Table.{definedRow, functionRow, longest, nameRow, namesFrom, ownArgumentRow, sortsFrom, variableRow}
+use Rattle.names.proofs.Putting.{Put, put-row}
+use Rattle.names.proofs.Testing.{SymbolAt, symbol-at}
 use Rattle.script.specs.Script.{knownAfter}
-use Rattle.script.specs.Tables.{After, NamesHold}
+use Rattle.script.specs.code.Tables.{After, NamesHold}
 use Rattle.script.specs.declared.Progress.{Progress}
 use Rattle.script.proofs.Names.{names-kept, one-name-more, one-sort-more, same-before, same-behind}
-use Rattle.variables.specs.Steps.{Added, Adding, Declaring}
-use Rattle.variables.proofs.Parts.{is-declaring, name-item, parts, sort-here}
+use Rattle.commands.specs.code.Declaring.{Added, Adding, Declaring}
+use Rattle.commands.proofs.Parts.{is-declaring, name-item, parts, sort-here}
 
 module _ {text lexemes names : List ℕ} {row i : ℕ} (a : Adding text lexemes names row i) where
   -- The symbol that is its name.

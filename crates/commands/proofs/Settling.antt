@@ -9,41 +9,41 @@ use lib.Seq.{drop-drop, drop-set-lt, length-sets}
 use Rattle.forest.specs.Forest.{count as treeCount}
 use Rattle.forest.specs.Lists.{sameBytes}
 use Rattle.lexemes.specs.Lists.{inside, item, nameOf}
-use Rattle.lexemes.specs.Standing.{Between}
-use Rattle.lexemes.specs.Table.{nextAt}
-use Rattle.sorting.specs.Tables.{RowsAre, SortsAre}
-use Rattle.sorts.specs.Steps.{HeaderAt, SortAt}
-use Rattle.sorts.specs.Written.{headerPlace, sortOf}
-use Rattle.sorts.specs.declared.Fault.the-variants.{Empty, Unknown}
-use Rattle.sorts.proofs.Commands.{header-sort}
-use Rattle.naming.specs.Scopes.{definedNames, inOrder, isNamed, namedSorts}
-use Rattle.naming.specs.Steps.{Sees}
-use Rattle.naming.specs.Table.{definedRow, functionRow, namesFrom, ownArgumentRow, sortsFrom, variableRow}
-use Rattle.naming.specs.declared.Seen.{Seen}
-use Rattle.naming.proofs.Putting.{SameRows}
-use Rattle.declaring.specs.Steps.{namesIn}
-use Rattle.declaring.proofs.Members.{same-members, same-name}
-use Rattle.signatures.specs.Steps.{Signing}
-use Rattle.signatures.proofs.Signed.{back-kept}
-use Rattle.heading.specs.Heads.{allowed, headerNames}
-use Rattle.heading.specs.Steps.{HeadAt, HeadNamed}
-use Rattle.heading.proofs.Parts.{items-between}
-use Rattle.faults.specs.Faults.{bodyFault}
-use Rattle.faults.specs.Steps.{Signed}
+use Rattle.lexemes.specs.code.Standing.{Between}
+use Rattle.lexemes.specs.code.Table.{nextAt}
+use Rattle.term_sorts.specs.code.Signatures.{RowsAre, SortsAre}
+use Rattle.written_sorts.specs.code.Places.{HeaderAt, SortAt}
+use Rattle.written_sorts.specs.Written.{headerPlace, sortOf}
+use Rattle.written_sorts.specs.declared.Fault.the-variants.{Empty, Unknown}
+use Rattle.written_sorts.proofs.Commands.{header-sort}
+use Rattle.names.specs.Scopes.{definedNames, inOrder, isNamed, namedSorts}
+use Rattle.names.specs.code.Lookup.{Sees}
+use Rattle.names.specs.code.Table.{definedRow, functionRow, namesFrom, ownArgumentRow, sortsFrom, variableRow}
+use Rattle.names.specs.declared.Seen.{Seen}
+use Rattle.names.proofs.Putting.{SameRows}
+use Rattle.names.specs.code.NewNames.{namesIn}
+use Rattle.names.proofs.Members.{same-members, same-name}
+use Rattle.script.specs.code.Signing.{Signing}
+use Rattle.script.proofs.Signed.{back-kept}
+use Rattle.headers.specs.Heads.{allowed, headerNames}
+use Rattle.headers.specs.code.Heading.{HeadAt, HeadNamed}
+use Rattle.headers.proofs.Parts.{items-between}
+use Rattle.term_faults.specs.Faults.{bodyFault}
+use Rattle.term_faults.specs.code.Seeking.{Signed}
 use Rattle.script.specs.Naming.{termNames}
 use Rattle.script.specs.Script.{argumentsOf, bodyView, namePlace, scope, sortingPlace}
-use Rattle.script.specs.Tables.{After, NamesHold, Tested}
+use Rattle.script.specs.code.Tables.{After, NamesHold, Tested}
 use Rattle.script.specs.declared.Progress.{Progress}
 use Rattle.script.specs.declared.Verdict.{Verdict}
 use Rattle.script.proofs.Headers.{Narrow, head-narrow}
 use Rattle.script.proofs.Names.{few-before, names-kept, one-more-in-order, same-before, same-behind, same-scope, same-through}
 use Rattle.script.proofs.Nodes.{definition-held}
 use Rattle.script.proofs.Places.{command-below, command-word}
-use Rattle.defining.specs.Steps.{DefinitionPut, Judged, Judging, Putting, Settled, Within, scopeBefore, verdictOf}
-use Rattle.defining.proofs.Bodies.{body-grown, body-judging}
-use Rattle.defining.proofs.Definitions.{body-here, definedBy, first-symbol, headed, header-here, is-definition, limit-is, long-enough}
-use Rattle.defining.proofs.Definitions.{names-are, no-grammar, one-more, same-constraints, same-functions, same-variables, sorts-are}
-use Rattle.defining.proofs.Verdicts.{body-says, command-fits, passed-rows}
+use Rattle.commands.specs.code.Defining.{DefinitionPut, Judged, Judging, Putting, Settled, Within, scopeBefore, verdictOf}
+use Rattle.commands.proofs.Bodies.{body-grown, body-judging}
+use Rattle.commands.proofs.Definitions.{body-here, definedBy, first-symbol, headed, header-here, is-definition, limit-is, long-enough}
+use Rattle.commands.proofs.Definitions.{names-are, no-grammar, one-more, same-constraints, same-functions, same-variables, sorts-are}
+use Rattle.commands.proofs.Verdicts.{body-says, command-fits, passed-rows}
 
 -- The rows that a body with so many arguments sees.
 abbrev pub bodySeen : Progress → (count : ℕ) → Seen

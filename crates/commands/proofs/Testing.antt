@@ -6,24 +6,24 @@ use mathlib.Core.Path.{_≡_, refl, ap, ap₂, _∙_}
 use lib.Dec.{ltb}
 use borrow.Author.Tests.{le-ltb, lt-ltb, ltb-true}
 use Rattle.lexemes.specs.Lists.{inside, item}
-use Rattle.sorts.specs.Steps.{SortAt}
-use Rattle.sorts.specs.Written.{sortPlace}
-use Rattle.sorts.specs.declared.Fault.the-variants.{TooWide, Unknown, Empty}
-use Rattle.heading.specs.Heads.{allowed}
-use Rattle.naming.specs.Table.{argumentRow, namesFrom, variableRow}
-use Rattle.declaring.specs.Steps.{NameTested, NewName}
-use Rattle.declaring.proofs.Members.{same-name}
+use Rattle.written_sorts.specs.code.Places.{SortAt}
+use Rattle.written_sorts.specs.Written.{sortPlace}
+use Rattle.written_sorts.specs.declared.Fault.the-variants.{TooWide, Unknown, Empty}
+use Rattle.headers.specs.Heads.{allowed}
+use Rattle.names.specs.code.Table.{argumentRow, namesFrom, variableRow}
+use Rattle.names.specs.code.NewNames.{NameTested, NewName}
+use Rattle.names.proofs.Members.{same-name}
 use Rattle.script.specs.Limits.{commandPast}
 use Rattle.script.specs.Script.{grammarPlace, limitPlace, namePlace, sortingPlace}
-use Rattle.script.specs.Tables.{Tested}
+use Rattle.script.specs.code.Tables.{Tested}
 use Rattle.script.specs.declared.Progress.{Progress}
 use Rattle.script.specs.declared.Verdict.{Verdict}
 use Rattle.script.proofs.Names.{few-before, same-scope, scopeBefore}
 use Rattle.script.proofs.Places.{command-below, command-word, inside-below, item-below, no-fault, sort-narrow}
 use Rattle.script.proofs.Verdicts.{says-limit, says-name, says-passed, says-sorting}
-use Rattle.variables.specs.Steps.{Added, Adding, Declared, Declaring, LimitFound, NameFound}
-use Rattle.variables.proofs.Parts.{is-declaring, name-item, parts, sort-here, variable-here}
-use Rattle.variables.proofs.Putting.{names-declared, variable-put}
+use Rattle.commands.specs.code.Declaring.{Added, Adding, Declared, Declaring, LimitFound, NameFound}
+use Rattle.commands.proofs.Parts.{is-declaring, name-item, parts, sort-here, variable-here}
+use Rattle.commands.proofs.Putting.{names-declared, variable-put}
 
 module _ {lexemes : List ℕ} {i : ℕ} (variables at nowhere : ℕ) {wide : ℕ}
     (known : (s : SortAt lexemes i) → wide ≡ sortPlace TooWide nowhere (s .here .label) (s .here .operands)) where

@@ -5,17 +5,17 @@ use mathlib.Core.Path.{_≡_, refl, ap}
 use mathlib.Core.Bool.{Bool, true, false, cond}
 use lib.Dec.{ltb}
 use borrow.Author.Tests.{le-ltb, ltb-true}
-use Rattle.scanning.specs.Trees.{Lexeme, wordOf}
+use Rattle.words.specs.Trees.{Lexeme, wordOf}
 use Rattle.lexemes.specs.Lists.{Items}
-use Rattle.heading.specs.Heads.{Counts}
-use Rattle.gathering.specs.Terms.{rawTerm}
-use Rattle.naming.specs.Scopes.{View}
-use Rattle.faults.specs.Faults.{bodyFault, oneSort, rawSorts, termFault}
+use Rattle.headers.specs.Heads.{Counts}
+use Rattle.term_nodes.specs.Terms.{rawTerm}
+use Rattle.names.specs.Scopes.{View}
+use Rattle.term_faults.specs.Faults.{bodyFault, oneSort, rawSorts, termFault}
 use Rattle.script.specs.Limits.{commandPast}
 use Rattle.script.specs.Script.{Known, grammarPlace, limitPlace, namePlace, passed, refused, sortingPlace, tested}
-use Rattle.script.specs.Tables.{Says}
+use Rattle.script.specs.code.Tables.{Says}
 use Rattle.script.specs.declared.Verdict.{Verdict}
-use Rattle.defining.specs.Steps.{verdictOf}
+use Rattle.commands.specs.code.Defining.{verdictOf}
 
 -- It is that of the command's tests, where no limit is passed and there is no grammar.
 pub body-says : (counts : Counts) (nowhere : ℕ) (k : Known) (at : ℕ) (c : Items) (said : Known) (v : Verdict) (count : ℕ)

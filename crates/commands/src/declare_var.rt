@@ -1,18 +1,18 @@
 //! The command with its tests in their order.
-use declaring::Scope;
-use declaring::names::new_name;
-use naming::spelled::bytes_at;
-use naming::table::ARGUMENTS;
-use naming::table::VARIABLES;
-use naming::table::put_name;
+use names::Scope;
+use names::new::new_name;
+use names::spelled::bytes_at;
+use names::table::ARGUMENTS;
+use names::table::VARIABLES;
+use names::table::put_name;
 use script::Progress;
 use script::Verdict;
-use sorts::Fault;
-use sorts::places::least;
-use sorts::places::sort_of;
-use sorts::places::sort_place;
-ghost use Rattle.variables.specs.Steps.{Added, Adding, Declared, Declaring, LimitFound, NameFound};
-ghost use Rattle.sorts.specs.Steps.{SortAt};
+use written_sorts::Fault;
+use written_sorts::places::least;
+use written_sorts::places::sort_of;
+use written_sorts::places::sort_place;
+ghost use Rattle.commands.specs.code.Declaring.{Added, Adding, Declared, Declaring, LimitFound, NameFound};
+ghost use Rattle.written_sorts.specs.code.Places.{SortAt};
 ghost use Prim.Native.Nat.{_+_};
 
 // How many variables there may be.

@@ -1,44 +1,24 @@
-//! The two commands, each with its tests in their order.
-use bodies::read::body_limit;
+//! What the commands that say a term have in common: their number, the tests of the term, and its row.
 use bodies::read::body_names;
 use bodies::read::body_sort;
-use declaring::Scope;
-use heading::heads::head_names;
-use heading::heads::head_past;
-use lexemes::items::count_items;
-use lexemes::next_at;
-use naming::Seen;
-use naming::table::ARGUMENTS;
-use naming::table::VARIABLES;
-use script::Progress;
+use names::Seen;
 use script::Verdict;
-use signatures::rows::put_signature;
-use sorts::Fault;
-use sorts::headers::header_place;
-use sorts::places::least;
-use sorts::places::sort_of;
-ghost use mathlib.Core.Bool.{false};
+use written_sorts::places::least;
 ghost use mathlib.Core.Path.{_≡_};
 ghost use Prim.Native.Nat.{_<_};
 ghost use lib.ListN.{length, set};
-ghost use Rattle.heading.specs.Steps.{HeadAt, HeadNamed};
 ghost use Rattle.script.specs.Limits.{commandPast};
-ghost use Rattle.defining.specs.Steps.{Constrained, Constraining, Defined, DefinitionPut, Defining, Judged, Judging, Putting, Settled, Within, scopeBefore};
-
-// Where the numbers of bodies begin in the table of places, and those of constraints.
-const BODIES: usize = 560;
-
-const CONSTRAINTS: usize = 600;
+ghost use Rattle.commands.specs.code.Defining.{Judged, Judging};
 
 // The word of a command where there are `most` of its kind before it, else `nowhere`.
-fn command_past(before: usize, most: usize, at: usize, nowhere: usize) -> usize
+pub(crate) fn command_past(before: usize, most: usize, at: usize, nowhere: usize) -> usize
     ensures { λ r. ⌜ r ≡ commandPast nowhere most before at ⌝ }
 {
     if before < most { nowhere } else { at }
 }
 
 // Tests the names of a term, then its sort, each after the word at fault of its kind in the head of its command; writes its forms from row `base` on.
-fn judge_body(
+pub(crate) fn judge_body(
     text: &[u8],
     lexemes: &[u64],
     names: &[u8],
@@ -82,195 +62,9 @@ fn judge_body(
 }
 
 // Puts the row at which a term begins into the table of places.
-fn put_row(places: &mut [u64], place: usize, row: usize)
+pub(crate) fn put_row(places: &mut [u64], place: usize, row: usize)
     requires { ⌜ place < length (now places) ⌝ }
     ensures { λ r. ⌜ now (places .exit) ≡ set (now (places .entry)) place row ⌝ }
 {
     places[place] = row as u64;
-}
-
-// Puts the signature of a `define-fun` and the row at which its body begins into the table of places.
-fn put_definition(
-    names: &[u8],
-    places: &mut [u64],
-    defined: usize,
-    arguments: usize,
-    sort: u64,
-    row: usize,
-)
-    requires { ⌜ Putting (now names) (now places) defined arguments sort ⌝ }
-    ensures { λ r. ⌜ DefinitionPut (now (names .entry)) (now (places .entry)) defined arguments sort row (now (places .exit)) ⌝ }
-{
-    put_signature(names, places, defined, ARGUMENTS, arguments, sort);
-    put_row(places, BODIES + defined, row);
-}
-
-// Puts the name and the arguments of the `define-fun` at a word into their rows; returns the least word at fault in its head, by its names.
-fn define_names(
-    text: &[u8],
-    lexemes: &[u64],
-    names: &mut [u8],
-    progress: Progress,
-    at: usize,
-    nowhere: usize,
-) -> usize
-    requires { ⌜ HeadAt (now text) (now lexemes) (now names) (scopeBefore progress) false at ⌝ }
-    ensures { λ r. ⌜ ((p : HeadAt (now (text .entry)) (now (lexemes .entry)) (now (names .entry)) (scopeBefore progress) false at) → HeadNamed p nowhere (now (names .exit)) r) ⌝ }
-{
-    let scope = Scope {
-        variables: progress.variables,
-        defined: progress.defined,
-        functions: progress.functions,
-        first: ARGUMENTS,
-        arguments: 0,
-    };
-    head_names(text, lexemes, names, scope, false, at, nowhere)
-}
-
-// Tests the names and the sorts of the `define-fun` at a word, whose body has so many nodes; its name, signature and body stand in the tables where it passes.
-fn define_within(
-    text: &[u8],
-    lexemes: &[u64],
-    names: &mut [u8],
-    raw: &mut [u64],
-    places: &mut [u64],
-    nodes: &mut [u64],
-    progress: Progress,
-    rows: usize,
-    at: usize,
-    nowhere: usize,
-) -> Verdict
-    requires { ⌜ Within (now text) (now lexemes) (now names) (now raw) (now places) (now nodes) progress rows at nowhere ⌝ }
-    ensures { λ r. ⌜ ((w : Within (now (text .entry)) (now (lexemes .entry)) (now (names .entry)) (now (raw .entry)) (now (places .entry)) (now (nodes .entry)) progress rows at nowhere) → Settled w (now (names .exit)) (now (raw .exit)) (now (places .exit)) (now (nodes .exit)) r) ⌝ }
-{
-    let arguments = next_at(lexemes, at + 2);
-    let result = next_at(lexemes, arguments);
-    let count = count_items(lexemes, arguments + 1, result - 1);
-    let sort = sort_of(lexemes, result);
-    let empty = header_place(lexemes, at, Fault::Empty, nowhere);
-    let named = define_names(text, lexemes, names, progress, at, nowhere);
-    let seen = Seen {
-        first: ARGUMENTS,
-        names: count,
-        defined: progress.defined,
-        functions: 0,
-        non_terminals: 0,
-    };
-    let verdict = judge_body(
-        text,
-        lexemes,
-        names,
-        raw,
-        places,
-        nodes,
-        seen,
-        sort,
-        rows,
-        progress.nodes,
-        named,
-        empty,
-        nowhere,
-    );
-    if verdict.number > 0 {
-        return verdict;
-    }
-    put_definition(names, places, progress.defined, count, sort, progress.nodes);
-    verdict
-}
-
-// The `define-fun` at a word: its name, signature and body stand in the tables where it passes.
-pub fn define_fun(
-    text: &[u8],
-    lexemes: &[u64],
-    names: &mut [u8],
-    raw: &mut [u64],
-    places: &mut [u64],
-    nodes: &mut [u64],
-    progress: Progress,
-    at: usize,
-    nowhere: usize,
-) -> Verdict
-    requires { ⌜ Defining (now text) (now lexemes) (now names) (now raw) (now places) (now nodes) progress at nowhere ⌝ }
-    ensures { λ r. ⌜ ((d : Defining (now (text .entry)) (now (lexemes .entry)) (now (names .entry)) (now (raw .entry)) (now (places .entry)) (now (nodes .entry)) progress at nowhere) → Defined d (now (names .exit)) (now (raw .exit)) (now (places .exit)) (now (nodes .exit)) r) ⌝ }
-{
-    let result = next_at(lexemes, next_at(lexemes, at + 2));
-    let body = body_limit(lexemes, next_at(lexemes, result), raw, 256, nowhere);
-    let before = command_past(progress.defined, 32, at, nowhere);
-    let head = head_past(lexemes, at, nowhere);
-    let past = least(before, least(head, body.place));
-    if past < nowhere {
-        return Verdict {
-            number: 4,
-            place: past,
-            rows: 0,
-        };
-    }
-    define_within(
-        text,
-        lexemes,
-        names,
-        raw,
-        places,
-        nodes,
-        progress,
-        body.rows,
-        at,
-        nowhere,
-    )
-}
-
-// The `constraint` at a word: its term stands in the tables where it passes.
-pub fn constrain(
-    text: &[u8],
-    lexemes: &[u64],
-    names: &[u8],
-    raw: &mut [u64],
-    places: &mut [u64],
-    nodes: &mut [u64],
-    progress: Progress,
-    at: usize,
-    nowhere: usize,
-) -> Verdict
-    requires { ⌜ Constraining (now text) (now lexemes) (now names) (now raw) (now places) (now nodes) progress at nowhere ⌝ }
-    ensures { λ r. ⌜ ((d : Constraining (now (text .entry)) (now (lexemes .entry)) (now (names .entry)) (now (raw .entry)) (now (places .entry)) (now (nodes .entry)) progress at nowhere) → Constrained d (now (raw .exit)) (now (places .exit)) (now (nodes .exit)) r) ⌝ }
-{
-    let body = body_limit(lexemes, at + 2, raw, 256, nowhere);
-    let past = least(
-        command_past(progress.constraints, 64, at, nowhere),
-        body.place,
-    );
-    if past < nowhere {
-        return Verdict {
-            number: 4,
-            place: past,
-            rows: 0,
-        };
-    }
-    let seen = Seen {
-        first: VARIABLES,
-        names: progress.variables,
-        defined: progress.defined,
-        functions: progress.functions,
-        non_terminals: 0,
-    };
-    let verdict = judge_body(
-        text,
-        lexemes,
-        names,
-        raw,
-        places,
-        nodes,
-        seen,
-        0,
-        body.rows,
-        progress.nodes,
-        nowhere,
-        nowhere,
-        nowhere,
-    );
-    if verdict.number > 0 {
-        return verdict;
-    }
-    put_row(places, CONSTRAINTS + progress.constraints, progress.nodes);
-    verdict
 }

@@ -5,14 +5,14 @@ use native.Mathlib.Omega.{arith}
 use mathlib.Core.List.{List, [], _∷_}
 use Rattle.forest.specs.Forest.{Forest, none, tree}
 use Rattle.terms.specs.Labels.{Label, Terms, literal, name, operator}
-use Rattle.grammar.specs.Derivation.{Item, Grammar, Rule, rule, headOf, formOf, Derives, Fresh, Simple}
-use Rattle.grammar.specs.Derivation.Item.{the, nonTerminal}
-use Rattle.grammar.specs.Derivation.Derives.{done, use-rule, same}
-use Rattle.grammar.specs.Derivation.Simple.{s-done, s-rule, s-leaf, s-same}
-use Rattle.grammar.specs.Answer.{start}
-use Rattle.grammar.proofs.Same.{same-self}
-use Rattle.grammar.proofs.Likeness.{any-not-hole, any-not-label}
-use Rattle.grammar.proofs.Simple.{empty}
+use Rattle.derivation.specs.Derivation.{Item, Grammar, Rule, rule, headOf, formOf, Derives, Fresh, Simple}
+use Rattle.derivation.specs.Derivation.Item.{the, nonTerminal}
+use Rattle.derivation.specs.Derivation.Derives.{done, use-rule, same}
+use Rattle.derivation.specs.Derivation.Simple.{s-done, s-rule, s-leaf, s-same}
+use Rattle.derivation.specs.Answer.{start}
+use Rattle.derivation.proofs.Same.{same-self}
+use Rattle.derivation.proofs.Likeness.{any-not-hole, any-not-label}
+use Rattle.derivation.proofs.Simple.{empty}
 
 -- a non-terminal alone, and a label alone
 abbrev pub hole : ℕ → Forest Item

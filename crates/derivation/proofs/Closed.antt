@@ -13,13 +13,13 @@ use lib.Seq.{getD-set-same, getD-set-other}
 use Rattle.forest.specs.Forest.{Forest, none, tree, count, from, first}
 use Rattle.forest.proofs.Laws.{Tree, tree-at, count-zero}
 use Rattle.terms.specs.Labels.{Terms}
-use Rattle.grammar.specs.Derivation.{Item, headOf, formOf, Proper, Derives, Grammar}
-use Rattle.grammar.specs.Derivation.Item.{the, nonTerminal, anyArgument, anyLiteral}
-use Rattle.grammar.specs.Derivation.Derives.{use-rule, done, leaf, same}
-use Rattle.grammar.specs.Columns.{has}
-use Rattle.grammar.specs.Steps.{Puts, NoChain, Fits, DerivesAt, Applies, chain, no-chain, Asks, Chain, stop, more}
-use Rattle.grammar.proofs.Likeness.{any-not-hole}
-use Rattle.grammar.proofs.Count.{cnt, cnt-grow}
+use Rattle.derivation.specs.Derivation.{Item, headOf, formOf, Proper, Derives, Grammar}
+use Rattle.derivation.specs.Derivation.Item.{the, nonTerminal, anyArgument, anyLiteral}
+use Rattle.derivation.specs.Derivation.Derives.{use-rule, done, leaf, same}
+use Rattle.derivation.specs.code.Columns.{has}
+use Rattle.derivation.specs.code.Search.{Puts, NoChain, Fits, DerivesAt, Applies, chain, no-chain, Asks, Chain, stop, more}
+use Rattle.derivation.proofs.Likeness.{any-not-hole}
+use Rattle.derivation.proofs.Count.{cnt, cnt-grow}
 
 pub has-zero : (A : ℕ) → has 0 A ≡ false
 unfolding has

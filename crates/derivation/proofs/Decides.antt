@@ -10,20 +10,20 @@ use mathlib.Core.List.{List, [], _++_}
 use lib.Dec.{eqb, leb, ltb}
 use borrow.Author.Tests.{eqb-true, eq-eqb, le-leb, leb-true, lt-ltb, ltb-true}
 use lib.ListN.{getD, length}
-use Rattle.bits.specs.Sorts.{Fit, maxWidth, valuesOf}
+use Rattle.operators.specs.Sorts.{Fit, maxWidth, valuesOf}
 use Rattle.forest.specs.Forest.{Forest, none, tree}
 use Rattle.forest.proofs.Bools.{apart}
 use Rattle.terms.specs.Labels.{Label, Terms, defined, function, literal, name, operator}
-use Rattle.grammar.specs.Derivation.{AnyLeaf, Argument, Item, headOf, formOf, Derives, Grammar}
-use Rattle.grammar.specs.Derivation.Item.{anyArgument, anyLiteral, nonTerminal, the}
-use Rattle.grammar.specs.Derivation.AnyLeaf.{constant, variable}
-use Rattle.grammar.specs.Derivation.Derives.{done, use-rule, leaf, same}
-use Rattle.grammar.specs.Steps.{DerivesAt}
-use Rattle.grammar.proofs.Tests.{and-both, and-true, or-first, or-second, or-true}
-use Rattle.grammar.proofs.Same.{same?, same-complete, same-sound}
-use Rattle.grammar.proofs.Splits.{one-then}
-use Rattle.grammar.proofs.Meta.{derivations}
-use Rattle.grammar.proofs.Count.{cnt, cnt-grow, cnt-full}
+use Rattle.derivation.specs.Derivation.{AnyLeaf, Argument, Item, headOf, formOf, Derives, Grammar}
+use Rattle.derivation.specs.Derivation.Item.{anyArgument, anyLiteral, nonTerminal, the}
+use Rattle.derivation.specs.Derivation.AnyLeaf.{constant, variable}
+use Rattle.derivation.specs.Derivation.Derives.{done, use-rule, leaf, same}
+use Rattle.derivation.specs.code.Search.{DerivesAt}
+use Rattle.derivation.proofs.Tests.{and-both, and-true, or-first, or-second, or-true}
+use Rattle.derivation.proofs.Same.{same?, same-complete, same-sound}
+use Rattle.derivation.proofs.Splits.{one-then}
+use Rattle.derivation.proofs.Meta.{derivations}
+use Rattle.derivation.proofs.Count.{cnt, cnt-grow, cnt-full}
 
 someb : ℕ → (ℕ → Bool) → Bool
 someb zero p = false

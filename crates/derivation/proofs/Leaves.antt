@@ -9,8 +9,8 @@ use Rattle.forest.specs.Forest.{from, join, none, tree}
 use Rattle.terms.specs.Labels.{Label, Terms, defined, function, literal, name, operator}
 use Rattle.terms.specs.Sorts.{Scope, labelSort, sortsOf}
 use Rattle.terms.proofs.Sorted.{sorted}
-use Rattle.grammar.specs.Derivation.{LeafFits, LeavesFit}
-use Rattle.grammar.proofs.Tests.{and-true}
+use Rattle.derivation.specs.Derivation.{LeafFits, LeavesFit}
+use Rattle.derivation.proofs.Tests.{and-true}
 
 -- they are so of terms one after the other, of those left at a cursor, and of the node that stands there
 module _ (arguments : List ℕ) where

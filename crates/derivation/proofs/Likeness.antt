@@ -9,14 +9,14 @@ use borrow.Author.Tests.{eq-eqb, eqb-true}
 use lib.Dec.{eqb}
 use Rattle.forest.specs.Forest.{Forest, count, join, none, tree}
 use Rattle.terms.specs.Labels.{Label, Terms, defined, function, literal, name, operator}
-use Rattle.terms.specs.Nodes.{Plain, codeAt, codeOf, literalKind, nameKind, operandsAt, valueAt, valueOf}
+use Rattle.terms.specs.code.Nodes.{Plain, codeAt, codeOf, literalKind, nameKind, operandsAt, valueAt, valueOf}
 use Rattle.terms.proofs.Bodies.{Says, label-of}
-use Rattle.grammar.specs.Derivation.{AnyLeaf, Item, LeafFits, Proper, SameLabel, anyArgument, anyLiteral, constant, nonTerminal, the, variable}
-use Rattle.grammar.specs.Tables.{anyArgumentKind, anyLiteralKind, itemCode, itemValue, nonTerminalKind}
-use Rattle.grammar.specs.Columns.{alike, argumentFits, literalFits}
-use Rattle.grammar.proofs.Tests.{and-both, and-true, both-equal, equal-both, or-true}
-use Rattle.grammar.proofs.Same.{same-numbers, same-told}
-use Rattle.grammar.proofs.Reading.{ItemSays}
+use Rattle.derivation.specs.Derivation.{AnyLeaf, Item, LeafFits, Proper, SameLabel, anyArgument, anyLiteral, constant, nonTerminal, the, variable}
+use Rattle.derivation.specs.code.Tables.{anyArgumentKind, anyLiteralKind, itemCode, itemValue, nonTerminalKind}
+use Rattle.derivation.specs.code.Columns.{alike, argumentFits, literalFits}
+use Rattle.derivation.proofs.Tests.{and-both, and-true, both-equal, equal-both, or-true}
+use Rattle.derivation.proofs.Same.{same-numbers, same-told}
+use Rattle.derivation.proofs.Reading.{ItemSays}
 
 -- an item of a rule of a function with these arguments derives a label
 pub data Alike (arguments : List ℕ) : Item → Label → Type 0 where

@@ -6,12 +6,12 @@ use lib.Arith.{lt-of-le-ne}
 use mathlib.Core.Bool.{true, false, true≢false}
 use mathlib.Core.List.{List}
 use lib.ListN.{length, set, length-set}
-use Rattle.grammar.specs.Derivation.{headOf}
-use Rattle.grammar.specs.Columns.{nonTerminalAt, has}
-use Rattle.grammar.specs.Steps.{Asks, Puts, Finds, NodeIs}
-use Rattle.grammar.proofs.Count.{cnt, cnt-le}
-use Rattle.grammar.proofs.Closed.{Chosen, has-zero, chosen-step, grows, complete, chain-derives}
-use Rattle.grammar.proofs.Uses.{rules-count, head-low, head-is}
+use Rattle.derivation.specs.Derivation.{headOf}
+use Rattle.derivation.specs.code.Columns.{nonTerminalAt, has}
+use Rattle.derivation.specs.code.Search.{Asks, Puts, Finds, NodeIs}
+use Rattle.derivation.proofs.Count.{cnt, cnt-le}
+use Rattle.derivation.proofs.Closed.{Chosen, has-zero, chosen-step, grows, complete, chain-derives}
+use Rattle.derivation.proofs.Uses.{rules-count, head-low, head-is}
 
 -- the members of s have their choices
 pub record State (rules forms body masks : List ℕ) (i count : ℕ) (chosen : List ℕ) (s : ℕ) : Type 0 where

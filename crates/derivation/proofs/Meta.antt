@@ -7,10 +7,10 @@ use lib.ListN.{length}
 use Rattle.forest.specs.Forest.{Forest, none, tree, count, join, first}
 use Rattle.forest.proofs.Laws.{count-join, first-join}
 use Rattle.terms.specs.Labels.{Label, Terms}
-use Rattle.grammar.specs.Derivation.{Item, nonTerminal, headOf, formOf, Derives, done, use-rule, leaf, same, Grammar}
-use Rattle.grammar.specs.Steps.{DerivesAt, Fits}
-use Rattle.grammar.proofs.Likeness.{Alike, Bare, NotHole, any, any-not-hole, labels}
-use Rattle.grammar.proofs.Splits.{Kind, Uncons, one-then, over-first}
+use Rattle.derivation.specs.Derivation.{Item, nonTerminal, headOf, formOf, Derives, done, use-rule, leaf, same, Grammar}
+use Rattle.derivation.specs.code.Search.{DerivesAt, Fits}
+use Rattle.derivation.proofs.Likeness.{Alike, Bare, NotHole, any, any-not-hole, labels}
+use Rattle.derivation.proofs.Splits.{Kind, Uncons, one-then, over-first}
 
 module _ (G : Grammar) where
   abbrev D : Forest Item → Terms → List ℕ → Type 0

@@ -5,14 +5,14 @@ use mathlib.Core.List.{List, [], append-nil}
 use lib.Dec.{lit<}
 use lib.ListN.{getD, length}
 use Rattle.forest.specs.Forest.{Forest, count, from, nodesOf, size, tree}
-use Rattle.forest.specs.Rows.{numberAt, rows}
+use Rattle.forest.specs.code.Rows.{numberAt, rows}
 use Rattle.forest.proofs.Nodes.{length-nodes, node-at}
 use Rattle.forest.proofs.Rows.{length-rows, row-at}
 use Rattle.terms.specs.Labels.{Label, Terms}
-use Rattle.terms.specs.Nodes.{codeAt, nodeRow, nodeTable, operandsAt, rowWidth, sizeAt, valueAt}
+use Rattle.terms.specs.code.Nodes.{codeAt, nodeRow, nodeTable, operandsAt, rowWidth, sizeAt, valueAt}
 use Rattle.terms.proofs.Bodies.{Says, says}
-use Rattle.grammar.specs.Derivation.{Item}
-use Rattle.grammar.specs.Tables.{formTable, itemCode, itemRow, itemValue}
+use Rattle.derivation.specs.Derivation.{Item}
+use Rattle.derivation.specs.code.Tables.{formTable, itemCode, itemRow, itemValue}
 
 -- the table of forms says of node p: its item is i and its operands are ops
 pub record ItemSays (forms : List ℕ) (p : ℕ) (i : Item) (ops : Forest Item) : Type 0 where

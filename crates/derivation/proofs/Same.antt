@@ -5,10 +5,10 @@ use mathlib.Core.Bool.{Bool, true, _&&_}
 use borrow.Author.Tests.{eq-eqb, eqb-true}
 use lib.Dec.{eqb}
 use Rattle.terms.specs.Labels.{Label, defined, function, literal, name, operator}
-use Rattle.terms.specs.Nodes.{Plain, codeOf, valueOf}
+use Rattle.terms.specs.code.Nodes.{Plain, codeOf, valueOf}
 use Rattle.terms.proofs.Bodies.{label-same}
-use Rattle.grammar.specs.Derivation.{SameLabel}
-use Rattle.grammar.proofs.Tests.{and-both, and-true}
+use Rattle.derivation.specs.Derivation.{SameLabel}
+use Rattle.derivation.proofs.Tests.{and-both, and-true}
 
 -- a label is the same as itself
 pub same-self : (l : Label) → SameLabel l l

@@ -8,12 +8,12 @@ use mathlib.Core.List.{List, [], _∷_, _++_}
 use lib.ListN.{length, length-append}
 use Rattle.forest.specs.Forest.{Forest, none, tree}
 use Rattle.terms.specs.Labels.{Label, Terms}
-use Rattle.grammar.specs.Derivation.{Item, formOf, Derives, Fresh, Simple, Grammar}
-use Rattle.grammar.specs.Derivation.Item.{nonTerminal}
-use Rattle.grammar.specs.Derivation.Derives.{done, use-rule, leaf, same}
-use Rattle.grammar.specs.Derivation.Simple.{s-done, s-rule, s-leaf, s-same}
-use Rattle.grammar.proofs.Simple.{simples}
-use Rattle.grammar.proofs.Splits.{one-then}
+use Rattle.derivation.specs.Derivation.{Item, formOf, Derives, Fresh, Simple, Grammar}
+use Rattle.derivation.specs.Derivation.Item.{nonTerminal}
+use Rattle.derivation.specs.Derivation.Derives.{done, use-rule, leaf, same}
+use Rattle.derivation.specs.Derivation.Simple.{s-done, s-rule, s-leaf, s-same}
+use Rattle.derivation.proofs.Simple.{simples}
+use Rattle.derivation.proofs.Splits.{one-then}
 
 -- one more that A is to differ from, the last
 fresh-more : (A B : ℕ) (seen : List ℕ) → Fresh A seen → (A ≡ B → ⊥) → Fresh A (seen ++ (B ∷ []))

@@ -5,12 +5,12 @@ use mathlib.Core.List.{List, [], _∷_, _++_, append-nil}
 use lib.ListN.{length}
 use Rattle.forest.specs.Forest.{Forest, none, tree, count, first}
 use Rattle.terms.specs.Labels.{Label, Terms}
-use Rattle.grammar.specs.Derivation.{Item, headOf, formOf, Derives, Fresh, Simple, Grammar}
-use Rattle.grammar.specs.Derivation.Item.{nonTerminal}
-use Rattle.grammar.specs.Derivation.Derives.{done, use-rule, leaf, same}
-use Rattle.grammar.specs.Derivation.Simple.{s-done, s-rule, s-leaf, s-same}
-use Rattle.grammar.specs.Steps.{NoChain}
-use Rattle.grammar.proofs.Splits.{Kind, Uncons, one-then}
+use Rattle.derivation.specs.Derivation.{Item, headOf, formOf, Derives, Fresh, Simple, Grammar}
+use Rattle.derivation.specs.Derivation.Item.{nonTerminal}
+use Rattle.derivation.specs.Derivation.Derives.{done, use-rule, leaf, same}
+use Rattle.derivation.specs.Derivation.Simple.{s-done, s-rule, s-leaf, s-same}
+use Rattle.derivation.specs.code.Search.{NoChain}
+use Rattle.derivation.proofs.Splits.{Kind, Uncons, one-then}
 
 module _ (G : Grammar) where
   abbrev D : Forest Item → Terms → List ℕ → Type 0

@@ -9,10 +9,10 @@ use Rattle.forest.proofs.Options.{never}
 use Rattle.forest.specs.Forest.{Forest}
 use Rattle.terms.specs.Labels.{Label, Terms}
 use Rattle.terms.specs.Sorts.{labelSort, sortOver, sortsOf, withSort}
-use Rattle.grammar.specs.Derivation.{AnyLeaf, Derives, Grammar, Item, formOf, headOf}
-use Rattle.grammar.specs.Sorts.{FormScope, formSorts, itemSort}
-use Rattle.grammar.specs.Derivation.AnyLeaf.{constant, variable}
-use Rattle.grammar.specs.Derivation.Derives.{done, leaf, same, use-rule}
+use Rattle.derivation.specs.Derivation.{AnyLeaf, Derives, Grammar, Item, formOf, headOf}
+use Rattle.derivation.specs.Sorts.{FormScope, formSorts, itemSort}
+use Rattle.derivation.specs.Derivation.AnyLeaf.{constant, variable}
+use Rattle.derivation.specs.Derivation.Derives.{done, leaf, same, use-rule}
 
 -- the sort of the label of a leaf that an item derives
 leaf-sort : (scope : FormScope) {i : Item} {l : Label} → AnyLeaf (scope .terms .names) i l → labelSort (scope .terms) l [] ≡ itemSort scope i []

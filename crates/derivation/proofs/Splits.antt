@@ -6,8 +6,8 @@ use mathlib.Core.List.{List, [], _++_, append-assoc, append-nil}
 use Rattle.forest.specs.Forest.{Forest, count, first, join, none, tree}
 use Rattle.forest.proofs.Laws.{count-join, count-zero, first-join}
 use Rattle.terms.specs.Labels.{Label, Terms}
-use Rattle.grammar.specs.Derivation.{AnyLeaf, Item, SameLabel, the}
-use Rattle.grammar.proofs.Likeness.{Alike, Bare, any, any-bare, labels}
+use Rattle.derivation.specs.Derivation.{AnyLeaf, Item, SameLabel, the}
+use Rattle.derivation.proofs.Likeness.{Alike, Bare, any, any-bare, labels}
 
 -- that forms derive terms by a list of rules
 abbrev pub Derivation : Type 1

@@ -11,11 +11,11 @@ use lib.Seq.{sets, sets-eq}
 use Rattle.forest.specs.Forest.{none, tree, count, size, from, first}
 use Rattle.forest.proofs.Laws.{count-size, first-all, count-zero}
 use Rattle.terms.specs.Labels.{Terms}
-use Rattle.grammar.specs.Derivation.{nonTerminal, Derives, Simple, Grammar}
-use Rattle.grammar.specs.Columns.{has}
-use Rattle.grammar.specs.Steps.{ExactAt, DerivesAt, Asks, AllExact, EmitPre, EmitPost, ShowPre, ShowPost, Shows}
-use Rattle.grammar.specs.Answer.{start, listOf, listSize, unused, DerivePre, DerivePost}
-use Rattle.grammar.proofs.Sweep.{body-size}
+use Rattle.derivation.specs.Derivation.{nonTerminal, Derives, Simple, Grammar}
+use Rattle.derivation.specs.code.Columns.{has}
+use Rattle.derivation.specs.code.Search.{ExactAt, DerivesAt, Asks, AllExact, EmitPre, EmitPost, ShowPre, ShowPost, Shows}
+use Rattle.derivation.specs.Answer.{start, listOf, listSize, unused, DerivePre, DerivePost}
+use Rattle.derivation.proofs.Sweep.{body-size}
 
 -- for one tree, to derive the first tree is to derive it
 to-at : (G : Grammar) (A : ℕ) (F : Terms) → count F ≡ 1 → (ds : List ℕ) → Derives G (tree (nonTerminal A) none none) F ds → DerivesAt G A F

@@ -9,14 +9,14 @@ use lib.ListN.{length, getD, set, length-append, length-set}
 use lib.Seq.{sets, length-sets}
 use Rattle.forest.specs.Forest.{Forest, none, tree, from, first}
 use Rattle.terms.specs.Labels.{Terms}
-use Rattle.terms.specs.Nodes.{codeAt, valueAt}
-use Rattle.grammar.specs.Derivation.{Item, nonTerminal, headOf, formOf, Fresh, Simple, Grammar}
-use Rattle.grammar.specs.Tables.{nonTerminalKind}
-use Rattle.grammar.specs.Columns.{startAt}
-use Rattle.grammar.specs.Steps.{Chain, stop, more, Fits, FollowPre, FollowPost}
-use Rattle.grammar.proofs.Simple.{use-one, no-chain-any}
-use Rattle.grammar.proofs.Uses.{chain-view, no-chain-view}
-use Rattle.grammar.proofs.Closed.{here, first-one}
+use Rattle.terms.specs.code.Nodes.{codeAt, valueAt}
+use Rattle.derivation.specs.Derivation.{Item, nonTerminal, headOf, formOf, Fresh, Simple, Grammar}
+use Rattle.derivation.specs.code.Tables.{nonTerminalKind}
+use Rattle.derivation.specs.code.Columns.{startAt}
+use Rattle.derivation.specs.code.Search.{Chain, stop, more, Fits, FollowPre, FollowPost}
+use Rattle.derivation.proofs.Simple.{use-one, no-chain-any}
+use Rattle.derivation.proofs.Uses.{chain-view, no-chain-view}
+use Rattle.derivation.proofs.Closed.{here, first-one}
 
 pub sets-append : (l : List ℕ) (i : ℕ) (vs ws : List ℕ) → sets l i (vs ++ ws) ≡ sets (sets l i vs) (i + length vs) ws
 sets-append l i [] ws = ap (λ (k : ℕ). sets l k ws) (path.sym (add-zero i))

@@ -7,15 +7,15 @@ use mathlib.Core.Bool.{Bool, true, false, true≢false}
 use mathlib.Core.List.{List}
 use lib.ListN.{length}
 use Rattle.forest.specs.Forest.{Forest, none, tree, count, join, from}
-use Rattle.terms.specs.Nodes.{codeAt, valueAt}
+use Rattle.terms.specs.code.Nodes.{codeAt, valueAt}
 use Rattle.forest.proofs.Laws.{Tree, tree-of-count, count-node, count-zero}
-use Rattle.grammar.proofs.Reading.{ItemSays, item-says}
-use Rattle.grammar.proofs.Likeness.{hole-item}
-use Rattle.grammar.specs.Derivation.{Item, nonTerminal, the, headOf, formOf, Proper, Grammar}
-use Rattle.grammar.specs.Tables.{itemValue, rightSides, nonTerminalKind}
-use Rattle.grammar.specs.Columns.{startAt, nonTerminalAt, has}
-use Rattle.grammar.specs.Steps.{Asks, AsksRule, AsksNoChain, Matched, NoChain, Fits, Applies, chain, no-chain, Answers, Finds}
-use Rattle.grammar.proofs.RuleRows.{RuleAt, rule-at, length-rules}
+use Rattle.derivation.proofs.Reading.{ItemSays, item-says}
+use Rattle.derivation.proofs.Likeness.{hole-item}
+use Rattle.derivation.specs.Derivation.{Item, nonTerminal, the, headOf, formOf, Proper, Grammar}
+use Rattle.derivation.specs.code.Tables.{itemValue, rightSides, nonTerminalKind}
+use Rattle.derivation.specs.code.Columns.{startAt, nonTerminalAt, has}
+use Rattle.derivation.specs.code.Search.{Asks, AsksRule, AsksNoChain, Matched, NoChain, Fits, Applies, chain, no-chain, Answers, Finds}
+use Rattle.derivation.proofs.RuleRows.{RuleAt, rule-at, length-rules}
 
 module _ {rules forms body masks : List ℕ} {i : ℕ} where
   pub rules-count : (q : Asks rules forms body masks i) → length rules ≡ 2 * length (q .given .G .rules)

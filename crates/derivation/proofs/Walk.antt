@@ -8,19 +8,19 @@ use lib.ListN.{length, getD}
 use borrow.Author.Tests.{not-true, not-false}
 use Rattle.forest.specs.Forest.{Forest, none, tree, count, size, join, from, first}
 use Rattle.terms.specs.Labels.{Label, Terms}
-use Rattle.terms.specs.Nodes.{Plain, codeAt, sizeAt, valueAt}
+use Rattle.terms.specs.code.Nodes.{Plain, codeAt, sizeAt, valueAt}
 use Rattle.terms.proofs.Bodies.{Says, plain-at}
 use Rattle.forest.proofs.Laws.{count-join, count-node, count-size, count-tree, count-zero, from-one, from-over, inside, join-assoc, Tree, size-from, size-join}
 use Rattle.forest.proofs.Laws.{size-tree, size-zero, tree-at, tree-of-count, tree-of-size}
-use Rattle.grammar.specs.Derivation.{Item, LeafFits, nonTerminal, the, formOf, Proper, done, Grammar}
-use Rattle.grammar.specs.Tables.{rightSides, itemCode, itemValue, nonTerminalKind}
-use Rattle.grammar.specs.Columns.{startAt, has, alike}
-use Rattle.grammar.specs.Steps.{AsksNoChain, Matched, Fits, DerivesAt}
-use Rattle.grammar.proofs.RuleRows.{RuleAt, rule-at}
-use Rattle.grammar.proofs.Meta.{fits-hole-to, fits-hole-rest, fits-hole, fits-node-to, fits-node}
-use Rattle.grammar.proofs.Leaves.{fit-at}
-use Rattle.grammar.proofs.Likeness.{Alike, NotHole, alike-sound, alike-complete, hole-item, proper-bare, proper-on}
-use Rattle.grammar.proofs.Reading.{ItemSays, body-length, body-says, forms-length, item-says}
+use Rattle.derivation.specs.Derivation.{Item, LeafFits, nonTerminal, the, formOf, Proper, done, Grammar}
+use Rattle.derivation.specs.code.Tables.{rightSides, itemCode, itemValue, nonTerminalKind}
+use Rattle.derivation.specs.code.Columns.{startAt, has, alike}
+use Rattle.derivation.specs.code.Search.{AsksNoChain, Matched, Fits, DerivesAt}
+use Rattle.derivation.proofs.RuleRows.{RuleAt, rule-at}
+use Rattle.derivation.proofs.Meta.{fits-hole-to, fits-hole-rest, fits-hole, fits-node-to, fits-node}
+use Rattle.derivation.proofs.Leaves.{fit-at}
+use Rattle.derivation.proofs.Likeness.{Alike, NotHole, alike-sound, alike-complete, hole-item, proper-bare, proper-on}
+use Rattle.derivation.proofs.Reading.{ItemSays, body-length, body-says, forms-length, item-says}
 
 pub size-node : {L : Type 0} (l : L) (ps qs : Forest L) → size (tree l ps qs) ≡ suc (size ps + size qs)
 unfolding size

@@ -8,10 +8,10 @@ use lib.ListN.{length, length-append}
 use lib.Seq.{sets, length-sets}
 use Rattle.forest.specs.Forest.{size, from, first}
 use Rattle.forest.proofs.Laws.{tree-at}
-use Rattle.grammar.specs.Columns.{has}
-use Rattle.grammar.specs.Steps.{NodeIs, Chain, FollowPre, FollowPost, EmitPre, EmitPost, SpreadPre, SpreadPost}
-use Rattle.grammar.proofs.Trail.{sets-append}
-use Rattle.grammar.proofs.Track.{size-one}
+use Rattle.derivation.specs.code.Columns.{has}
+use Rattle.derivation.specs.code.Search.{NodeIs, Chain, FollowPre, FollowPost, EmitPre, EmitPost, SpreadPre, SpreadPost}
+use Rattle.derivation.proofs.Trail.{sets-append}
+use Rattle.derivation.proofs.Track.{size-one}
 
 module _ {rules forms body masks : List ℕ} {i a : ℕ} {shown : List ℕ} {at : ℕ} (e : EmitPre rules forms body masks i a shown at)
     {chosen : List ℕ} {s : ℕ} (n : NodeIs rules forms body masks i chosen s) where

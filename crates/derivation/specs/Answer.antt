@@ -7,8 +7,8 @@ use lib.ListN.{length, replicate}
 use lib.Seq.{sets}
 use Rattle.forest.specs.Forest.{Forest, count, none, size, tree}
 use Rattle.terms.specs.Labels.{Terms}
-use Rattle.grammar.specs.Derivation.{Derives, Grammar, Item, Simple, nonTerminal}
-use Rattle.grammar.specs.Tables.{Given}
+use Rattle.derivation.specs.Derivation.{Derives, Grammar, Item, Simple, nonTerminal}
+use Rattle.derivation.specs.code.Tables.{Given}
 
 -- The form that is the start alone: "The first is the start".
 abbrev pub start : Forest Item

@@ -3,10 +3,10 @@ use mathlib.Core.Path.{_≡_}
 use Prim.Native.Nat.{ℕ, zero, suc, _<_, _≤_}
 use mathlib.Core.List.{List, [], _∷_, _++_}
 use lib.ListN.{getD, length}
-use Rattle.bits.specs.Sorts.{Fit}
+use Rattle.operators.specs.Sorts.{Fit}
 use Rattle.forest.specs.Forest.{Forest, count, none, tree}
 use Rattle.terms.specs.Labels.{Label, Terms, defined, function, literal, name, operator}
-use Rattle.terms.specs.Nodes.{Plain}
+use Rattle.terms.specs.code.Nodes.{Plain}
 
 -- What stands at a node of a rule. "A rule is `(Constant σ)`, `(Variable σ)` or a binder-free term", in which non-terminals stand.
 pub data Item : Type 0 where

@@ -6,9 +6,9 @@ use mathlib.Core.Option.{Option, some}
 use lib.Dec.{eqb, ltb}
 use lib.ListN.{getD, length}
 use Rattle.forest.specs.Forest.{Forest, none, tree}
-use Rattle.bits.specs.Sorts.{when}
+use Rattle.operators.specs.Sorts.{when}
 use Rattle.terms.specs.Sorts.{Scope, labelSort, sortOver, withSort}
-use Rattle.grammar.specs.Derivation.{Item, anyArgument, anyLiteral, nonTerminal, the}
+use Rattle.derivation.specs.Derivation.{Item, anyArgument, anyLiteral, nonTerminal, the}
 
 -- What a form may name: what a term may, and the sorts of the non-terminals in their order.
 pub record FormScope : Type 0 where

@@ -6,7 +6,7 @@ ghost use mathlib.Core.Path.{_≡_};
 ghost use Prim.Native.Nat.{_+_, _≤_};
 ghost use lib.ListN.{length, replicate};
 ghost use lib.Seq.{sets};
-ghost use Rattle.grammar.specs.Answer.{Decides, DerivePre, listSize, unused};
+ghost use Rattle.derivation.specs.Answer.{Decides, DerivePre, listSize, unused};
 use terms::ROW;
 
 mod filling;

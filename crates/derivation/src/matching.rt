@@ -1,7 +1,7 @@
 //! Whether a rule derives the tree at a node of the body, where the masks of the later nodes are known.
 ghost use mathlib.Core.Path.{_≡_};
-ghost use Rattle.grammar.specs.Columns.{alike, argumentFits, literalFits};
-ghost use Rattle.grammar.specs.Steps.{Answers, AsksNoChain, AsksRule, Matched};
+ghost use Rattle.derivation.specs.code.Columns.{alike, argumentFits, literalFits};
+ghost use Rattle.derivation.specs.code.Search.{Answers, AsksNoChain, AsksRule, Matched};
 use crate::masks::has;
 use crate::masks::mask_at;
 use crate::rules::start_at;

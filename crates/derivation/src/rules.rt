@@ -2,8 +2,8 @@
 ghost use mathlib.Core.Path.{_≡_};
 ghost use Prim.Native.Nat.{_/_, _<_};
 ghost use lib.ListN.{length};
-ghost use Rattle.forest.specs.Rows.{numberAt};
-ghost use Rattle.grammar.specs.Columns.{nonTerminalAt, ruleWidth, startAt};
+ghost use Rattle.forest.specs.code.Rows.{numberAt};
+ghost use Rattle.derivation.specs.code.Columns.{nonTerminalAt, ruleWidth, startAt};
 
 // How many numbers a rule has.
 const RULE: usize = 2;

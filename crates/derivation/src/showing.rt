@@ -1,5 +1,5 @@
 //! The derivation that is shown: the numbers of the rules used, leftmost first.
-ghost use Rattle.grammar.specs.Steps.{EmitPre, Emits, FollowPre, Follows, ShowPre, Shows, SpreadPre, Spreads};
+ghost use Rattle.derivation.specs.code.Search.{EmitPre, Emits, FollowPre, Follows, ShowPre, Shows, SpreadPre, Spreads};
 use crate::filling::derivers;
 use crate::filling::fill_masks;
 use crate::masks::has;

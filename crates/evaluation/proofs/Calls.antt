@@ -9,7 +9,7 @@ use Rattle.terms.specs.Labels.{Label, Terms, defined, function, literal, name, 
 use Rattle.terms.specs.Sorts.{AllSorted, Definition, FunctionsSorted, Scope, bodyScope, labelSort, sortsOf}
 use Rattle.terms.proofs.Bodies.{called-within}
 use Rattle.terms.proofs.Sorted.{sorted}
-use Rattle.meaning.specs.Tables.{CallsDefined, CallsEarlier, CallsKnown, Callable}
+use Rattle.evaluation.specs.code.Tables.{CallsDefined, CallsEarlier, CallsKnown, Callable}
 
 module _ (scope : Scope) where
   -- A label that has a sort applies a function that is known.

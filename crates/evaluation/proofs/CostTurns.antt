@@ -10,14 +10,14 @@ use Rattle.forest.specs.Forest.{from, join, none, size, tree}
 use Rattle.terms.proofs.Bodies.{Says, says}
 use Rattle.terms.specs.Costs.{BodyCosts, bodyCost, costOf, costs, definedCost, functionCost}
 use Rattle.terms.specs.Labels.{Label, Terms, defined, function, literal, name, operator}
-use Rattle.terms.specs.Nodes.{codeAt, codeOf, sizeAt, valueAt, valueOf}
+use Rattle.terms.specs.code.Nodes.{codeAt, codeOf, sizeAt, valueAt, valueOf}
 use Rattle.terms.specs.Sorts.{Definition}
-use Rattle.meaning.specs.Budget.{Priced, held}
-use Rattle.meaning.specs.Steps.{Costing}
-use Rattle.meaning.specs.Tables.{CallsKnown, BodiesHold, Callable, bodyPlace, noPlace}
-use Rattle.meaning.proofs.Bodies.{Body, held-defined, held-function}
-use Rattle.meaning.proofs.Cursors.{calls-join, cursor-next, tree-within}
-use Rattle.meaning.proofs.Sums.{bodiesCost, bodies-join, cost-parts, cost-some, sum-more}
+use Rattle.evaluation.specs.code.Budget.{Priced, held}
+use Rattle.evaluation.specs.code.Evaluating.{Costing}
+use Rattle.evaluation.specs.code.Tables.{CallsKnown, BodiesHold, Callable, bodyPlace, noPlace}
+use Rattle.evaluation.proofs.Bodies.{Body, held-defined, held-function}
+use Rattle.evaluation.proofs.Cursors.{calls-join, cursor-next, tree-within}
+use Rattle.evaluation.proofs.Sums.{bodiesCost, bodies-join, cost-parts, cost-some, sum-more}
 
 -- What a list of costs has at the place of a label's body: what is held of its cost, if it has a body.
 record Price (costs : List ℕ) (place cost : ℕ) : Type 0 where

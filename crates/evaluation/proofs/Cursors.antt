@@ -9,8 +9,8 @@ use Rattle.forest.proofs.Nodes.{length-nodes}
 use Rattle.forest.proofs.Rows.{length-rows}
 use Rattle.forest.specs.Forest.{from, join, nodesOf, none, size, tree}
 use Rattle.terms.specs.Labels.{Label, Terms}
-use Rattle.terms.specs.Nodes.{nodeRow, nodeTable, rowWidth}
-use Rattle.meaning.specs.Tables.{CallsKnown}
+use Rattle.terms.specs.code.Nodes.{nodeRow, nodeTable, rowWidth}
+use Rattle.evaluation.specs.code.Tables.{CallsKnown}
 
 -- Two forests that apply only functions that are known, joined.
 pub calls-join : (defs funs : ℕ) (a b : Terms) → CallsKnown defs funs a → CallsKnown defs funs b → CallsKnown defs funs (join a b)

@@ -11,22 +11,22 @@ use lib.ListN.{getD, length, length-map, replicate, take}
 use lib.Seq.{getD-take, length-sets}
 use Rattle.forest.proofs.Laws.{from-one}
 use Rattle.forest.specs.Forest.{count, from, join, none, size}
-use Rattle.bits.specs.Operators.{operatorSort}
-use Rattle.bits.specs.Sorts.{AllFit}
+use Rattle.operators.specs.Operators.{operatorSort}
+use Rattle.operators.specs.Sorts.{AllFit}
 use Rattle.terms.proofs.Bodies.{Says, plain-at, says}
 use Rattle.terms.specs.Costs.{bodyCost, costOf, costs, definedCost, functionCost}
 use Rattle.terms.specs.Labels.{defined, function, literal, name, operator}
-use Rattle.terms.specs.Nodes.{Plain, codeAt, codeOf, literalKind, nameKind, operatorKind, sizeAt, valueAt, valueOf}
+use Rattle.terms.specs.code.Nodes.{Plain, codeAt, codeOf, literalKind, nameKind, operatorKind, sizeAt, valueAt, valueOf}
 use Rattle.terms.specs.Values.{Meaning, definedValue, labelValue, meaningAt, numbersIn, sortsIn, value, valuesAt}
 use Rattle.terms.specs.declared.Value.{Value}
-use Rattle.meaning.specs.Steps.{Evaluable, Evaluated, Names, OperandsAre, OperandsEvaluable, OperandsEvaluated, OperatorGave, OperatorReady}
-use Rattle.meaning.specs.Tables.{TermStands, bodyPlace, mostArguments}
-use Rattle.meaning.proofs.Arguments.{stored, stored-front}
-use Rattle.meaning.proofs.LabelValues.{Operator, call-label, literal-label, name-label, no-functions, operator-few, operator-label, same-length}
-use Rattle.meaning.proofs.Bodies.{Body, held-seen}
-use Rattle.meaning.proofs.Cursors.{tree-within}
-use Rattle.meaning.proofs.Fitting.{Called, called-body, values-fit}
-use Rattle.meaning.proofs.Parts.{TreeParts, label-known, tree-parts, values-count}
+use Rattle.evaluation.specs.code.Evaluating.{Evaluable, Evaluated, Names, OperandsAre, OperandsEvaluable, OperandsEvaluated, OperatorGave, OperatorReady}
+use Rattle.evaluation.specs.code.Tables.{TermStands, bodyPlace, mostArguments}
+use Rattle.evaluation.proofs.Arguments.{stored, stored-front}
+use Rattle.evaluation.proofs.LabelValues.{Operator, call-label, literal-label, name-label, no-functions, operator-few, operator-label, same-length}
+use Rattle.evaluation.proofs.Bodies.{Body, held-seen}
+use Rattle.evaluation.proofs.Cursors.{tree-within}
+use Rattle.evaluation.proofs.Fitting.{Called, called-body, values-fit}
+use Rattle.evaluation.proofs.Parts.{TreeParts, label-known, tree-parts, values-count}
 
 module _ {nodes bodies env : List ℕ} {i left : ℕ} (e : Evaluable nodes bodies env i left) where
   -- What names and functions mean.

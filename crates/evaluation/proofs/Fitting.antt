@@ -9,17 +9,17 @@ use lib.Dec.{eqb}
 use lib.ListN.{length}
 use Rattle.forest.proofs.Options.{never, passed}
 use Rattle.forest.specs.Forest.{none, tree}
-use Rattle.bits.proofs.Closed.{closed}
-use Rattle.bits.specs.Operators.{operatorSort, operatorValue}
-use Rattle.bits.specs.Sorts.{Fit}
-use Rattle.bits.specs.Sorts.AllFit.{nothing as no-more, also}
+use Rattle.operators.proofs.Closed.{closed}
+use Rattle.operators.specs.Operators.{operatorSort, operatorValue}
+use Rattle.operators.specs.Sorts.{Fit}
+use Rattle.operators.specs.Sorts.AllFit.{nothing as no-more, also}
 use Rattle.terms.proofs.Sound.{Fits, fit-at, literal-fits, name-fits}
 use Rattle.terms.specs.Labels.{Label, Terms, defined, function, literal, name, operator}
 use Rattle.terms.specs.Sorts.{Definition, sameSorts}
 use Rattle.terms.specs.Values.{Meaning, called, definedValue, functionValue, labelValue, numbersIn, operatorGives, resultOf, sortsIn, value, valueWhen}
 use Rattle.terms.specs.Values.{valuesAt, valuesIn}
 use Rattle.terms.specs.declared.Value.{Value}
-use Rattle.meaning.proofs.Parts.{tree-parts}
+use Rattle.evaluation.proofs.Parts.{tree-parts}
 
 -- A value of its sort.
 record OfSort (v : Value) : Type 0 where

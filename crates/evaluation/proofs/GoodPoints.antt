@@ -9,12 +9,12 @@ use borrow.Author.Tests.{eqb-true, ltb-false, ltb-true, not-false}
 use lib.Dec.{eqb, ltb}
 use lib.ListN.{drop, getD, length}
 use lib.Seq.{getD-drop}
-use Rattle.bits.specs.Sorts.{AllFit, Fit, valuesOf}
-use Rattle.bits.specs.Sorts.AllFit.{nothing, also}
+use Rattle.operators.specs.Sorts.{AllFit, Fit, valuesOf}
+use Rattle.operators.specs.Sorts.AllFit.{nothing, also}
 use Rattle.terms.specs.Values.{numbersIn}
-use Rattle.running.specs.Points.{cutShort, firstOutside, pointAt, pointCount, pointsOf, valuesBy}
-use Rattle.running.specs.Steps.{SortsSmall}
-use Rattle.running.specs.declared.PointList.the-variants.{Bad, Good}
+use Rattle.evaluation.specs.Points.{cutShort, firstOutside, pointAt, pointCount, pointsOf, valuesBy}
+use Rattle.evaluation.specs.code.Runs.{SortsSmall}
+use Rattle.evaluation.specs.declared.PointList.the-variants.{Bad, Good}
 
 -- What the tests of a list that is points have found.
 pub record GoodList (sorts numbers : List ℕ) (n : ℕ) : Type 0 where

@@ -10,17 +10,17 @@ use lib.Dec.{eqb, leb, ltb}
 use lib.ListN.{getD, length}
 use Rattle.forest.proofs.Bools.{and-left, and-right, apart}
 use Rattle.forest.proofs.Options.{never, passed}
-use Rattle.bits.proofs.Table.{few-operands}
-use Rattle.bits.specs.Operators.{operatorAt, operatorCount, operatorSort, operatorValue}
-use Rattle.bits.specs.Sorts.{maxWidth, valuesOf}
+use Rattle.operators.proofs.Table.{few-operands}
+use Rattle.operators.specs.Operators.{operatorAt, operatorCount, operatorSort, operatorValue}
+use Rattle.operators.specs.Sorts.{maxWidth, valuesOf}
 use Rattle.terms.specs.Costs.{bodyCost, definedCost, functionCost}
 use Rattle.terms.specs.Labels.{Label, Terms, defined, function, literal, name, operator}
-use Rattle.terms.specs.Nodes.{Plain, codeOf, literalKind, nameKind, operatorKind, valueOf}
+use Rattle.terms.specs.code.Nodes.{Plain, codeOf, literalKind, nameKind, operatorKind, valueOf}
 use Rattle.terms.specs.Sorts.{Definition, sameSorts}
 use Rattle.terms.specs.Values.{Meaning, definedValue, functionValue, labelValue, meaningAt, numbersIn, operatorGives, sortsIn, value, valuesAt, valuesIn}
 use Rattle.terms.specs.declared.Value.{Value}
-use Rattle.meaning.specs.Tables.{BodiesHold, Callable, bodyPlace, mostArguments, mostDefined, mostFunctions}
-use Rattle.meaning.proofs.Bodies.{Body, held-defined, held-function}
+use Rattle.evaluation.specs.code.Tables.{BodiesHold, Callable, bodyPlace, mostArguments, mostDefined, mostFunctions}
+use Rattle.evaluation.proofs.Bodies.{Body, held-defined, held-function}
 
 -- The value of a literal is the one that its code and its value say.
 pub literal-label : (meaning : Meaning) (l : Label) (vs : List Value) {v : Value} → Plain l → codeOf l % 16 ≡ literalKind → labelValue meaning l vs ≡ some v

@@ -11,3 +11,9 @@ pub mod Operands
 pub mod LabelValues
 pub mod Evaluating
 pub mod Calls
+pub mod PointLists
+pub mod TermCosts
+pub mod Runs
+pub mod PointRuns
+pub mod GoodPoints
+pub mod Left

@@ -13,14 +13,14 @@ use Rattle.forest.specs.Forest.{count, from, join, none, size, tree}
 use Rattle.terms.proofs.Bodies.{Says, says}
 use Rattle.terms.specs.Costs.{costOf, costs}
 use Rattle.terms.specs.Labels.{Label, Terms}
-use Rattle.terms.specs.Nodes.{sizeAt}
+use Rattle.terms.specs.code.Nodes.{sizeAt}
 use Rattle.terms.specs.Values.{Meaning, labelValue, meaningAt, numbersIn, sortsIn, valueOver, valuesAt, valuesIn, withValue}
 use Rattle.terms.specs.declared.Value.{Value}
-use Rattle.meaning.specs.Steps.{Evaluable, Evaluated, OperandsAre, OperandsEvaluable}
-use Rattle.meaning.specs.Tables.{mostArguments}
-use Rattle.meaning.proofs.Arguments.{number-more, sort-more}
-use Rattle.meaning.proofs.Cursors.{tree-within}
-use Rattle.meaning.proofs.Parts.{TreeParts, tree-parts}
+use Rattle.evaluation.specs.code.Evaluating.{Evaluable, Evaluated, OperandsAre, OperandsEvaluable}
+use Rattle.evaluation.specs.code.Tables.{mostArguments}
+use Rattle.evaluation.proofs.Arguments.{number-more, sort-more}
+use Rattle.evaluation.proofs.Cursors.{tree-within}
+use Rattle.evaluation.proofs.Parts.{TreeParts, tree-parts}
 
 -- A tree that has a value, by itself.
 pub tree-value : (meaning : Meaning) (l : Label) (ops : Terms) {vs : List Value} {v : Value} → labelValue meaning l vs ≡ some v → valuesIn meaning ops ≡ some vs

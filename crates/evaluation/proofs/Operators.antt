@@ -3,10 +3,10 @@ use Prim.Native.Nat.{ℕ, _/_, _%_}
 use native.Mathlib.Omega.{arith}
 use mathlib.Core.Path.{_≡_, ap₂, _∙_}
 use mathlib.Core.Option.{some}
-use Rattle.bits.specs.Operators.{operatorSort}
-use Rattle.bits.specs.Steps.{Applied, Operable, ResultSort, Sortable}
+use Rattle.operators.specs.Operators.{operatorSort}
+use Rattle.operators.specs.code.Applying.{Applied, Operable, ResultSort, Sortable}
 use Rattle.terms.specs.Values.{numbersIn, sortsIn, value}
-use Rattle.meaning.specs.Steps.{OperatorGave, OperatorReady}
+use Rattle.evaluation.specs.code.Evaluating.{OperatorGave, OperatorReady}
 
 module _ {operator bounds sortOne sortTwo one two three : ℕ} (e : OperatorReady operator bounds sortOne sortTwo one two three) where
   -- The first number of `(_ extract i j)`, by the label's value.

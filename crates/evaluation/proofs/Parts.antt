@@ -15,7 +15,7 @@ use Rattle.terms.specs.Labels.{Label, Terms, defined, function, literal, name, 
 use Rattle.terms.specs.Sorts.{Definition}
 use Rattle.terms.specs.Values.{Meaning, definedValue, functionValue, labelValue, valueOver, valuesAt, valuesIn, withValue}
 use Rattle.terms.specs.declared.Value.{Value}
-use Rattle.meaning.specs.Tables.{CallsKnown, Callable}
+use Rattle.evaluation.specs.code.Tables.{CallsKnown, Callable}
 
 -- How values are joined.
 joining : Joining valueOver withValue

@@ -9,11 +9,11 @@ use lib.ListN.{drop, getD, length}
 use lib.Seq.{drop-length}
 use borrow.Author.Tests.{eqb-true, le-leb, le-ltb, lt-leb, lt-ltb, ltb-false, ltb-true, not-false, not-true}
 use Rattle.forest.proofs.Lists.{drop-next}
-use Rattle.bits.proofs.Below.{mod-below}
-use Rattle.bits.specs.Sorts.{valuesOf}
-use Rattle.running.specs.Points.{cutShort, firstOutside, pointCount, pointsOf}
-use Rattle.running.specs.Steps.{SortsSmall, VariableSorts}
-use Rattle.running.specs.declared.PointList.the-variants.{Bad, Good}
+use Rattle.operators.proofs.Below.{mod-below}
+use Rattle.operators.specs.Sorts.{valuesOf}
+use Rattle.evaluation.specs.Points.{cutShort, firstOutside, pointCount, pointsOf}
+use Rattle.evaluation.specs.code.Runs.{SortsSmall, VariableSorts}
+use Rattle.evaluation.specs.declared.PointList.the-variants.{Bad, Good}
 
 -- A number is below b where it is at most b - 1.
 below-is-most : (a b : ℕ) → 0 < b → leb a (b - 1) ≡ ltb a b

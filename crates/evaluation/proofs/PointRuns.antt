@@ -8,17 +8,17 @@ use mathlib.Core.List.{List, [], _∷_}
 use borrow.Author.Tests.{not-false, not-true}
 use lib.ListN.{drop, length, length-drop, take}
 use lib.Seq.{take-take}
-use Rattle.bits.specs.Sorts.{AllFit}
+use Rattle.operators.specs.Sorts.{AllFit}
 use Rattle.terms.specs.Labels.{Terms}
 use Rattle.terms.specs.Values.{numbersIn, sortsIn}
-use Rattle.meaning.specs.Steps.{Costing, Names}
-use Rattle.meaning.specs.Tables.{CallsKnown, TermStands}
-use Rattle.running.specs.Points.{pointAt, pointCount, valuesBy}
-use Rattle.running.specs.Running.{allPassed, leftOf, runPoints}
-use Rattle.running.specs.Steps.{PointsRunnable, PricedTo, Runnable, TermsCosting, TermsRan}
-use Rattle.running.specs.declared.Ran.{Ran}
-use Rattle.running.specs.declared.Ran.the-variants.{Passed}
-use Rattle.running.proofs.TermCosts.{known-at}
+use Rattle.evaluation.specs.code.Evaluating.{Costing, Names}
+use Rattle.evaluation.specs.code.Tables.{CallsKnown, TermStands}
+use Rattle.evaluation.specs.Points.{pointAt, pointCount, valuesBy}
+use Rattle.evaluation.specs.Running.{allPassed, leftOf, runPoints}
+use Rattle.evaluation.specs.code.Runs.{PointsRunnable, PricedTo, Runnable, TermsCosting, TermsRan}
+use Rattle.evaluation.specs.declared.Ran.{Ran}
+use Rattle.evaluation.specs.declared.Ran.the-variants.{Passed}
+use Rattle.evaluation.proofs.TermCosts.{known-at}
 
 -- The values of variables have their sorts.
 pub sorts-by : (sorts numbers : List ℕ) → sortsIn (valuesBy sorts numbers) ≡ sorts

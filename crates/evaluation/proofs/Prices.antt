@@ -10,10 +10,10 @@ use lib.Dec.{eqb}
 use lib.ListN.{getD, length, length-set, set}
 use lib.Seq.{getD-set-other, getD-set-same}
 use Rattle.terms.specs.Costs.{definedCost, functionCost}
-use Rattle.meaning.specs.Budget.{Priced, held}
-use Rattle.meaning.specs.Steps.{Cost, FilledTo, Filling, Priceable, Pricing}
-use Rattle.meaning.specs.Tables.{mostDefined, mostFunctions}
-use Rattle.meaning.proofs.Bodies.{held-defined, held-function, held-seen}
+use Rattle.evaluation.specs.code.Budget.{Priced, held}
+use Rattle.evaluation.specs.code.Evaluating.{Cost, FilledTo, Filling, Priceable, Pricing}
+use Rattle.evaluation.specs.code.Tables.{mostDefined, mostFunctions}
+use Rattle.evaluation.proofs.Bodies.{held-defined, held-function, held-seen}
 
 -- At the start nothing is filled in.
 pub fill-start : (costs : List ℕ) (base : ℕ) (price : ℕ → ℕ) → FilledTo costs costs base 0 price

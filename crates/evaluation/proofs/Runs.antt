@@ -13,15 +13,15 @@ use Rattle.terms.specs.Costs.{costOf}
 use Rattle.terms.specs.Labels.{Terms}
 use Rattle.terms.specs.Values.{valuesAt}
 use Rattle.terms.specs.declared.Value.{Value}
-use Rattle.meaning.specs.Budget.{held}
-use Rattle.meaning.specs.Steps.{Evaluable, Evaluated}
-use Rattle.meaning.specs.Tables.{CallsKnown, TermStands}
-use Rattle.running.specs.Running.{isTrue, runTerms}
-use Rattle.running.specs.Steps.{AllValued, HasTruth, Runnable, TermsAt}
-use Rattle.running.specs.declared.Ran.{Ran}
-use Rattle.running.specs.declared.Ran.the-variants.{Ended, False, Passed}
-use Rattle.meaning.proofs.Parts.{calls-known}
-use Rattle.meaning.proofs.Sums.{cost-some}
+use Rattle.evaluation.specs.code.Budget.{held}
+use Rattle.evaluation.specs.code.Evaluating.{Evaluable, Evaluated}
+use Rattle.evaluation.specs.code.Tables.{CallsKnown, TermStands}
+use Rattle.evaluation.specs.Running.{isTrue, runTerms}
+use Rattle.evaluation.specs.code.Runs.{AllValued, HasTruth, Runnable, TermsAt}
+use Rattle.evaluation.specs.declared.Ran.{Ran}
+use Rattle.evaluation.specs.declared.Ran.the-variants.{Ended, False, Passed}
+use Rattle.evaluation.proofs.Parts.{calls-known}
+use Rattle.evaluation.proofs.Sums.{cost-some}
 
 -- What is to be run before term k, with `left` of the budget, is what was to be run.
 pub record TermsLeft {nodes bodies prices places env : List ℕ} (e : Runnable nodes bodies prices places env) (p budget left k : ℕ) : Type 0 where

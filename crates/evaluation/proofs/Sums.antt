@@ -5,7 +5,7 @@ use mathlib.Core.Path.{_≡_}
 use Rattle.forest.specs.Forest.{join, none, size, tree}
 use Rattle.terms.specs.Costs.{BodyCosts, bodyCost, costs}
 use Rattle.terms.specs.Labels.{Label, Terms}
-use Rattle.meaning.specs.Budget.{held}
+use Rattle.evaluation.specs.code.Budget.{held}
 
 -- What the bodies that terms apply cost.
 unfoldable pub bodiesCost : BodyCosts → Terms → ℕ

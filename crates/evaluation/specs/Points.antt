@@ -4,11 +4,11 @@ use mathlib.Core.Bool.{Bool, cond, not}
 use mathlib.Core.List.{List, [], _∷_}
 use lib.Dec.{eqb, ltb}
 use lib.ListN.{drop, getD, length}
-use Rattle.bits.specs.Sorts.{valuesOf}
+use Rattle.operators.specs.Sorts.{valuesOf}
 use Rattle.terms.specs.Values.{value}
 use Rattle.terms.specs.declared.Value.{Value}
-use Rattle.running.specs.declared.PointList.{PointList}
-use Rattle.running.specs.declared.PointList.the-variants.{Good, Bad}
+use Rattle.evaluation.specs.declared.PointList.{PointList}
+use Rattle.evaluation.specs.declared.PointList.the-variants.{Good, Bad}
 
 -- How many points a list of `size` numbers is, where there are n variables: "With no variables the list is empty and one empty point is taken.
 -- With variables and an empty list nothing is evaluated."

@@ -2,7 +2,7 @@
 -- what the budget has left isn't begun."
 use Prim.Native.Nat.{ℕ, zero, suc, _+_, _-_}
 use mathlib.Core.Bool.{Bool, true, false, cond, _&&_}
-use Rattle.bits.specs.Sorts.{bool}
+use Rattle.operators.specs.Sorts.{bool}
 use mathlib.Core.List.{List, [], _∷_}
 use mathlib.Core.Option.{Option, none as nothing, some}
 use lib.Dec.{eqb, leb}
@@ -11,9 +11,9 @@ use Rattle.terms.specs.Labels.{Terms}
 use Rattle.terms.specs.Sorts.{Definition}
 use Rattle.terms.specs.Values.{valuesAt}
 use Rattle.terms.specs.declared.Value.{Value}
-use Rattle.running.specs.Points.{pointAt}
-use Rattle.running.specs.declared.Ran.{Ran}
-use Rattle.running.specs.declared.Ran.the-variants.{Passed, False, Ended}
+use Rattle.evaluation.specs.Points.{pointAt}
+use Rattle.evaluation.specs.declared.Ran.{Ran}
+use Rattle.evaluation.specs.declared.Ran.the-variants.{Passed, False, Ended}
 
 -- Whether a term's value is true: it has one value, which is the Bool 1.
 unfoldable pub isTrue : Option (List Value) → Bool

@@ -7,8 +7,8 @@ use terms::value_at;
 ghost use mathlib.Core.Path.{_≡_};
 ghost use Prim.Native.Nat.{_+_, _-_, _^_, min};
 ghost use lib.ListN.{getD};
-ghost use Rattle.meaning.specs.Steps.{Cost, Costing, FilledIn, Filling, Prices, Pricing};
-ghost use Rattle.meaning.specs.Tables.{bodyPlace};
+ghost use Rattle.evaluation.specs.code.Evaluating.{Cost, Costing, FilledIn, Filling, Prices, Pricing};
+ghost use Rattle.evaluation.specs.code.Tables.{bodyPlace};
 
 // How many `define-fun`s there may be; the bodies of synthesized functions have their places behind these.
 const MOST_DEFINED: usize = 32;

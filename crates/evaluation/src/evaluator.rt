@@ -1,8 +1,8 @@
 //! The evaluator: the term evaluator calls an operand evaluator, which calls it back, and the cost left falls.
 use crate::costs::body_place;
 use crate::costs::number_in;
-use bits::operators::apply;
-use bits::operators::result_sort;
+use operators::operators::apply;
+use operators::operators::result_sort;
 use terms::LITERAL;
 use terms::NAME;
 use terms::OPERATOR;
@@ -13,7 +13,7 @@ use terms::value_at;
 ghost use mathlib.Core.Path.{_≡_};
 ghost use mathlib.Core.Bool.{cond};
 ghost use lib.Dec.{eqb};
-ghost use Rattle.meaning.specs.Steps.{Evaluable, Evaluated, OperandsEvaluable, OperandsEvaluated, OperatorGave, OperatorReady};
+ghost use Rattle.evaluation.specs.code.Evaluating.{Evaluable, Evaluated, OperandsEvaluable, OperandsEvaluated, OperatorGave, OperatorReady};
 
 // The sorts of the first two operands; what is not there is 0.
 struct Sorts {

@@ -3,9 +3,9 @@ use crate::PointList;
 ghost use mathlib.Core.Path.{_≡_};
 ghost use Prim.Native.Nat.{_≤_};
 ghost use lib.Dec.{ltb};
-ghost use Rattle.running.specs.Steps.{SortsSmall, VariableSorts};
-ghost use Rattle.bits.specs.Sorts.{valuesOf};
-ghost use Rattle.running.specs.Points.{cutShort, firstOutside, pointCount, pointsOf};
+ghost use Rattle.evaluation.specs.code.Runs.{SortsSmall, VariableSorts};
+ghost use Rattle.operators.specs.Sorts.{valuesOf};
+ghost use Rattle.evaluation.specs.Points.{cutShort, firstOutside, pointCount, pointsOf};
 
 // Whether a number is a value of a sort.
 fn fits(sort: u64, number: u64) -> bool
@@ -15,7 +15,7 @@ fn fits(sort: u64, number: u64) -> bool
     if sort == 0 {
         return number < 2;
     }
-    number <= bits::ones(sort)
+    number <= operators::ones(sort)
 }
 
 // How many points a list of `size` numbers is, by how many variables there are.

@@ -1,13 +1,13 @@
 //! The run over points and terms in order, within a budget.
 use crate::Ran;
+use crate::costs::cost_at;
+use crate::evaluator::eval_term;
 use crate::points::point_count;
-use meaning::costs::cost_at;
-use meaning::evaluator::eval_term;
 ghost use mathlib.Core.Path.{_≡_};
 ghost use mathlib.Core.Bool.{Bool};
 ghost use lib.ListN.{length};
-ghost use Rattle.running.specs.Running.{allPassed, leftOf};
-ghost use Rattle.running.specs.Steps.{PointsRan, PointsRunnable, PricedTo, Runnable, TermsCosting, TermsRan};
+ghost use Rattle.evaluation.specs.Running.{allPassed, leftOf};
+ghost use Rattle.evaluation.specs.code.Runs.{PointsRan, PointsRunnable, PricedTo, Runnable, TermsCosting, TermsRan};
 
 // What is left of the budget.
 pub fn left_of(ran: Ran) -> u64

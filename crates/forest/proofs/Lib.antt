@@ -4,3 +4,4 @@ pub mod Lists
 pub mod Nodes
 pub mod Options
 pub mod Rows
+pub mod Searching

@@ -10,9 +10,9 @@ use lib.Dec.{eqb, ltb}
 use lib.ListN.{drop, getD, length, take, drop-of-length-le, length-append}
 use lib.Seq.{drop-append-seam, take-append-seam}
 use borrow.Author.Tests.{eq-eqb, le-ltb, lt-ltb, ne-eqb}
 use Rattle.forest.specs.Lists.{sameBytes}
 use Rattle.forest.proofs.Lists.{drop-next}
-use Rattle.lookup.specs.Search.{Rising, placeIn, wordsIn}
+use Rattle.forest.specs.Search.{Rising, placeIn, wordsIn}
 
 -- lists of two lengths differ
 pub lengths-differ : (left right : List ℕ) → (length left ≡ length right → ⊥) → false ≡ sameBytes left right

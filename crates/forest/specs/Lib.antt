@@ -1,3 +1,4 @@
 pub mod Forest
 pub mod Lists
-pub mod Rows
+pub mod Search
+pub mod code

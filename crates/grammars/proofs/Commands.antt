@@ -6,17 +6,17 @@ use mathlib.Core.Bool.{Bool, true}
 use mathlib.Core.List.{List}
 use Rattle.forest.proofs.Bools.{and-left, and-right}
 use Rattle.forest.specs.Forest.{tree}
-use Rattle.scanning.specs.Trees.{Lexeme, list}
+use Rattle.words.specs.Trees.{Lexeme, list}
 use Rattle.lexemes.specs.Lists.{Items, closeOf, isList, isSymbol, item}
-use Rattle.lexemes.specs.Standing.{Between, ListAt, Source, Stands}
-use Rattle.lexemes.specs.Table.{nextAt}
+use Rattle.lexemes.specs.code.Standing.{Between, ListAt, Source, Stands}
+use Rattle.lexemes.specs.code.Table.{nextAt}
 use Rattle.lexemes.proofs.Listed.{at-item, held, list-from}
 use Rattle.lexemes.proofs.Standing.{forward}
 use Rattle.shapes.specs.Shapes.{all, groupShape, isListOf, pairShape, synthFunShape}
-use Rattle.sorts.specs.Steps.{ShapedAt, SortAt, SynthFunAt}
-use Rattle.sorts.proofs.Commands.{come-declared, grammar-groups, grammar-pairs, header, header-sort, synth-fun-parts}
-use Rattle.sorts.proofs.Walked.{come-next, item-come}
-use Rattle.grammars.specs.Steps.{groupsWord, nonTerminalsWord, resultWord}
+use Rattle.written_sorts.specs.code.Places.{ShapedAt, SortAt, SynthFunAt}
+use Rattle.written_sorts.proofs.Commands.{come-declared, grammar-groups, grammar-pairs, header, header-sort, synth-fun-parts}
+use Rattle.written_sorts.proofs.Walked.{come-next, item-come}
+use Rattle.grammars.specs.code.Reading.{groupsWord, nonTerminalsWord, resultWord}
 use Rattle.grammars.proofs.Within.{amid}
 
 module _ (shape : Lexeme → Items → Bool) {lexemes : List ℕ} {at : ℕ} (p : ShapedAt (isListOf shape) lexemes at) where

@@ -8,10 +8,10 @@ use lib.Dec.{eqb}
 use borrow.Author.Tests.{eq-eqb, eqb-true, ne-eqb}
 use Rattle.forest.specs.Forest.{count, none, tree}
 use Rattle.forest.proofs.Bools.{apart}
-use Rattle.scanning.specs.Trees.{list}
+use Rattle.words.specs.Trees.{list}
 use Rattle.lexemes.specs.Lists.{Items}
-use Rattle.lexemes.specs.Table.{nextAt}
-use Rattle.lexemes.specs.Standing.{ListAt, Source, Stands, bracketed, ends, word}
+use Rattle.lexemes.specs.code.Table.{nextAt}
+use Rattle.lexemes.specs.code.Standing.{ListAt, Source, Stands, bracketed, ends, word}
 use Rattle.lexemes.proofs.Listed.{held}
 use Rattle.lexemes.proofs.Standing.{forward}
 

@@ -9,21 +9,21 @@ use borrow.Author.Tests.{eq-eqb, eqb-false, eqb-true, ne-eqb}
 use Rattle.forest.specs.Forest.{count}
 use Rattle.forest.specs.Lists.{sameBytes}
 use Rattle.forest.proofs.Bools.{and-left, and-right}
-use Rattle.scanning.specs.Trees.{Lexeme, list, literal, numeral, symbol}
+use Rattle.words.specs.Trees.{Lexeme, list, literal, numeral, symbol}
 use Rattle.lexemes.specs.Lists.{Items, closeOf, inside, isList, isSymbol, item, nameOf}
-use Rattle.lexemes.specs.Table.{nextAt}
-use Rattle.lexemes.specs.Standing.{ListAt, Source, WordIs, spelt}
+use Rattle.lexemes.specs.code.Table.{nextAt}
+use Rattle.lexemes.specs.code.Standing.{ListAt, Source, WordIs, spelt}
 use Rattle.lexemes.proofs.Listed.{at-item, list-from}
 use Rattle.shapes.specs.Shapes.{all, groupShape, ruleShape, sortShape}
-use Rattle.sorts.specs.Steps.{ShapedAt, SortAt}
-use Rattle.sorts.specs.Written.{sortOf}
-use Rattle.sorts.proofs.Walked.{come-first, item-come, word-is}
-use Rattle.sorts.proofs.Parts.{Sorted, group-parts, group-rules, group-sort}
-use Rattle.lookup.specs.Search.{placeIn}
-use Rattle.naming.specs.Steps.{bytesAt}
-use Rattle.naming.specs.Table.{nameIn, namesFrom, sortIn}
-use Rattle.listing.specs.Steps.{GroupAt, groupMisfit, nameMisfit, rulesMisfit}
-use Rattle.listing.proofs.Start.{name-placed}
+use Rattle.written_sorts.specs.code.Places.{ShapedAt, SortAt}
+use Rattle.written_sorts.specs.Written.{sortOf}
+use Rattle.written_sorts.proofs.Walked.{come-first, item-come, word-is}
+use Rattle.written_sorts.proofs.Parts.{Sorted, group-parts, group-rules, group-sort}
+use Rattle.forest.specs.Search.{placeIn}
+use Rattle.names.specs.code.Lookup.{bytesAt}
+use Rattle.names.specs.code.Table.{nameIn, namesFrom, sortIn}
+use Rattle.grammars.specs.code.Listed.{GroupAt, groupMisfit, nameMisfit, rulesMisfit}
+use Rattle.grammars.proofs.Start.{name-placed}
 
 -- numbers are equal either way round
 same-turned : (m n : ℕ) → eqb m n ≡ eqb n m

@@ -1,3 +1,7 @@
+pub mod Empty
+pub mod Start
+pub mod Groups
+pub mod Listing
 pub mod Within
 pub mod Commands
 pub mod Limits

@@ -3,18 +3,18 @@ use Prim.Native.Nat.{ℕ, _+_, _-_, min}
 use native.Mathlib.Omega.{arith}
 use mathlib.Core.Path.{_≡_, ap₂, _∙_}
 use mathlib.Core.List.{List}
-use Rattle.lexemes.specs.Standing.{Between}
-use Rattle.lexemes.specs.Table.{nextAt}
+use Rattle.lexemes.specs.code.Standing.{Between}
+use Rattle.lexemes.specs.code.Table.{nextAt}
 use Rattle.lexemes.proofs.Standing.{forward}
 use Rattle.shapes.specs.Shapes.{groupShape}
-use Rattle.sorts.specs.Steps.{SynthFunAt}
-use Rattle.sorts.specs.Written.{grammarSorts}
-use Rattle.sorts.specs.declared.Fault.the-variants.{TooWide}
-use Rattle.rules.specs.Rules.{itemPast}
-use Rattle.rules.specs.Steps.{GroupsBetween, RulesGathered}
-use Rattle.rules.specs.declared.Gathered.{Gathered}
-use Rattle.standing.proofs.Rising.{rules-rise}
-use Rattle.grammars.specs.Steps.{GrammarAt, Limited, groupsWord, nonTerminalsWord}
+use Rattle.written_sorts.specs.code.Places.{SynthFunAt}
+use Rattle.written_sorts.specs.Written.{grammarSorts}
+use Rattle.written_sorts.specs.declared.Fault.the-variants.{TooWide}
+use Rattle.term_nodes.specs.Rules.{itemPast}
+use Rattle.term_nodes.specs.code.RuleGathering.{GroupsBetween, RulesGathered}
+use Rattle.term_nodes.specs.declared.Gathered.{Gathered}
+use Rattle.term_faults.proofs.Rising.{rules-rise}
+use Rattle.grammars.specs.code.Reading.{GrammarAt, Limited, groupsWord, nonTerminalsWord}
 use Rattle.grammars.proofs.Commands.{as-list, groups, groups-within, items-between, items-shaped, pairs-between}
 use Rattle.grammars.proofs.Within.{rising-few}
 

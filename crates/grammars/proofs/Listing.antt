@@ -7,21 +7,21 @@ use mathlib.Core.Bool.{true}
 use mathlib.Core.List.{List, [], _∷_}
 use Rattle.forest.specs.Forest.{none, tree}
 use Rattle.forest.proofs.Bools.{and-left, and-right}
-use Rattle.scanning.specs.Trees.{Lexeme, wordOf}
+use Rattle.words.specs.Trees.{Lexeme, wordOf}
 use Rattle.lexemes.specs.Lists.{Items, item}
-use Rattle.lexemes.specs.Table.{nextAt}
-use Rattle.lexemes.specs.Standing.{Between, ItemAt, ListAt, Source, Stands, bracketed, ends, word}
+use Rattle.lexemes.specs.code.Table.{nextAt}
+use Rattle.lexemes.specs.code.Standing.{Between, ItemAt, ListAt, Source, Stands, bracketed, ends, word}
 use Rattle.lexemes.proofs.Along.{Along, along-end, along-here, along-start, along-turn, item-of}
 use Rattle.lexemes.proofs.Standing.{forward}
 use Rattle.shapes.specs.Shapes.{all, groupShape}
-use Rattle.sorts.proofs.Parts.{group-parts}
-use Rattle.naming.specs.Scopes.{Named, namesOf, namedSorts}
-use Rattle.naming.specs.Steps.{sourceOf}
-use Rattle.naming.specs.Table.{nameIn, namesFrom, nonTerminalRow, sortIn, sortsFrom}
-use Rattle.listing.specs.Listing.{listingMisfit}
-use Rattle.listing.specs.Steps.{GroupAt, GroupsAt, groupMisfit}
-use Rattle.listing.proofs.Empty.{before-next, close-is, within}
-use Rattle.listing.proofs.Start.{name-placed}
+use Rattle.written_sorts.proofs.Parts.{group-parts}
+use Rattle.names.specs.Scopes.{Named, namesOf, namedSorts}
+use Rattle.names.specs.code.Lookup.{sourceOf}
+use Rattle.names.specs.code.Table.{nameIn, namesFrom, nonTerminalRow, sortIn, sortsFrom}
+use Rattle.grammars.specs.Listing.{listingMisfit}
+use Rattle.grammars.specs.code.Listed.{GroupAt, GroupsAt, groupMisfit}
+use Rattle.grammars.proofs.Empty.{before-next, close-is, within}
+use Rattle.grammars.proofs.Start.{name-placed}
 
 -- So many rows from a row on hold the non-terminals.
 pub record Rows (names : List ℕ) (row n : ℕ) (declared : List Named) : Type 0 where

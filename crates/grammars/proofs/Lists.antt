@@ -3,10 +3,10 @@ use Prim.Native.Nat.{ℕ, min}
 use mathlib.Core.Path.{_≡_, ap₂, _∙_}
 use mathlib.Core.List.{List}
 use Rattle.shapes.specs.Shapes.{groupShape, pairShape}
-use Rattle.sorts.specs.Steps.{SortAt, SynthFunAt}
-use Rattle.sorts.specs.Written.{sortOf}
-use Rattle.listing.specs.Steps.{GroupsAt, ListingTested, PairsAt, StartTested}
-use Rattle.grammars.specs.Steps.{Declared, ListsTested, groupsWord, nonTerminalsWord, resultWord}
+use Rattle.written_sorts.specs.code.Places.{SortAt, SynthFunAt}
+use Rattle.written_sorts.specs.Written.{sortOf}
+use Rattle.grammars.specs.code.Listed.{GroupsAt, ListingTested, PairsAt, StartTested}
+use Rattle.grammars.specs.code.Reading.{Declared, ListsTested, groupsWord, nonTerminalsWord, resultWord}
 use Rattle.grammars.proofs.Commands.{as-list, closes, command-at, groups, items-shaped, pairs, result-sort}
 
 module _ {text lexemes names : List ℕ} {at listed : ℕ} (p : Declared text lexemes names at listed) where

@@ -5,23 +5,23 @@ use mathlib.Core.Path.{_≡_, refl, ap₂, _∙_}
 use mathlib.Core.List.{List}
 use Rattle.forest.specs.Forest.{count}
 use Rattle.lexemes.specs.Lists.{inside}
-use Rattle.lexemes.specs.Standing.{Between}
-use Rattle.lexemes.specs.Table.{nextAt}
+use Rattle.lexemes.specs.code.Standing.{Between}
+use Rattle.lexemes.specs.code.Table.{nextAt}
 use Rattle.shapes.specs.Shapes.{groupShape, pairShape}
-use Rattle.sorts.specs.Steps.{SynthFunAt}
-use Rattle.sorts.specs.Written.{grammarSorts}
-use Rattle.sorts.specs.declared.Fault.the-variants.{Unknown}
-use Rattle.gathering.specs.Steps.{Counted, Counting}
-use Rattle.naming.specs.Scopes.{inOrder}
-use Rattle.naming.specs.Steps.{Resolved, Resolving, Sees}
-use Rattle.naming.specs.Table.{namesFrom, nonTerminalRow}
-use Rattle.naming.specs.declared.Seen.{Seen}
-use Rattle.declaring.specs.Steps.{NewPairs, PairsNamed}
-use Rattle.declaring.specs.declared.Scope.{Scope}
-use Rattle.rules.specs.Rules.{rulesIn, sides}
-use Rattle.standing.proofs.Headed.{rules-headed}
-use Rattle.standing.proofs.Said.{rules-say}
-use Rattle.grammars.specs.Steps.{GrammarNamed, Naming, nonTerminalsWord, viewIn}
+use Rattle.written_sorts.specs.code.Places.{SynthFunAt}
+use Rattle.written_sorts.specs.Written.{grammarSorts}
+use Rattle.written_sorts.specs.declared.Fault.the-variants.{Unknown}
+use Rattle.term_nodes.specs.code.Gathering.{Counted, Counting}
+use Rattle.names.specs.Scopes.{inOrder}
+use Rattle.names.specs.code.Lookup.{Resolved, Resolving, Sees}
+use Rattle.names.specs.code.Table.{namesFrom, nonTerminalRow}
+use Rattle.names.specs.declared.Seen.{Seen}
+use Rattle.names.specs.code.NewNames.{NewPairs, PairsNamed}
+use Rattle.names.specs.declared.Scope.{Scope}
+use Rattle.term_nodes.specs.Rules.{rulesIn, sides}
+use Rattle.term_faults.proofs.Headed.{rules-headed}
+use Rattle.term_faults.proofs.Said.{rules-say}
+use Rattle.grammars.specs.code.Reading.{GrammarNamed, Naming, nonTerminalsWord, viewIn}
 use Rattle.grammars.proofs.Commands.{as-list, command-at, groups, items-between, items-shaped, pairs, pairs-between}
 
 -- What the rules of a grammar see, by the rows of the table of names.

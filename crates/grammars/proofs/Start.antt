@@ -8,17 +8,17 @@ use lib.Dec.{eqb}
 use borrow.Author.Tests.{eq-eqb, eqb-false, ne-eqb}
 use Rattle.forest.specs.Forest.{count, none, tree}
 use Rattle.forest.proofs.Bools.{and-left}
-use Rattle.scanning.specs.Trees.{Lexeme, wordOf}
+use Rattle.words.specs.Trees.{Lexeme, wordOf}
 use Rattle.lexemes.specs.Lists.{Items, inside, item}
-use Rattle.lexemes.specs.Standing.{ItemAt, ListAt}
+use Rattle.lexemes.specs.code.Standing.{ItemAt, ListAt}
 use Rattle.lexemes.proofs.Listed.{list-from}
 use Rattle.shapes.specs.Shapes.{all, pairShape}
-use Rattle.sorts.specs.Steps.{ShapedAt, SortAt}
-use Rattle.sorts.specs.Written.{sortOf}
-use Rattle.sorts.proofs.Walked.{come-first, item-come, placed}
-use Rattle.sorts.proofs.Parts.{Sorted, pair-sort, shaped-come, sorted}
-use Rattle.listing.specs.Listing.{startMisfit}
-use Rattle.listing.specs.Steps.{PairsAt}
+use Rattle.written_sorts.specs.code.Places.{ShapedAt, SortAt}
+use Rattle.written_sorts.specs.Written.{sortOf}
+use Rattle.written_sorts.proofs.Walked.{come-first, item-come, placed}
+use Rattle.written_sorts.proofs.Parts.{Sorted, pair-sort, shaped-come, sorted}
+use Rattle.grammars.specs.Listing.{startMisfit}
+use Rattle.grammars.specs.code.Listed.{PairsAt}
 
 -- the first of items that all are of a shape
 pub first-shaped : (shape : Lexeme → Items → Bool) (F : Items) → all shape F ≡ true → 0 < count F → shape (item 0 F) (inside 0 F) ≡ true

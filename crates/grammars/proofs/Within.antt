@@ -4,13 +4,13 @@ use native.Mathlib.Omega.{arith}
 use mathlib.Core.Path.{_≡_, refl, sym, _∙_, subst}
 use Rattle.forest.specs.Forest.{Forest, count, none, size, tree}
 use Rattle.forest.proofs.Bools.{apart}
-use Rattle.scanning.specs.Trees.{Lexeme}
+use Rattle.words.specs.Trees.{Lexeme}
 use Rattle.lexemes.specs.Lists.{Items, after}
-use Rattle.lexemes.specs.Standing.{Source, Stands, bracketed, ends, word}
+use Rattle.lexemes.specs.code.Standing.{Source, Stands, bracketed, ends, word}
 use Rattle.lexemes.proofs.Standing.{forward}
-use Rattle.sorts.proofs.Walked.{placed}
-use Rattle.gathering.specs.Terms.{Raw}
-use Rattle.faults.specs.Steps.{Rising}
+use Rattle.written_sorts.proofs.Walked.{placed}
+use Rattle.term_nodes.specs.Terms.{Raw}
+use Rattle.term_faults.specs.code.Seeking.{Rising}
 
 -- Items that stand from word j to before word f begin at word i or behind it, and end before word e.
 pub record Amid (i j f e : ℕ) : Type 0 where

@@ -3,17 +3,17 @@
 use Prim.Native.Nat.{ℕ, min}
 use mathlib.Core.List.{List, map}
 use Rattle.forest.specs.Forest.{nodesOf}
-use Rattle.grammar.specs.Derivation.{Rule, rule}
+use Rattle.derivation.specs.Derivation.{Rule, rule}
 use Rattle.lexemes.specs.Lists.{Items, closeOf, inside, item}
-use Rattle.declaring.specs.New.{newPairs}
-use Rattle.naming.specs.Scopes.{View, formsOf}
-use Rattle.naming.specs.Unknown.{unknownIn}
-use Rattle.faults.specs.Faults.{ruleMisfit, termFault}
-use Rattle.heading.specs.Heads.{Counts}
-use Rattle.listing.specs.Listing.{listingMisfit, startMisfit}
-use Rattle.rules.specs.Rules.{Ruled, itemPast, nodesPast, rulePast, rulesIn, sides}
-use Rattle.sorts.specs.Written.{grammarSorts, sortOf}
-use Rattle.sorts.specs.declared.Fault.the-variants.{Empty, TooWide, Unknown}
+use Rattle.names.specs.New.{newPairs}
+use Rattle.names.specs.Scopes.{View, formsOf}
+use Rattle.names.specs.Unknown.{unknownIn}
+use Rattle.term_faults.specs.Faults.{ruleMisfit, termFault}
+use Rattle.headers.specs.Heads.{Counts}
+use Rattle.grammars.specs.Listing.{listingMisfit, startMisfit}
+use Rattle.term_nodes.specs.Rules.{Ruled, itemPast, nodesPast, rulePast, rulesIn, sides}
+use Rattle.written_sorts.specs.Written.{grammarSorts, sortOf}
+use Rattle.written_sorts.specs.declared.Fault.the-variants.{Empty, TooWide, Unknown}
 
 -- 4, "past a limit".
 abbrev pub grammarPast : Counts → (nowhere : ℕ) → Items → ℕ

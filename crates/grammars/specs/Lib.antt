@@ -1,2 +1,3 @@
+pub mod Listing
 pub mod Grammars
-pub mod Steps
+pub mod code

@@ -5,10 +5,10 @@ use mathlib.Core.List.{List, [], _∷_}
 use lib.Dec.{eqb}
 use Rattle.forest.specs.Forest.{count, none, tree}
 use Rattle.forest.specs.Lists.{sameBytes}
-use Rattle.scanning.specs.Trees.{wordOf}
+use Rattle.words.specs.Trees.{wordOf}
 use Rattle.lexemes.specs.Lists.{Items, closeOf, inside, item, nameOf}
-use Rattle.naming.specs.Scopes.{Named}
-use Rattle.sorts.specs.Written.{sortOf}
+use Rattle.names.specs.Scopes.{Named}
+use Rattle.written_sorts.specs.Written.{sortOf}
 
 -- "then lists each again, same order and sort, with one or more rules (else answer 9)": the non-terminals that are still to be listed, and the groups;
 -- `close` is the bracket that closes the listing. A non-terminal that is another one, or of another sort, or one too many, is at fault at its listed name; a

@@ -1,16 +1,16 @@
 //! The start of a grammar, and its non-terminals listed again.
 use lexemes::next_at;
-use naming::spelled::bytes_at;
-use naming::table::NON_TERMINALS;
-use naming::table::find_name;
-use naming::table::sort_in;
-use sorts::places::least;
-use sorts::places::sort_of;
+use names::spelled::bytes_at;
+use names::table::NON_TERMINALS;
+use names::table::find_name;
+use names::table::sort_in;
+use written_sorts::places::least;
+use written_sorts::places::sort_of;
 ghost use mathlib.Core.Path.{_≡_};
 ghost use lib.Dec.{eqb};
 ghost use Rattle.forest.specs.Forest.{count};
-ghost use Rattle.lexemes.specs.Standing.{ListAt};
-ghost use Rattle.listing.specs.Steps.{GroupAt, GroupsAt, ListingTested, PairsAt, StartTested, groupMisfit, nameMisfit, rulesMisfit};
+ghost use Rattle.lexemes.specs.code.Standing.{ListAt};
+ghost use Rattle.grammars.specs.code.Listed.{GroupAt, GroupsAt, ListingTested, PairsAt, StartTested, groupMisfit, nameMisfit, rulesMisfit};
 
 // Whether the list at a word holds nothing.
 fn is_empty(lexemes: &[u64], list: usize) -> bool

@@ -1,26 +1,26 @@
 //! The four tests of a grammar.
+use crate::listed::listing_misfit;
+use crate::listed::start_misfit;
 use crate::parts::close_at;
 use crate::parts::groups_at;
 use crate::parts::non_terminals_at;
 use crate::parts::result_at;
-use declaring::Scope;
-use declaring::names::new_pairs;
-use faults::bodies::fault_word;
-use gathering::sizes::count_nodes;
 use lexemes::items::count_items;
-use listing::listed::listing_misfit;
-use listing::listed::start_misfit;
-use naming::Seen;
-use naming::forms::write_forms;
-use naming::table::NON_TERMINALS;
-use rules::Gathered;
-use rules::gather::gather_rules;
-use rules::limits::item_past;
-use sorts::Fault;
-use sorts::headers::grammar_place;
-use sorts::places::least;
-use sorts::places::sort_of;
-ghost use Rattle.grammars.specs.Steps.{Declared, GrammarAt, GrammarNamed, Limited, ListsTested, Naming, Sorted, Sorting};
+use names::Scope;
+use names::Seen;
+use names::forms::write_forms;
+use names::new::new_pairs;
+use names::table::NON_TERMINALS;
+use term_faults::bodies::fault_word;
+use term_nodes::Gathered;
+use term_nodes::rule_limits::item_past;
+use term_nodes::rules::gather_rules;
+use term_nodes::sizes::count_nodes;
+use written_sorts::Fault;
+use written_sorts::headers::grammar_place;
+use written_sorts::places::least;
+use written_sorts::places::sort_of;
+ghost use Rattle.grammars.specs.code.Reading.{Declared, GrammarAt, GrammarNamed, Limited, ListsTested, Naming, Sorted, Sorting};
 
 // Gathers the rules of the `synth-fun` at a word, and finds the least word past a limit.
 pub fn grammar_past(

@@ -4,14 +4,14 @@ use native.Mathlib.Omega.{arith}
 use mathlib.Core.Path.{_≡_, sym, ap, _∙_}
 use mathlib.Core.Bool.{Bool, true, false, cond}
 use mathlib.Core.List.{List, [], _∷_, _++_, append-assoc, append-nil}
-use Rattle.naming.specs.Scopes.{isNamed}
-use Rattle.naming.specs.Steps.{Kept}
-use Rattle.naming.specs.Table.{definedRow, functionRow, nameIn, namesFrom, rowCount, variableRow}
-use Rattle.naming.proofs.Putting.{last-row}
-use Rattle.declaring.specs.Steps.{Few, namesIn}
-use Rattle.declaring.specs.declared.Scope.{Scope}
-use Rattle.declaring.proofs.Members.{SameNames, name-between}
-use Rattle.heading.specs.Steps.{firstRow, grownBy, ownRow}
+use Rattle.names.specs.Scopes.{isNamed}
+use Rattle.names.specs.code.Lookup.{Kept}
+use Rattle.names.specs.code.Table.{definedRow, functionRow, nameIn, namesFrom, rowCount, variableRow}
+use Rattle.names.proofs.Putting.{last-row}
+use Rattle.names.specs.code.NewNames.{Few, namesIn}
+use Rattle.names.specs.declared.Scope.{Scope}
+use Rattle.names.proofs.Members.{SameNames, name-between}
+use Rattle.headers.specs.code.Heading.{firstRow, grownBy, ownRow}
 
 -- There is a row for one more name.
 abbrev OneMore : (synthesized : Bool) → Scope → Type 0

@@ -10,19 +10,19 @@ use borrow.Author.Tests.{eqb-true, not-false, not-true}
 use Rattle.forest.specs.Forest.{count, none, tree}
 use Rattle.forest.specs.Lists.{sameBytes}
 use Rattle.forest.proofs.Bools.{and-left, and-right}
-use Rattle.scanning.specs.Trees.{list}
+use Rattle.words.specs.Trees.{list}
 use Rattle.lexemes.specs.Lists.{Items, inside, isList, isSymbol, item, nameOf}
-use Rattle.lexemes.specs.Standing.{ItemAt, ListAt, WordIs}
-use Rattle.lexemes.specs.Table.{nextAt}
+use Rattle.lexemes.specs.code.Standing.{ItemAt, ListAt, WordIs}
+use Rattle.lexemes.specs.code.Table.{nextAt}
 use Rattle.lexemes.proofs.Listed.{at-item, item-ahead, item-room}
 use Rattle.shapes.specs.Shapes.{all, defineFunShape, headerShape, isListOf, pairShape, sortShape, termShape}
-use Rattle.sorts.specs.Steps.{HeaderAt, SortAt}
-use Rattle.sorts.proofs.Commands.{header-arguments, header-sort}
-use Rattle.sorts.proofs.Parts.{list-between}
-use Rattle.sorts.proofs.Walked.{Come, come-behind, come-first, item-come, symbol-word, word-is}
-use Rattle.naming.specs.Steps.{bytesAt, sourceOf}
-use Rattle.naming.specs.Table.{functionRow, nameIn, ownArgumentRow}
-use Rattle.headers.specs.Steps.{Compared, Differs, Held, PairsAt, PairsHeld}
+use Rattle.written_sorts.specs.code.Places.{HeaderAt, SortAt}
+use Rattle.written_sorts.proofs.Commands.{header-arguments, header-sort}
+use Rattle.written_sorts.proofs.Parts.{list-between}
+use Rattle.written_sorts.proofs.Walked.{Come, come-behind, come-first, item-come, symbol-word, word-is}
+use Rattle.names.specs.code.Lookup.{bytesAt, sourceOf}
+use Rattle.names.specs.code.Table.{functionRow, nameIn, ownArgumentRow}
+use Rattle.headers.specs.code.Comparing.{Compared, Differs, Held, PairsAt, PairsHeld}
 use Rattle.headers.specs.Tokens.{argumentTokens, closing, headerOf, headerTokens, named, sortTokens, wordsIn}
 use Rattle.headers.proofs.Held.{held-other, held-same}
 use Rattle.headers.proofs.Worded.{item-then, list-held, name-other, name-same, spread, symbol-spelt}

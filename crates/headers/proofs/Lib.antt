@@ -1,3 +1,6 @@
+pub mod Parts
+pub mod Grown
+pub mod Named
 pub mod Held
 pub mod Worded
 pub mod Rows

@@ -6,20 +6,20 @@ use mathlib.Core.Bool.{Bool}
 use mathlib.Core.List.{List, _∷_}
 use lib.Seq.{sets}
 use Rattle.lexemes.specs.Lists.{inside, item, nameOf}
-use Rattle.lexemes.specs.Table.{nextAt}
-use Rattle.sorts.specs.Steps.{HeaderAt, SortAt}
-use Rattle.sorts.specs.Written.{headerPlace, sortOf}
-use Rattle.sorts.specs.declared.Fault.the-variants.{Unknown}
-use Rattle.sorts.proofs.Commands.{header-sort}
-use Rattle.naming.specs.Steps.{bytesAt}
-use Rattle.naming.specs.Table.{nameRow, namesFrom, rowCount}
-use Rattle.naming.proofs.Putting.{Put, put-row}
-use Rattle.declaring.specs.Steps.{Few, NameTested, NewName, NewPairs, PairsNamed, namesIn}
-use Rattle.declaring.specs.declared.Scope.{Scope}
-use Rattle.declaring.proofs.Members.{SameNames, same-members}
-use Rattle.heading.specs.Steps.{HeadAt, HeadNamed, OwnNamed, firstRow, grownBy, ownRow}
-use Rattle.heading.proofs.Parts.{a-symbol, arguments-between, bytes-are, header-here, name-fits, name-item}
-use Rattle.heading.proofs.Grown.{Rows, few-grown, rows, same-names}
+use Rattle.lexemes.specs.code.Table.{nextAt}
+use Rattle.written_sorts.specs.code.Places.{HeaderAt, SortAt}
+use Rattle.written_sorts.specs.Written.{headerPlace, sortOf}
+use Rattle.written_sorts.specs.declared.Fault.the-variants.{Unknown}
+use Rattle.written_sorts.proofs.Commands.{header-sort}
+use Rattle.names.specs.code.Lookup.{bytesAt}
+use Rattle.names.specs.code.Table.{nameRow, namesFrom, rowCount}
+use Rattle.names.proofs.Putting.{Put, put-row}
+use Rattle.names.specs.code.NewNames.{Few, NameTested, NewName, NewPairs, PairsNamed, namesIn}
+use Rattle.names.specs.declared.Scope.{Scope}
+use Rattle.names.proofs.Members.{SameNames, same-members}
+use Rattle.headers.specs.code.Heading.{HeadAt, HeadNamed, OwnNamed, firstRow, grownBy, ownRow}
+use Rattle.headers.proofs.Parts.{a-symbol, arguments-between, bytes-are, header-here, name-fits, name-item}
+use Rattle.headers.proofs.Grown.{Rows, few-grown, rows, same-names}
 
 module _ {text lexemes names : List ℕ} {scope : Scope} {synthesized : Bool} {at : ℕ} where
   -- The rows of the name and of the arguments.

@@ -9,17 +9,17 @@ use borrow.Author.Tests.{eqb-true, not-false, not-true}
 use Rattle.forest.specs.Forest.{count, none, tree}
 use Rattle.forest.specs.Lists.{sameBytes}
 use Rattle.forest.proofs.Bools.{and-left, and-right}
-use Rattle.scanning.specs.Trees.{Lexeme}
+use Rattle.words.specs.Trees.{Lexeme}
 use Rattle.lexemes.specs.Lists.{Items, after, inside, isList, isSymbol, item, nameOf}
-use Rattle.lexemes.specs.Standing.{ItemAt, WordIs}
+use Rattle.lexemes.specs.code.Standing.{ItemAt, WordIs}
 use Rattle.lexemes.proofs.Listed.{at-item, list-from}
 use Rattle.shapes.specs.Shapes.{pairShape, sortShape}
-use Rattle.sorts.specs.Steps.{SortAt}
-use Rattle.sorts.proofs.Parts.{pair-sort}
-use Rattle.sorts.proofs.Walked.{come-first, item-come, symbol-word, word-is}
-use Rattle.naming.specs.Steps.{bytesAt, sourceOf}
-use Rattle.naming.specs.Table.{nameIn, sortIn}
-use Rattle.headers.specs.Steps.{Held, PairAt, PairHeld}
+use Rattle.written_sorts.specs.code.Places.{SortAt}
+use Rattle.written_sorts.proofs.Parts.{pair-sort}
+use Rattle.written_sorts.proofs.Walked.{come-first, item-come, symbol-word, word-is}
+use Rattle.names.specs.code.Lookup.{bytesAt, sourceOf}
+use Rattle.names.specs.code.Table.{nameIn, sortIn}
+use Rattle.headers.specs.code.Comparing.{Held, PairAt, PairHeld}
 use Rattle.headers.specs.Tokens.{argumentTokens, named, sortTokens, wordsIn}
 use Rattle.headers.proofs.Held.{closed}
 use Rattle.headers.proofs.Worded.{list-held, name-other, name-same, one-by-one, spread, symbol-spelt}

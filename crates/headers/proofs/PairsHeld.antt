@@ -7,18 +7,18 @@ use mathlib.Core.Bool.{true}
 use mathlib.Core.List.{List, [], _∷_, _++_, append-assoc}
 use Rattle.forest.specs.Forest.{none, tree}
 use Rattle.forest.proofs.Bools.{and-left, and-right, apart}
-use Rattle.scanning.specs.Trees.{Lexeme, list, literal, numeral, symbol, wordOf}
+use Rattle.words.specs.Trees.{Lexeme, list, literal, numeral, symbol, wordOf}
 use Rattle.lexemes.specs.Lists.{Items, isList}
-use Rattle.lexemes.specs.Standing.{Between, ItemAt, Source, Stands}
-use Rattle.lexemes.specs.Table.{nextAt}
+use Rattle.lexemes.specs.code.Standing.{Between, ItemAt, Source, Stands}
+use Rattle.lexemes.specs.code.Table.{nextAt}
 use Rattle.lexemes.proofs.Along.{Along, along-ahead, along-end, along-here, along-start, along-turn, item-of}
 use Rattle.lexemes.proofs.Standing.{forward}
 use Rattle.shapes.specs.Shapes.{all, pairShape}
-use Rattle.sorts.proofs.Walked.{placed}
-use Rattle.naming.specs.Scopes.{Named, namesOf, namedSorts}
-use Rattle.naming.specs.Steps.{sourceOf}
-use Rattle.naming.specs.Table.{namesFrom, rowCount, sortsFrom}
-use Rattle.headers.specs.Steps.{Held, PairAt, PairHeld, PairsAt, PairsHeld, ended, other, same}
+use Rattle.written_sorts.proofs.Walked.{placed}
+use Rattle.names.specs.Scopes.{Named, namesOf, namedSorts}
+use Rattle.names.specs.code.Lookup.{sourceOf}
+use Rattle.names.specs.code.Table.{namesFrom, rowCount, sortsFrom}
+use Rattle.headers.specs.code.Comparing.{Held, PairAt, PairHeld, PairsAt, PairsHeld, ended, other, same}
 use Rattle.headers.specs.Tokens.{Placed, Token, argumentTokens, closing, sortTokens, wordsIn}
 use Rattle.headers.proofs.Held.{held-then}
 use Rattle.headers.proofs.Worded.{words-first}

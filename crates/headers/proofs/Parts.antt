@@ -7,23 +7,23 @@ use mathlib.Core.List.{List}
 use lib.ListN.{length}
 use Rattle.forest.proofs.Bools.{and-left}
 use Rattle.lexemes.specs.Lists.{Items, inside, isSymbol, item, nameOf}
-use Rattle.lexemes.specs.Table.{nextAt}
-use Rattle.lexemes.specs.Standing.{Between, ItemAt}
+use Rattle.lexemes.specs.code.Table.{nextAt}
+use Rattle.lexemes.specs.code.Standing.{Between, ItemAt}
 use Rattle.lexemes.proofs.Listed.{item-ahead, item-room, list-room}
 use Rattle.shapes.specs.Shapes.{headerShape, isListOf, pairShape, sortShape}
-use Rattle.rules.specs.Rules.{itemPast}
-use Rattle.sorts.specs.Steps.{AllBetween, HeaderAt}
-use Rattle.sorts.specs.Written.{headerPlace}
-use Rattle.sorts.specs.declared.Fault.the-variants.{TooWide}
-use Rattle.sorts.proofs.Commands.{header-arguments}
-use Rattle.sorts.proofs.Parts.{list-between}
-use Rattle.sorts.proofs.Walked.{Come, come-behind, come-first, item-come, symbol-word}
-use Rattle.naming.specs.Steps.{bytesAt, sourceOf}
-use Rattle.naming.specs.Table.{longest}
-use Rattle.declaring.specs.declared.Scope.{Scope}
-use Rattle.declaring.proofs.Testing.{SymbolAt, symbol-at}
-use Rattle.heading.specs.Heads.{allowed}
-use Rattle.heading.specs.Steps.{HeadAt, HeadLimited}
+use Rattle.term_nodes.specs.Rules.{itemPast}
+use Rattle.written_sorts.specs.code.Places.{AllBetween, HeaderAt}
+use Rattle.written_sorts.specs.Written.{headerPlace}
+use Rattle.written_sorts.specs.declared.Fault.the-variants.{TooWide}
+use Rattle.written_sorts.proofs.Commands.{header-arguments}
+use Rattle.written_sorts.proofs.Parts.{list-between}
+use Rattle.written_sorts.proofs.Walked.{Come, come-behind, come-first, item-come, symbol-word}
+use Rattle.names.specs.code.Lookup.{bytesAt, sourceOf}
+use Rattle.names.specs.code.Table.{longest}
+use Rattle.names.specs.declared.Scope.{Scope}
+use Rattle.names.proofs.Testing.{SymbolAt, symbol-at}
+use Rattle.headers.specs.Heads.{allowed}
+use Rattle.headers.specs.code.Heading.{HeadAt, HeadLimited}
 
 -- The name of a command with a header is a symbol.
 name-symbol : (c : Items) → headerShape c ≡ true → isSymbol (item 1 c) ≡ true

@@ -6,9 +6,9 @@ use mathlib.Core.Bool.{Bool, true, false, cond}
 use mathlib.Core.List.{List, [], _∷_}
 use lib.Dec.{eqb}
 use Rattle.forest.specs.Lists.{sameBytes}
-use Rattle.lookup.specs.Search.{placeIn}
-use Rattle.naming.specs.Scopes.{Named, namesOf, namedSorts}
-use Rattle.naming.specs.Table.{nameIn, namesFrom, sortIn, sortsFrom}
+use Rattle.forest.specs.Search.{placeIn}
+use Rattle.names.specs.Scopes.{Named, namesOf, namedSorts}
+use Rattle.names.specs.code.Table.{nameIn, namesFrom, sortIn, sortsFrom}
 
 -- a word that is looked for in one row is there just when it is the name in it
 pub one-row : (names : List ℕ) (row : ℕ) {word bytes : List ℕ} → word ≡ bytes → {place : ℕ} → place ≡ placeIn (namesFrom names row 1) 0 word

@@ -9,16 +9,16 @@ use borrow.Author.Tests.{eq-eqb, eqb-true, ne-eqb}
 use Rattle.forest.specs.Forest.{count, none, tree}
 use Rattle.forest.specs.Lists.{sameBytes, spelling}
 use Rattle.forest.proofs.Bools.{and-left, and-right, apart}
-use Rattle.scanning.specs.Trees.{Lexeme, list, literal, numeral, symbol, wordOf}
+use Rattle.words.specs.Trees.{Lexeme, list, literal, numeral, symbol, wordOf}
 use Rattle.lexemes.specs.Lists.{Items, after, allNumerals, inside, is, isList, isNumeral, item}
-use Rattle.lexemes.specs.Table.{codeAt, openCode, valueAt}
+use Rattle.lexemes.specs.code.Table.{codeAt, openCode, valueAt}
 use Rattle.lexemes.proofs.ByCode.{codeFor, word-code}
 use Rattle.lexemes.proofs.Listed.{at-item, from-item, is-list, no-list}
 use Rattle.shapes.specs.Shapes.{sortShape}
-use Rattle.sorts.specs.Steps.{SortAt}
-use Rattle.sorts.proofs.Walked.{placed}
-use Rattle.sorts.proofs.Width.{width-of}
-use Rattle.headers.specs.Steps.{Held, ended, other}
+use Rattle.written_sorts.specs.code.Places.{SortAt}
+use Rattle.written_sorts.proofs.Walked.{placed}
+use Rattle.written_sorts.proofs.Width.{width-of}
+use Rattle.headers.specs.code.Comparing.{Held, ended, other}
 use Rattle.headers.specs.Tokens.{Placed, Token, closing, named, numbered, opening, sortTokens, wordsIn}
 use Rattle.headers.proofs.Held.{closed, same-turned}
 use Rattle.headers.proofs.Worded.{list-held, number-other, number-same, one-by-one, spread, word-held}

@@ -9,12 +9,12 @@ use borrow.Author.Tests.{eq-eqb, ne-eqb}
 use Rattle.forest.specs.Forest.{count, none, tree}
 use Rattle.forest.specs.Lists.{sameBytes, spelling}
 use Rattle.forest.proofs.Bools.{apart}
-use Rattle.scanning.specs.Trees.{Lexeme, list, literal, numeral, symbol, wordOf}
-use Rattle.reserved.specs.Reserved.{isWord}
+use Rattle.words.specs.Trees.{Lexeme, list, literal, numeral, symbol, wordOf}
+use Rattle.lexemes.specs.Reserved.{isWord}
 use Rattle.lexemes.specs.Lists.{Items, after, inside, is, isNumeral, isSymbol, item, nameOf, numeralOf}
-use Rattle.lexemes.specs.Standing.{Source, WordIs, spelt}
+use Rattle.lexemes.specs.code.Standing.{Source, WordIs, spelt}
 use Rattle.lexemes.proofs.Listed.{from-item}
-use Rattle.headers.specs.Steps.{Held, ended, other, same}
+use Rattle.headers.specs.code.Comparing.{Held, ended, other, same}
 use Rattle.headers.specs.Tokens.{Placed, Token, closing, named, numbered, opening, wordsIn}
 use Rattle.headers.proofs.Held.{held-then, same-turned}
 

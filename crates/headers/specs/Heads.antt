@@ -2,10 +2,10 @@
 use Prim.Native.Nat.{ℕ, min}
 use mathlib.Core.List.{List, _∷_}
 use Rattle.lexemes.specs.Lists.{Items, inside, item, nameOf}
-use Rattle.declaring.specs.New.{newName, newPairs}
-use Rattle.rules.specs.Rules.{itemPast}
-use Rattle.sorts.specs.Written.{headerPlace}
-use Rattle.sorts.specs.declared.Fault.the-variants.{TooWide, Unknown}
+use Rattle.names.specs.New.{newName, newPairs}
+use Rattle.term_nodes.specs.Rules.{itemPast}
+use Rattle.written_sorts.specs.Written.{headerPlace}
+use Rattle.written_sorts.specs.declared.Fault.the-variants.{TooWide, Unknown}
 
 -- "8 synthesized functions, 32 `define-fun`s, 16 variables, 64 constraints, 8 arguments, 16 non-terminals and 128 rules a grammar, 256 nodes .. a body,
 -- constraint or rule"

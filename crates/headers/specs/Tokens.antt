@@ -5,9 +5,9 @@ use mathlib.Core.List.{List, [], _∷_, _++_}
 use lib.Dec.{eqb}
 use Rattle.forest.specs.Forest.{none, tree}
 use Rattle.forest.specs.Lists.{sameBytes, spelling}
-use Rattle.scanning.specs.Trees.{list, literal, numeral, symbol}
+use Rattle.words.specs.Trees.{list, literal, numeral, symbol}
 use Rattle.lexemes.specs.Lists.{Items, inside, item}
-use Rattle.naming.specs.Scopes.{Function, Named}
+use Rattle.names.specs.Scopes.{Function, Named}
 
 -- The words of a header.
 pub data Token : Type 0 where

@@ -4,19 +4,19 @@ use lexemes::code_at;
 use lexemes::codes::BOOL;
 use lexemes::next_at;
 use lexemes::value_at;
-use naming::spelled::bytes_at;
-use naming::table::FUNCTIONS;
-use naming::table::OWN_ARGUMENTS;
-use naming::table::find_name;
-use naming::table::sort_in;
+use names::spelled::bytes_at;
+use names::table::FUNCTIONS;
+use names::table::OWN_ARGUMENTS;
+use names::table::find_name;
+use names::table::sort_in;
 ghost use mathlib.Core.Path.{_≡_};
 ghost use Prim.Native.Nat.{_<_};
 ghost use Rattle.forest.specs.Forest.{none, tree};
 ghost use Rattle.forest.specs.Lists.{sameBytes};
-ghost use Rattle.naming.specs.Steps.{Names, bytesAt};
-ghost use Rattle.naming.specs.Table.{nameIn};
-ghost use Rattle.sorts.specs.Steps.{SortAt};
-ghost use Rattle.headers.specs.Steps.{Compared, Differs, Held, PairAt, PairHeld, PairsAt, PairsHeld};
+ghost use Rattle.names.specs.code.Lookup.{Names, bytesAt};
+ghost use Rattle.names.specs.code.Table.{nameIn};
+ghost use Rattle.written_sorts.specs.code.Places.{SortAt};
+ghost use Rattle.headers.specs.code.Comparing.{Compared, Differs, Held, PairAt, PairHeld, PairsAt, PairsHeld};
 ghost use Rattle.headers.specs.Tokens.{sortTokens, wordsIn};
 
 // Whether a word is the name in a row.

@@ -1,24 +1,24 @@
 //! The tests of a head.
-use declaring::Scope;
-use declaring::names::new_name;
-use declaring::names::new_pairs;
 use lexemes::next_at;
-use naming::spelled::bytes_at;
-use naming::table::ARGUMENTS;
-use naming::table::DEFINED;
-use naming::table::FUNCTIONS;
-use naming::table::OWN_ARGUMENTS;
-use naming::table::put_name;
-use rules::limits::item_past;
-use sorts::Fault;
-use sorts::headers::header_place;
-use sorts::places::least;
-use sorts::places::sort_of;
+use names::Scope;
+use names::new::new_name;
+use names::new::new_pairs;
+use names::spelled::bytes_at;
+use names::table::ARGUMENTS;
+use names::table::DEFINED;
+use names::table::FUNCTIONS;
+use names::table::OWN_ARGUMENTS;
+use names::table::put_name;
+use term_nodes::rule_limits::item_past;
+use written_sorts::Fault;
+use written_sorts::headers::header_place;
+use written_sorts::places::least;
+use written_sorts::places::sort_of;
 ghost use mathlib.Core.Path.{_≡_};
-ghost use Rattle.sorts.specs.Steps.{HeaderAt};
-ghost use Rattle.declaring.specs.Steps.{Few};
-ghost use Rattle.heading.specs.Heads.{allowed};
-ghost use Rattle.heading.specs.Steps.{HeadAt, HeadLimited, HeadNamed, OwnNamed, firstRow, grownBy, ownRow};
+ghost use Rattle.written_sorts.specs.code.Places.{HeaderAt};
+ghost use Rattle.names.specs.code.NewNames.{Few};
+ghost use Rattle.headers.specs.Heads.{allowed};
+ghost use Rattle.headers.specs.code.Heading.{HeadAt, HeadLimited, HeadNamed, OwnNamed, firstRow, grownBy, ownRow};
 
 // The least word past a limit in the head of the command at a word: its ninth argument, or the width of a sort; `nowhere` where there is none.
 pub fn head_past(lexemes: &[u64], at: usize, nowhere: usize) -> usize

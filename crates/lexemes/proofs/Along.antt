@@ -6,14 +6,14 @@ use mathlib.Core.Path.{_≡_, refl, sym, ap, _∙_, subst}
 use mathlib.Core.List.{List}
 use lib.ListN.{length}
 use Rattle.forest.specs.Forest.{count, none, tree}
-use Rattle.scanning.specs.Trees.{Lexeme}
+use Rattle.words.specs.Trees.{Lexeme}
 use lib.Dec.{ltb}
 use borrow.Author.Tests.{ltb-false, ltb-true}
 use Rattle.forest.proofs.Bools.{and-left, and-right}
 use mathlib.Core.Bool.{Bool, true, false, _&&_}
 use Rattle.lexemes.specs.Lists.{Items, after}
-use Rattle.lexemes.specs.Table.{nextAt}
-use Rattle.lexemes.specs.Standing.{Between, ItemAt, Reached, Stands}
+use Rattle.lexemes.specs.code.Table.{nextAt}
+use Rattle.lexemes.specs.code.Standing.{Between, ItemAt, Reached, Stands}
 use Rattle.lexemes.proofs.Standing.{here, none-left, some-left}
 
 -- Of the items from one word to another the walk has come to those from word `at` on, and something holds of what is left.

@@ -11,12 +11,12 @@ use Rattle.forest.specs.Forest.{none, tree}
 use Rattle.forest.specs.Lists.{among, sameBytes}
 use Rattle.forest.proofs.Bools.{and-left, and-right}
 use Rattle.forest.proofs.Lists.{amongAfter, one-by-one}
-use Rattle.scanning.specs.Trees.{Lexeme, list, literal, numeral, symbol}
-use Rattle.bits.specs.Operators.{operators}
-use Rattle.reserved.specs.Reserved.{isOneOf, isWord, knownWords, placeAmong, wordNumber}
-use Rattle.reserved.proofs.Numbers.{by-number, isKnown, numberOf}
+use Rattle.words.specs.Trees.{Lexeme, list, literal, numeral, symbol}
+use Rattle.operators.specs.Operators.{operators}
+use Rattle.lexemes.specs.Reserved.{isOneOf, isWord, knownWords, placeAmong, wordNumber}
+use Rattle.lexemes.proofs.Numbers.{by-number, isKnown, numberOf}
 use Rattle.lexemes.specs.Lists.{Items, after, is, isAmong, isList, isNumeral, isSymbol, item, nameOf}
-use Rattle.lexemes.specs.Table.{closeCode, codeOf, literalCode, numeralCode, openCode}
+use Rattle.lexemes.specs.code.Table.{closeCode, codeOf, literalCode, numeralCode, openCode}
 
 -- the code of a known word; where this unfolds it computes
 unfoldable pub codeFor : String → ℕ

@@ -6,17 +6,17 @@ use mathlib.Core.Path.{_≡_, refl, sym, _∙_}
 use mathlib.Core.List.{List, [], _∷_, _++_}
 use lib.ListN.{drop, getD, length, set, take, length-append, length-map, length-set, List·getD-append}
 use lib.Seq.{getD-drop, length-take-le, take-all}
-use Rattle.forest.specs.Rows.{numberAt, over, rows}
+use Rattle.forest.specs.code.Rows.{numberAt, over, rows}
 use Rattle.forest.proofs.Lists.{drop-map, stands, take-more}
 use Rattle.forest.proofs.Rows.{length-rows, over-more, rows-append}
-use Rattle.reserved.specs.Reserved.{wordNumber}
-use Rattle.spelling.specs.declared.Kind.{Kind}
-use Rattle.spelling.specs.declared.Kind.the-variants.{Open, Close, Numeral, Literal, Symbol, Faulty}
-use Rattle.scanning.specs.Table.{Entry, endAt, entries, kindAt, kindNumber, nextAt, row, startAt, valueOf, widthAt, wordValues}
-use Rattle.scanning.specs.Words.{wordsOf}
-use Rattle.scanning.proofs.Chains.{entries-long}
-use Rattle.lexemes.specs.Standing.{Coded, Numbering, WordsOf}
-use Rattle.lexemes.specs.Table.{kindCode, lexemeRow, lexemeTable}
+use Rattle.lexemes.specs.Reserved.{wordNumber}
+use Rattle.word_kinds.specs.declared.Kind.{Kind}
+use Rattle.word_kinds.specs.declared.Kind.the-variants.{Open, Close, Numeral, Literal, Symbol, Faulty}
+use Rattle.words.specs.code.Table.{Entry, endAt, entries, kindAt, kindNumber, nextAt, row, startAt, valueOf, widthAt, wordValues}
+use Rattle.words.specs.Words.{wordsOf}
+use Rattle.words.proofs.Chains.{entries-long}
+use Rattle.lexemes.specs.code.Standing.{Coded, Numbering, WordsOf}
+use Rattle.lexemes.specs.code.Table.{kindCode, lexemeRow, lexemeTable}
 use Rattle.lexemes.proofs.Said.{entryOf, entry-here, part-fits, word-says}
 
 -- ---- the code of a word

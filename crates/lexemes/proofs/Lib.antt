@@ -1,3 +1,5 @@
+pub mod Numbers
+pub mod Places
 pub mod ByCode
 pub mod Standing
 pub mod Listed

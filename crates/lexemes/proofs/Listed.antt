@@ -7,10 +7,10 @@ use mathlib.Core.List.{List}
 use lib.ListN.{length}
 use borrow.Author.Tests.{eq-eqb, ne-eqb}
 use Rattle.forest.specs.Forest.{count, none, tree}
-use Rattle.scanning.specs.Trees.{Lexeme, list}
+use Rattle.words.specs.Trees.{Lexeme, list}
 use Rattle.lexemes.specs.Lists.{Items, after, inside, isList, item}
-use Rattle.lexemes.specs.Table.{codeAt, nextAt, openCode}
-use Rattle.lexemes.specs.Standing.{Between, ItemAt, ListAt, Stands}
+use Rattle.lexemes.specs.code.Table.{codeAt, nextAt, openCode}
+use Rattle.lexemes.specs.code.Standing.{Between, ItemAt, ListAt, Stands}
 use Rattle.lexemes.proofs.ByCode.{frontCode, list-code}
 use Rattle.lexemes.proofs.Standing.{Here, Holds, by-itself, front, here}
 

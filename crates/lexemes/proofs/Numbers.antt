@@ -10,8 +10,8 @@ use lib.ListN.{length, getD}
 use borrow.Author.Tests.{eq-eqb, eqb-true, eqb-false, lt-ltb, ltb-true}
 use Rattle.forest.specs.Lists.{sameBytes, spelling}
 use Rattle.forest.proofs.Bools.{and-left, and-right, apart, each}
-use Rattle.bits.specs.Operators.{operators}
-use Rattle.reserved.specs.Reserved.{isWord, knownWords, placeAmong, wordNumber}
+use Rattle.operators.specs.Operators.{operators}
+use Rattle.lexemes.specs.Reserved.{isWord, knownWords, placeAmong, wordNumber}
 
 -- lists of bytes that are the same are equal
 same-bytes : (u v : List ℕ) → sameBytes u v ≡ true → u ≡ v

@@ -7,10 +7,10 @@ use mathlib.Core.List.{List, [], _∷_}
 use borrow.Author.Tests.{eq-eqb}
 use Rattle.forest.specs.Forest.{count, none, tree}
 use Rattle.forest.proofs.Laws.{tree-of-count}
-use Rattle.scanning.specs.Trees.{Lexeme, list}
+use Rattle.words.specs.Trees.{Lexeme, list}
 use Rattle.lexemes.specs.Lists.{Items, isList}
-use Rattle.lexemes.specs.Table.{closeCode, codeAt, codeOf, nextAt, openCode}
-use Rattle.lexemes.specs.Standing.{Between, ItemAt, ListAt, Source, Stands, bracketed, ends, word}
+use Rattle.lexemes.specs.code.Table.{closeCode, codeAt, codeOf, nextAt, openCode}
+use Rattle.lexemes.specs.code.Standing.{Between, ItemAt, ListAt, Source, Stands, bracketed, ends, word}
 use Rattle.lexemes.proofs.ByCode.{list-code}
 use Rattle.lexemes.proofs.Standing.{forward, here, here-as, none-left}
 

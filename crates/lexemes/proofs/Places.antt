@@ -7,10 +7,10 @@ use mathlib.Core.List.{List, [], _∷_, _++_, map}
 use lib.Dec.{ltb}
 use borrow.Author.Tests.{le-ltb, lt-ltb}
 use Rattle.forest.specs.Lists.{spelling}
-use Rattle.lookup.specs.Search.{placeIn, wordsIn}
-use Rattle.lookup.proofs.Searching.{joined, place-append, place-bound, place-later, startsOf, words-are}
-use Rattle.bits.specs.Operators.{Operator, named, operatorOf, operators}
-use Rattle.reserved.specs.Reserved.{carriedCommands, knownWords, otherCommands, otherWords, placeAmong, unreservedWords, wordNumber}
+use Rattle.forest.specs.Search.{placeIn, wordsIn}
+use Rattle.forest.proofs.Searching.{joined, place-append, place-bound, place-later, startsOf, words-are}
+use Rattle.operators.specs.Operators.{Operator, named, operatorOf, operators}
+use Rattle.lexemes.specs.Reserved.{carriedCommands, knownWords, otherCommands, otherWords, placeAmong, unreservedWords, wordNumber}
 
 -- the words before the operators
 abbrev pub firstWords : List String

@@ -6,17 +6,17 @@ use mathlib.Core.Path.{_≡_, refl, sym, _∙_}
 use mathlib.Core.Bool.{Bool, true, false, cond}
 use mathlib.Core.List.{List, [], _∷_, _++_, append-nil, map}
 use lib.ListN.{drop, getD, length}
-use Rattle.forest.specs.Rows.{numberAt}
+use Rattle.forest.specs.code.Rows.{numberAt}
 use Rattle.forest.proofs.Lists.{drop-map, within}
 use Rattle.forest.proofs.Rows.{row-at}
-use Rattle.scanning.specs.Spans.{commentAfter, inRun, starts, startsFrom, wordStarts}
-use Rattle.scanning.specs.Table.{Entry, entries, nextOf, row, valueOf, widthOf, wordTable}
-use Rattle.scanning.specs.Trees.{bytesOf}
-use Rattle.scanning.specs.Words.{Word, wordAt, wordsOf}
-use Rattle.scanning.proofs.Chains.{entries-drop, wide}
-use Rattle.scanning.proofs.Offsets.{end-past, end-within}
-use Rattle.lexemes.specs.Standing.{Source, allOf, spelt}
-use Rattle.lexemes.specs.Table.{codeAt, kindCode, lexemeRow, lexemeTable, nextAt, valueAt, widthAt}
+use Rattle.words.specs.Spans.{commentAfter, inRun, starts, startsFrom, wordStarts}
+use Rattle.words.specs.code.Table.{Entry, entries, nextOf, row, valueOf, widthOf, wordTable}
+use Rattle.words.specs.Trees.{bytesOf}
+use Rattle.words.specs.Words.{Word, wordAt, wordsOf}
+use Rattle.words.proofs.Chains.{entries-drop, wide}
+use Rattle.words.proofs.Offsets.{end-past, end-within}
+use Rattle.lexemes.specs.code.Standing.{Source, allOf, spelt}
+use Rattle.lexemes.specs.code.Table.{codeAt, kindCode, lexemeRow, lexemeTable, nextAt, valueAt, widthAt}
 
 -- ---- a word of a text
 

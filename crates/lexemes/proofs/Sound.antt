@@ -8,18 +8,18 @@ use mathlib.Core.List.{List, [], _∷_}
 use borrow.Author.Tests.{eqb-false, not-true}
 use lib.Dec.{eqb}
 use lib.ListN.{drop}
-use Rattle.spelling.specs.Bytes.{digit, uncarried}
-use Rattle.spelling.specs.Kinds.{formed, hashed, kindOf, literal as literalOf, numeral as numeralOf, symbol as symbolOf}
-use Rattle.spelling.specs.declared.Class.{Class}
-use Rattle.spelling.specs.declared.Class.the-variants.{BinaryDigits, HexDigits}
-use Rattle.spelling.specs.declared.Fault.{Fault}
-use Rattle.spelling.specs.declared.Kind.{Kind}
-use Rattle.spelling.specs.declared.Kind.the-variants.{Open, Close, Numeral, Literal, Symbol, Faulty}
-use Rattle.readings.specs.Answers.{faultNumber}
-use Rattle.scanning.specs.Reading.{closeFault, faultAt, lesser, limitFault, ownFault}
-use Rattle.scanning.specs.Words.{Word, wordAt, wordsOf}
-use Rattle.readings.specs.declared.Limits.{Limits}
-use Rattle.scanning.proofs.Turns.{lesser-none}
+use Rattle.word_kinds.specs.Bytes.{digit, uncarried}
+use Rattle.word_kinds.specs.Kinds.{formed, hashed, kindOf, literal as literalOf, numeral as numeralOf, symbol as symbolOf}
+use Rattle.word_kinds.specs.declared.Class.{Class}
+use Rattle.word_kinds.specs.declared.Class.the-variants.{BinaryDigits, HexDigits}
+use Rattle.word_kinds.specs.declared.Fault.{Fault}
+use Rattle.word_kinds.specs.declared.Kind.{Kind}
+use Rattle.word_kinds.specs.declared.Kind.the-variants.{Open, Close, Numeral, Literal, Symbol, Faulty}
+use Rattle.words.specs.Answers.{faultNumber}
+use Rattle.words.specs.Reading.{closeFault, faultAt, lesser, limitFault, ownFault}
+use Rattle.words.specs.Words.{Word, wordAt, wordsOf}
+use Rattle.words.specs.declared.Limits.{Limits}
+use Rattle.words.proofs.Turns.{lesser-none}
 use Rattle.lexemes.proofs.Said.{found}
 
 -- ---- a word that is faulty has a fault

@@ -10,10 +10,10 @@ use lib.ListN.{replicate}
 use borrow.Author.Tests.{eqb-true, le-leb, leb-true, ne-eqb}
 use Rattle.forest.specs.Forest.{count, none, tree}
 use Rattle.forest.proofs.Bools.{and-left, and-right}
-use Rattle.reserved.proofs.Numbers.{isKnown}
+use Rattle.lexemes.proofs.Numbers.{isKnown}
 use Rattle.lexemes.specs.Lists.{Items, after, allNumerals, indexed, isList, isNumeral}
-use Rattle.lexemes.specs.Table.{closeCode, codeAt, codeOf, numeralCode, openCode}
-use Rattle.lexemes.specs.Standing.{ItemAt, Source, Stands}
+use Rattle.lexemes.specs.code.Table.{closeCode, codeAt, codeOf, numeralCode, openCode}
+use Rattle.lexemes.specs.code.Standing.{ItemAt, Source, Stands}
 use Rattle.lexemes.proofs.ByCode.{code-for, codeFor, frontCode, front-word, list-code, not-close, numeral-code}
 use Rattle.lexemes.proofs.Standing.{front, here}
 use Rattle.lexemes.proofs.Listed.{at-item}

@@ -11,10 +11,10 @@ use Rattle.forest.proofs.Laws.{Tree}
 use Rattle.forest.proofs.Rows.{past}
 use lib.Dec.{ltb}
 use borrow.Author.Tests.{ltb-false, ltb-true}
-use Rattle.scanning.specs.Trees.{Lexeme, list}
+use Rattle.words.specs.Trees.{Lexeme, list}
 use Rattle.lexemes.specs.Lists.{Items, isList, item}
-use Rattle.lexemes.specs.Table.{closeCode, codeAt, codeOf, nextAt, openCode}
-use Rattle.lexemes.specs.Standing.{Source, Stands, bracketed, ends, word}
+use Rattle.lexemes.specs.code.Table.{closeCode, codeAt, codeOf, nextAt, openCode}
+use Rattle.lexemes.specs.code.Standing.{Source, Stands, bracketed, ends, word}
 use Rattle.lexemes.proofs.ByCode.{code-pos, frontCode}
 
 -- The list at word i holds the items: they stand from the next word to the bracket that closes it.

@@ -12,23 +12,23 @@ use lib.Seq.{take-all}
 use Rattle.forest.specs.Forest.{none, tree}
 use Rattle.forest.proofs.Bools.{apart}
 use Rattle.forest.proofs.Lists.{drop-more}
-use Rattle.scanning.specs.Table.{closes, opens, pastClose, nextOf, valueOf, widthOf}
-use Rattle.spelling.specs.declared.Fault.the-variants.{Bracket, TooLong}
-use Rattle.spelling.specs.declared.Kind.{Kind}
-use Rattle.spelling.specs.declared.Kind.the-variants.{Open, Close, Numeral, Literal, Symbol, Faulty}
-use Rattle.readings.specs.Answers.{faultNumber}
-use Rattle.scanning.specs.Reading.{depthAfter, foundAtEnd, faultAt, foundFrom, readingOf, wordsRead}
-use Rattle.scanning.specs.Trees.{Level, Lexeme, bytesOf, inner, levelsAt, levelsBefore, list, literal, numeral, outer, symbol, treesFrom, withItem, wordOf}
-use Rattle.scanning.specs.Words.{Word, wordsOf}
-use Rattle.readings.specs.declared.Limits.{Limits}
-use Rattle.readings.specs.declared.Reading.{Reading}
-use Rattle.readings.specs.declared.Reading.the-variants.{Whole, Refused}
-use Rattle.scanning.proofs.Chains.{close-on}
-use Rattle.scanning.proofs.Turns.{has-room}
+use Rattle.words.specs.code.Table.{closes, opens, pastClose, nextOf, valueOf, widthOf}
+use Rattle.word_kinds.specs.declared.Fault.the-variants.{Bracket, TooLong}
+use Rattle.word_kinds.specs.declared.Kind.{Kind}
+use Rattle.word_kinds.specs.declared.Kind.the-variants.{Open, Close, Numeral, Literal, Symbol, Faulty}
+use Rattle.words.specs.Answers.{faultNumber}
+use Rattle.words.specs.Reading.{depthAfter, foundAtEnd, faultAt, foundFrom, readingOf, wordsRead}
+use Rattle.words.specs.Trees.{Level, Lexeme, bytesOf, inner, levelsAt, levelsBefore, list, literal, numeral, outer, symbol, treesFrom, withItem, wordOf}
+use Rattle.words.specs.Words.{Word, wordsOf}
+use Rattle.words.specs.declared.Limits.{Limits}
+use Rattle.words.specs.declared.Reading.{Reading}
+use Rattle.words.specs.declared.Reading.the-variants.{Whole, Refused}
+use Rattle.words.proofs.Chains.{close-on}
+use Rattle.words.proofs.Turns.{has-room}
 use Rattle.lexemes.specs.Lists.{Items, isList, isNumeral}
-use Rattle.lexemes.specs.Standing.{ListIs, Source, Stands, WordIs, allOf, bracketed, bytesKept, ends, itemsOf, valueOf as valueKept, widthOf as widthKept}
-use Rattle.lexemes.specs.Standing.{word}
-use Rattle.lexemes.specs.Table.{closeCode, codeAt, codeOf, kindCode}
+use Rattle.lexemes.specs.code.Standing.{ListIs, Source, Stands, WordIs, allOf, bracketed, bytesKept, ends, itemsOf, valueOf as valueKept, widthOf as widthKept}
+use Rattle.lexemes.specs.code.Standing.{word}
+use Rattle.lexemes.specs.code.Table.{closeCode, codeAt, codeOf, kindCode}
 use Rattle.lexemes.proofs.Said.{Saying, say}
 use Rattle.lexemes.proofs.Sound.{Sound, not-faulty, some-open, word-sound}
 

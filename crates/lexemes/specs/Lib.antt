@@ -1,3 +1,3 @@
+pub mod Reserved
 pub mod Lists
-pub mod Table
-pub mod Standing
+pub mod code

@@ -5,8 +5,8 @@ use mathlib.Core.Bool.{Bool, true, false, _&&_}
 use mathlib.Core.List.{List, []}
 use lib.Dec.{eqb}
 use Rattle.forest.specs.Forest.{Forest, count, none, tree}
-use Rattle.scanning.specs.Trees.{Lexeme, list, literal, numeral, symbol}
-use Rattle.reserved.specs.Reserved.{isOneOf, isWord}
+use Rattle.words.specs.Trees.{Lexeme, list, literal, numeral, symbol}
+use Rattle.lexemes.specs.Reserved.{isOneOf, isWord}
 
 -- Words and lists one after the other; a list holds such items.
 abbrev pub Items : Type 0

@@ -4,7 +4,7 @@ use Prim.Native.String.{String}
 use mathlib.Core.Bool.{Bool, false, cond, _||_}
 use mathlib.Core.List.{List, [], _∷_, _++_, map}
 use Rattle.forest.specs.Lists.{sameBytes, spelling}
-use Rattle.bits.specs.Operators.{Operator, operators}
+use Rattle.operators.specs.Operators.{Operator, operators}
 
 -- The commands that are carried: "`(set-logic BV)` first and once; then `declare-var`, `define-fun`, `synth-fun` with grammar, `constraint`; `(check-synth)`
 -- last".

@@ -2,7 +2,7 @@
 use crate::next_at;
 ghost use mathlib.Core.Path.{_≡_};
 ghost use Rattle.forest.specs.Forest.{count};
-ghost use Rattle.lexemes.specs.Standing.{Between, Reached};
+ghost use Rattle.lexemes.specs.code.Standing.{Between, Reached};
 
 // How many items stand from a word to the bracket that closes their list.
 pub fn count_items(lexemes: &[u64], first: usize, close: usize) -> usize

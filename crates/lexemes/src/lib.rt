@@ -3,11 +3,12 @@
 pub mod codes;
 pub mod items;
 pub mod numbering;
+pub mod reserved;
 
 ghost use mathlib.Core.Path.{_≡_};
 ghost use Prim.Native.Nat.{_<_};
-ghost use Rattle.forest.specs.Rows.{numberAt};
-ghost use Rattle.lexemes.specs.Table.{codeAt, endAt, nextAt, startAt, valueAt, widthAt};
+ghost use Rattle.forest.specs.code.Rows.{numberAt};
+ghost use Rattle.lexemes.specs.code.Table.{codeAt, endAt, nextAt, startAt, valueAt, widthAt};
 
 // How many numbers a row has.
 pub const ROW: usize = 6;

@@ -1,17 +1,17 @@
 //! The table of lexemes of a text, filled from its word table.
 use crate::ROW;
 use crate::SYMBOL;
-use readings::table::end_at;
-use readings::table::kind_at;
-use readings::table::next_at;
-use readings::table::start_at;
-use readings::table::width_at;
-use reserved::word_number;
+use crate::reserved::word_number;
+use words::table::end_at;
+use words::table::kind_at;
+use words::table::next_at;
+use words::table::start_at;
+use words::table::width_at;
 ghost use mathlib.Core.Path.{_≡_};
-ghost use Rattle.forest.specs.Rows.{over};
-ghost use Rattle.lexemes.specs.Standing.{Coded, Numbering, WordsOf};
-ghost use Rattle.lexemes.specs.Table.{lexemeTable};
-ghost use Rattle.scanning.specs.Words.{wordsOf};
+ghost use Rattle.forest.specs.code.Rows.{over};
+ghost use Rattle.lexemes.specs.code.Standing.{Coded, Numbering, WordsOf};
+ghost use Rattle.lexemes.specs.code.Table.{lexemeTable};
+ghost use Rattle.words.specs.Words.{wordsOf};
 
 // The code of a word of a text.
 fn code_of(text: &[u8], words: &[u32], word: usize) -> u64

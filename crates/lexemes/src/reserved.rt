@@ -1,8 +1,8 @@
 //! Reserved words: the number of a symbol among the words that the reader tells apart.
-use bits::operators::operator_of;
-use lookup::find_word;
+use forest::search::find_word;
+use operators::operators::operator_of;
 ghost use mathlib.Core.Path.{_≡_};
-ghost use Rattle.reserved.specs.Reserved.{wordNumber};
+ghost use Rattle.lexemes.specs.Reserved.{wordNumber};
 
 // How many words there are before the operators.
 pub const BEFORE_OPERATORS: usize = 42;

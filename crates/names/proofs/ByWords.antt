@@ -9,21 +9,21 @@ use lib.ListN.{length}
 use borrow.Author.Tests.{eq-eqb, eqb-true, le-leb, le-ltb, leb-true, lt-leb, lt-ltb, ltb-true, ne-eqb}
 use Rattle.forest.specs.Lists.{sameBytes, spelling}
 use Rattle.forest.proofs.Bools.{and-left, and-right, apart}
-use Rattle.bits.specs.Operators.{named, operatorOf, operators}
-use Rattle.scanning.specs.Trees.{Lexeme}
+use Rattle.operators.specs.Operators.{named, operatorOf, operators}
+use Rattle.words.specs.Trees.{Lexeme}
 use Rattle.lexemes.specs.Lists.{Items}
-use Rattle.lexemes.specs.Standing.{Source, spelt}
+use Rattle.lexemes.specs.code.Standing.{Source, spelt}
 use Rattle.lexemes.proofs.Standing.{coded}
-use Rattle.lexemes.specs.Table.{codeAt, numeralCode, symbolCode, valueAt, widthAt}
-use Rattle.reserved.specs.Reserved.{knownWords}
-use Rattle.gathering.specs.Terms.{Raw, constant, cut, firstWord, headWord, number, pattern, word, writtenOf}
-use Rattle.gathering.specs.Steps.{Says, SaysPattern}
-use Rattle.naming.specs.Scopes.{View}
-use Rattle.naming.specs.Steps.{Headed, NodeAt, NodeMeans, PatternAt, Seeing, SymbolMeans, bytesAt, isPatternHead, mostWritten, nameWord, sourceOf, wordBy}
-use Rattle.naming.specs.declared.Meaning.{Meaning}
-use Rattle.naming.specs.declared.Seen.{Seen}
-use Rattle.naming.proofs.Patterns.{pattern-code, patternCode}
-use Rattle.naming.proofs.Symbols.{word-test}
+use Rattle.lexemes.specs.code.Table.{codeAt, numeralCode, symbolCode, valueAt, widthAt}
+use Rattle.lexemes.specs.Reserved.{knownWords}
+use Rattle.term_nodes.specs.Terms.{Raw, constant, cut, firstWord, headWord, number, pattern, word, writtenOf}
+use Rattle.term_nodes.specs.code.Gathering.{Says, SaysPattern}
+use Rattle.names.specs.Scopes.{View}
+use Rattle.names.specs.code.Lookup.{Headed, NodeAt, NodeMeans, PatternAt, Seeing, SymbolMeans, bytesAt, isPatternHead, mostWritten, nameWord, sourceOf, wordBy}
+use Rattle.names.specs.declared.Meaning.{Meaning}
+use Rattle.names.specs.declared.Seen.{Seen}
+use Rattle.names.proofs.Patterns.{pattern-code, patternCode}
+use Rattle.names.proofs.Symbols.{word-test}
 
 -- How a literal is written, by its bytes.
 module _ (text lexemes : List ℕ) (at : ℕ) {bytes : List ℕ} (eb : bytes ≡ bytesAt text lexemes at) {written : ℕ} (ew : written ≡ writtenOf bytes) where

@@ -9,8 +9,8 @@ use lib.Dec.{leb}
 use lib.ListN.{drop, length, take, length-drop}
 use lib.Seq.{take-all}
 use borrow.Author.Tests.{leb-false, leb-true}
-use Rattle.lexemes.specs.Table.{endAt, startAt}
-use Rattle.naming.specs.Steps.{bytesAt}
+use Rattle.lexemes.specs.code.Table.{endAt, startAt}
+use Rattle.names.specs.code.Lookup.{bytesAt}
 
 -- A part that ends past the text ends with it.
 within : (text : List ℕ) (start end : ℕ) → take (min end (length text) - start) (drop start text) ≡ take (end - start) (drop start text)

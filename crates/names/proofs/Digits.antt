@@ -9,8 +9,8 @@ use lib.ListN.{drop, getD, length, drop-of-length-le, List·getD-eq-default}
 use mir.Val.{boolByte}
 use borrow.Author.Tests.{eq-eqb, ne-eqb}
 use Rattle.forest.proofs.Lists.{drop-next}
-use Rattle.gathering.specs.Terms.{cases, writtenOf}
-use Rattle.naming.specs.Steps.{mostWritten}
+use Rattle.term_nodes.specs.Terms.{cases, writtenOf}
+use Rattle.names.specs.code.Lookup.{mostWritten}
 
 -- A digit in upper case.
 abbrev upper : ℕ → Bool

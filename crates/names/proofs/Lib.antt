@@ -1,4 +1,14 @@
+pub mod Names
+pub mod Putting
+pub mod Digits
+pub mod Lookup
+pub mod Symbols
+pub mod Bytes
+pub mod Patterns
+pub mod ByWords
+pub mod NodeTurns
+pub mod PairNames
 pub mod Members
 pub mod Testing
 pub mod Pair
-pub mod Turns
+pub mod PairTurns

@@ -11,13 +11,13 @@ use lib.ListN.{getD, length}
 use borrow.Author.Tests.{le-ltb, lt-ltb}
 use Rattle.forest.specs.Lists.{sameBytes}
 use Rattle.terms.specs.Labels.{defined, function, name}
-use Rattle.grammar.specs.Derivation.{Item, nonTerminal, the}
-use Rattle.grammar.specs.Tables.{itemCode, itemValue}
-use Rattle.lookup.specs.Search.{placeIn}
-use Rattle.naming.specs.Scopes.{View, definedNames, functionNames, inOrder, isKnown, isNamed, isSeen, itemOr, namesOf, namedSorts, symbolMeans}
-use Rattle.naming.specs.Steps.{Ordinary, Seeing, SymbolMeans}
-use Rattle.naming.specs.Table.{definedRow, functionRow, namesFrom, nonTerminalRow, sortIn, sortsFrom}
-use Rattle.naming.specs.declared.Seen.{Seen}
+use Rattle.derivation.specs.Derivation.{Item, nonTerminal, the}
+use Rattle.derivation.specs.code.Tables.{itemCode, itemValue}
+use Rattle.forest.specs.Search.{placeIn}
+use Rattle.names.specs.Scopes.{View, definedNames, functionNames, inOrder, isKnown, isNamed, isSeen, itemOr, namesOf, namedSorts, symbolMeans}
+use Rattle.names.specs.code.Lookup.{Ordinary, Seeing, SymbolMeans}
+use Rattle.names.specs.code.Table.{definedRow, functionRow, namesFrom, nonTerminalRow, sortIn, sortsFrom}
+use Rattle.names.specs.declared.Seen.{Seen}
 
 -- A name is one of the names just when its place is before their end.
 pub named-by-place : (names : List (List ℕ)) (k : ℕ) (n : List ℕ) → isNamed names n ≡ ltb (placeIn names k n) (k + length names)

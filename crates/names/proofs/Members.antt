@@ -8,13 +8,13 @@ use lib.Dec.{ltb}
 use borrow.Author.Tests.{le-ltb, lt-ltb}
 use Rattle.forest.specs.Forest.{none, tree}
 use Rattle.forest.specs.Lists.{sameBytes}
-use Rattle.reserved.specs.Reserved.{isReserved}
-use Rattle.scanning.specs.Trees.{Lexeme, wordOf}
+use Rattle.lexemes.specs.Reserved.{isReserved}
+use Rattle.words.specs.Trees.{Lexeme, wordOf}
 use Rattle.lexemes.specs.Lists.{Items, item, nameOf}
-use Rattle.lookup.specs.Search.{placeIn}
-use Rattle.naming.specs.Scopes.{isNamed}
-use Rattle.naming.specs.Table.{nameIn, namesFrom}
-use Rattle.declaring.specs.New.{newName, newPairs}
+use Rattle.forest.specs.Search.{placeIn}
+use Rattle.names.specs.Scopes.{isNamed}
+use Rattle.names.specs.code.Table.{nameIn, namesFrom}
+use Rattle.names.specs.New.{newName, newPairs}
 
 -- Two scopes have the same names.
 abbrev pub SameNames : (one other : List (List ℕ)) → Type 0

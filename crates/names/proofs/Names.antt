@@ -10,11 +10,11 @@ use lib.ListN.{take-append-drop, List·getD-append}
 use lib.Seq.{getD-append-add, length-take-le, sets}
 use Rattle.forest.proofs.Lists.{drop-next}
 use Rattle.forest.specs.Lists.{sameBytes}
-use Rattle.bits.proofs.Naming.{Read, nothing-read, other-length}
-use Rattle.bits.proofs.Table.{Stands}
-use Rattle.lookup.specs.Search.{placeIn}
-use Rattle.naming.specs.Steps.{Names}
-use Rattle.naming.specs.Table.{longest, nameIn, nameRow, namesFrom, rowCount}
+use Rattle.operators.proofs.Naming.{Read, nothing-read, other-length}
+use Rattle.operators.proofs.Table.{Stands}
+use Rattle.forest.specs.Search.{placeIn}
+use Rattle.names.specs.code.Lookup.{Names}
+use Rattle.names.specs.code.Table.{longest, nameIn, nameRow, namesFrom, rowCount}
 
 module _ {names : List ℕ} (t : Names names) {row : ℕ} (h : row < rowCount) where
   -- how long the name in a row is

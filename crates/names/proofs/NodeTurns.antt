@@ -9,22 +9,22 @@ use mathlib.Core.List.{List, [], _∷_, _++_}
 use lib.ListN.{drop, getD, length, drop-of-length-le}
 use lib.Seq.{length-sets, sets}
 use Rattle.forest.specs.Forest.{Forest, Node, count, nodesOf, none, size, tree}
-use Rattle.forest.specs.Rows.{numberAt, rows}
+use Rattle.forest.specs.code.Rows.{numberAt, rows}
 use Rattle.forest.proofs.Lists.{Stands, stands}
 use Rattle.forest.proofs.Nodes.{length-nodes}
 use Rattle.forest.proofs.Rows.{row-at, rows-append}
-use Rattle.grammar.specs.Tables.{formTable, itemCode, itemRow, itemValue}
-use Rattle.lexemes.specs.Standing.{Source}
-use Rattle.lexemes.specs.Table.{codeAt}
-use Rattle.gathering.specs.Steps.{AllSay, Says}
-use Rattle.gathering.specs.Table.{firstAt, headAt, operandsAt, rawRow, rawTable, sizeAt}
-use Rattle.gathering.specs.Terms.{Raw}
-use Rattle.naming.specs.Scopes.{View, formsOf, itemOr, means}
-use Rattle.naming.specs.Steps.{AllHeaded, Headed, NodeAt, NodeMeans, Resolved, Resolving, sourceOf, wordBy}
-use Rattle.naming.specs.Unknown.{unknownAt, unknownIn}
-use Rattle.naming.specs.declared.Meaning.{Meaning}
-use Rattle.naming.specs.declared.Seen.{Seen}
-use Rattle.naming.proofs.ByWords.{node-word}
+use Rattle.derivation.specs.code.Tables.{formTable, itemCode, itemRow, itemValue}
+use Rattle.lexemes.specs.code.Standing.{Source}
+use Rattle.lexemes.specs.code.Table.{codeAt}
+use Rattle.term_nodes.specs.code.Gathering.{AllSay, Says}
+use Rattle.term_nodes.specs.code.Table.{firstAt, headAt, operandsAt, rawRow, rawTable, sizeAt}
+use Rattle.term_nodes.specs.Terms.{Raw}
+use Rattle.names.specs.Scopes.{View, formsOf, itemOr, means}
+use Rattle.names.specs.code.Lookup.{AllHeaded, Headed, NodeAt, NodeMeans, Resolved, Resolving, sourceOf, wordBy}
+use Rattle.names.specs.Unknown.{unknownAt, unknownIn}
+use Rattle.names.specs.declared.Meaning.{Meaning}
+use Rattle.names.specs.declared.Seen.{Seen}
+use Rattle.names.proofs.ByWords.{node-word}
 
 -- The row of a node's form.
 abbrev pub formRow : View → Node Raw → List ℕ

@@ -9,20 +9,20 @@ use lib.ListN.{length}
 use lib.Seq.{sets}
 use Rattle.forest.specs.Forest.{count}
 use Rattle.forest.proofs.Bools.{and-left, and-right}
-use Rattle.scanning.specs.Trees.{Lexeme}
+use Rattle.words.specs.Trees.{Lexeme}
 use Rattle.lexemes.specs.Lists.{Items, inside, isList, isSymbol, item, nameOf}
-use Rattle.lexemes.specs.Standing.{ItemAt}
+use Rattle.lexemes.specs.code.Standing.{ItemAt}
 use Rattle.lexemes.proofs.Listed.{item-room, list-from}
 use Rattle.shapes.specs.Shapes.{pairShape, sortShape}
-use Rattle.sorts.specs.Steps.{ShapedAt, SortAt}
-use Rattle.sorts.specs.Written.{sortOf}
-use Rattle.sorts.proofs.Parts.{pair-sort, sorted}
-use Rattle.sorts.proofs.Walked.{come-first, item-come}
-use Rattle.naming.specs.Steps.{bytesAt, sourceOf}
-use Rattle.naming.specs.Table.{longest, nameRow, rowCount}
-use Rattle.declaring.specs.Steps.{Few, NewName, PairAt, PairPut}
-use Rattle.declaring.specs.declared.Scope.{Scope}
-use Rattle.declaring.proofs.Testing.{SymbolAt, symbol-at}
+use Rattle.written_sorts.specs.code.Places.{ShapedAt, SortAt}
+use Rattle.written_sorts.specs.Written.{sortOf}
+use Rattle.written_sorts.proofs.Parts.{pair-sort, sorted}
+use Rattle.written_sorts.proofs.Walked.{come-first, item-come}
+use Rattle.names.specs.code.Lookup.{bytesAt, sourceOf}
+use Rattle.names.specs.code.Table.{longest, nameRow, rowCount}
+use Rattle.names.specs.code.NewNames.{Few, NewName, PairAt, PairPut}
+use Rattle.names.specs.declared.Scope.{Scope}
+use Rattle.names.proofs.Testing.{SymbolAt, symbol-at}
 
 -- The name of a pair is a symbol.
 pub name-symbol : (l : Lexeme) (ops : Items) → pairShape l ops ≡ true → isSymbol (item 0 ops) ≡ true

@@ -8,20 +8,20 @@ use lib.ListN.{length}
 use Rattle.forest.specs.Forest.{count, none, tree}
 use Rattle.forest.proofs.Bools.{and-left, and-right}
 use Rattle.lexemes.specs.Lists.{Items, inside, item, nameOf}
-use Rattle.lexemes.specs.Standing.{Between, ItemAt, Source, Stands}
-use Rattle.lexemes.specs.Table.{nextAt}
+use Rattle.lexemes.specs.code.Standing.{Between, ItemAt, Source, Stands}
+use Rattle.lexemes.specs.code.Table.{nextAt}
 use Rattle.lexemes.proofs.Along.{Along, along-end, along-here, along-start, along-turn, item-of}
 use Rattle.shapes.specs.Shapes.{all, pairShape}
-use Rattle.sorts.specs.Written.{sortOf}
-use Rattle.naming.specs.Scopes.{namesOf, namedSorts}
-use Rattle.naming.specs.Steps.{Kept, Names, sourceOf}
-use Rattle.naming.specs.Table.{definedRow, functionRow, namesFrom, sortsFrom, variableRow}
-use Rattle.naming.proofs.Putting.{Put, kept-more, kept-none, last-row, put-row}
-use Rattle.declaring.specs.New.{namedBy, newName, newPairs}
-use Rattle.declaring.specs.Steps.{AllNarrow, NameTested, NewName, NewPairs, PairAt, PairPut, PairsNamed, namesIn}
-use Rattle.declaring.specs.declared.Scope.{Scope}
-use Rattle.declaring.proofs.Members.{name-between, pairs-below, same-members}
-use Rattle.declaring.proofs.Pair.{name-fits, name-here}
+use Rattle.written_sorts.specs.Written.{sortOf}
+use Rattle.names.specs.Scopes.{namesOf, namedSorts}
+use Rattle.names.specs.code.Lookup.{Kept, Names, sourceOf}
+use Rattle.names.specs.code.Table.{definedRow, functionRow, namesFrom, sortsFrom, variableRow}
+use Rattle.names.proofs.Putting.{Put, kept-more, kept-none, last-row, put-row}
+use Rattle.names.specs.New.{namedBy, newName, newPairs}
+use Rattle.names.specs.code.NewNames.{AllNarrow, NameTested, NewName, NewPairs, PairAt, PairPut, PairsNamed, namesIn}
+use Rattle.names.specs.declared.Scope.{Scope}
+use Rattle.names.proofs.Members.{name-between, pairs-below, same-members}
+use Rattle.names.proofs.Pair.{name-fits, name-here}
 
 -- Rows that stand behind those that are changed, or are none, are kept.
 behind-kept : {names after : List ℕ} {row n : ℕ} (first m : ℕ) → Kept names row n after → ((k : ℕ) → k < m → row + n ≤ first + k)

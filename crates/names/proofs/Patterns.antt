@@ -12,21 +12,21 @@ use borrow.Author.Tests.{eq-eqb, eqb-true, ne-eqb}
 use Rattle.forest.specs.Forest.{count, none, tree}
 use Rattle.forest.specs.Lists.{sameBytes, spelling}
 use Rattle.forest.proofs.Bools.{and-left, and-right, apart}
-use Rattle.bits.specs.Operators.{operators}
-use Rattle.scanning.specs.Trees.{Lexeme, list, literal, numeral, symbol}
-use Rattle.reserved.specs.Reserved.{isWord, knownWords, placeAmong, wordNumber}
+use Rattle.operators.specs.Operators.{operators}
+use Rattle.words.specs.Trees.{Lexeme, list, literal, numeral, symbol}
+use Rattle.lexemes.specs.Reserved.{isWord, knownWords, placeAmong, wordNumber}
 use Rattle.lexemes.specs.Lists.{Items, after, allNumerals, indexed, is, isList, isSymbol, item, numeralOf}
-use Rattle.lexemes.specs.Standing.{Source, Stands, bracketed, ends, word}
+use Rattle.lexemes.specs.code.Standing.{Source, Stands, bracketed, ends, word}
 use Rattle.lexemes.proofs.Standing.{coded}
-use Rattle.lexemes.specs.Table.{codeAt, numeralCode, openCode, symbolCode, valueAt}
-use Rattle.gathering.specs.Terms.{pattern}
-use Rattle.sorts.specs.Written.{sortOf, sortPlace}
-use Rattle.sorts.specs.declared.Fault.the-variants.{Unknown}
-use Rattle.grammar.specs.Derivation.{anyArgument, anyLiteral}
-use Rattle.grammar.specs.Tables.{itemCode, itemValue}
-use Rattle.naming.specs.Scopes.{View}
-use Rattle.naming.specs.Steps.{NodeMeans, PatternAt}
-use Rattle.naming.proofs.Symbols.{word-test}
+use Rattle.lexemes.specs.code.Table.{codeAt, numeralCode, openCode, symbolCode, valueAt}
+use Rattle.term_nodes.specs.Terms.{pattern}
+use Rattle.written_sorts.specs.Written.{sortOf, sortPlace}
+use Rattle.written_sorts.specs.declared.Fault.the-variants.{Unknown}
+use Rattle.derivation.specs.Derivation.{anyArgument, anyLiteral}
+use Rattle.derivation.specs.code.Tables.{itemCode, itemValue}
+use Rattle.names.specs.Scopes.{View}
+use Rattle.names.specs.code.Lookup.{NodeMeans, PatternAt}
+use Rattle.names.proofs.Symbols.{word-test}
 
 -- Items of which the first is a word, and the others.
 record Begun (s : Source) (i e : ℕ) (F : Items) : Type 0 where

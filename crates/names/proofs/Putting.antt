@@ -8,8 +8,8 @@ use lib.ListN.{drop, getD, length, replicate, take, length-append, length-drop, 
 use lib.Seq.{drop-append-add, drop-append-le, drop-at, drop-drop, getD-drop, length-sets, length-take-le, sets, sets-eq, take-append-le, take-append-seam}
 use lib.Dec.{eqb, ltb}
 use borrow.Author.Tests.{eqb-false, eqb-true, ltb-false, ltb-true}
-use Rattle.naming.specs.Steps.{Kept, Names}
-use Rattle.naming.specs.Table.{longest, nameIn, nameRow, namesFrom, rowCount, sortIn, sortsFrom}
+use Rattle.names.specs.code.Lookup.{Kept, Names}
+use Rattle.names.specs.code.Table.{longest, nameIn, nameRow, namesFrom, rowCount, sortIn, sortsFrom}
 
 -- Two tables hold the same in row k.
 pub record SameRow (one other : List ℕ) (k : ℕ) : Type 0 where

@@ -11,16 +11,16 @@ use lib.Seq.{getD-append-add}
 use mir.Val.{boolByte}
 use borrow.Author.Tests.{eq-eqb, eqb-false, eqb-true, le-leb, le-ltb, leb-false, leb-true, lt-leb, lt-ltb, ltb-true, ne-eqb}
 use Rattle.forest.proofs.Bools.{and-left, and-right, apart, or-left, or-right}
-use Rattle.bits.specs.Operators.{Operator, named, operatorAt, operatorCount, operatorOf, operators}
-use Rattle.bits.proofs.Table.{column, next-row}
+use Rattle.operators.specs.Operators.{Operator, named, operatorAt, operatorCount, operatorOf, operators}
+use Rattle.operators.proofs.Table.{column, next-row}
 use Rattle.terms.specs.Labels.{literal, operator}
-use Rattle.grammar.specs.Derivation.{the}
-use Rattle.lexemes.specs.Table.{symbolCode}
-use Rattle.reserved.specs.Reserved.{carriedCommands, isWord, knownWords, otherCommands, otherWords, unreservedWords, wordNumber}
-use Rattle.reserved.proofs.Numbers.{by-place, wordAt}
-use Rattle.naming.specs.Scopes.{View, isKnown, symbolMeans}
-use Rattle.naming.specs.Steps.{Ordinary, SymbolMeans}
-use Rattle.naming.proofs.Lookup.{stands-for}
+use Rattle.derivation.specs.Derivation.{the}
+use Rattle.lexemes.specs.code.Table.{symbolCode}
+use Rattle.lexemes.specs.Reserved.{carriedCommands, isWord, knownWords, otherCommands, otherWords, unreservedWords, wordNumber}
+use Rattle.lexemes.proofs.Numbers.{by-place, wordAt}
+use Rattle.names.specs.Scopes.{View, isKnown, symbolMeans}
+use Rattle.names.specs.code.Lookup.{Ordinary, SymbolMeans}
+use Rattle.names.proofs.Lookup.{stands-for}
 
 -- The words before the operators.
 abbrev before : List String

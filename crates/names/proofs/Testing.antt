@@ -11,21 +11,21 @@ use borrow.Author.Tests.{le-leb, le-ltb, leb-false, leb-true, lt-ltb}
 use Rattle.forest.specs.Forest.{none, tree}
 use Rattle.forest.specs.Lists.{sameBytes}
 use Rattle.forest.proofs.Bools.{apart}
-use Rattle.bits.specs.Operators.{Operator, operators}
-use Rattle.reserved.specs.Reserved.{carriedCommands, isOneOf, isReserved, isWord, knownWords, otherCommands, otherWords, placeAmong, reservedWords, wordNumber}
-use Rattle.scanning.specs.Trees.{Lexeme, list, literal, numeral, symbol, wordOf}
+use Rattle.operators.specs.Operators.{Operator, operators}
+use Rattle.lexemes.specs.Reserved.{carriedCommands, isOneOf, isReserved, isWord, knownWords, otherCommands, otherWords, placeAmong, reservedWords, wordNumber}
+use Rattle.words.specs.Trees.{Lexeme, list, literal, numeral, symbol, wordOf}
 use Rattle.lexemes.specs.Lists.{Items, isSymbol, item, nameOf}
-use Rattle.lexemes.specs.Standing.{Stands, WordIs}
-use Rattle.lexemes.specs.Table.{codeAt, symbolCode}
+use Rattle.lexemes.specs.code.Standing.{Stands, WordIs}
+use Rattle.lexemes.specs.code.Table.{codeAt, symbolCode}
 use Rattle.lexemes.proofs.ByCode.{codeFor, front-range}
-use Rattle.sorts.proofs.Walked.{placed, symbol-word, word-is}
-use Rattle.lookup.specs.Search.{placeIn}
-use Rattle.naming.specs.Scopes.{isNamed}
-use Rattle.naming.specs.Steps.{bytesAt, sourceOf}
-use Rattle.naming.specs.Table.{definedRow, functionRow, namesFrom, variableRow}
-use Rattle.declaring.specs.Steps.{NameTested, NewName, namesIn}
-use Rattle.declaring.specs.declared.Scope.{Scope}
-use Rattle.declaring.proofs.Members.{named-both, named-in-rows}
+use Rattle.written_sorts.proofs.Walked.{placed, symbol-word, word-is}
+use Rattle.forest.specs.Search.{placeIn}
+use Rattle.names.specs.Scopes.{isNamed}
+use Rattle.names.specs.code.Lookup.{bytesAt, sourceOf}
+use Rattle.names.specs.code.Table.{definedRow, functionRow, namesFrom, variableRow}
+use Rattle.names.specs.code.NewNames.{NameTested, NewName, namesIn}
+use Rattle.names.specs.declared.Scope.{Scope}
+use Rattle.names.proofs.Members.{named-both, named-in-rows}
 
 -- The operators' names.
 abbrev operatorWords : List String

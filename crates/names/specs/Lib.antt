@@ -1,2 +1,4 @@
+pub mod Scopes
+pub mod Unknown
 pub mod New
-pub mod Steps
+pub mod code

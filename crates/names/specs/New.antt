@@ -3,10 +3,10 @@ use Prim.Native.Nat.{ℕ, min}
 use mathlib.Core.Bool.{cond}
 use mathlib.Core.List.{List, [], _∷_}
 use Rattle.forest.specs.Forest.{none, tree}
-use Rattle.scanning.specs.Trees.{Lexeme, wordOf}
+use Rattle.words.specs.Trees.{Lexeme, wordOf}
 use Rattle.lexemes.specs.Lists.{Items, inside, item, nameOf}
-use Rattle.naming.specs.Scopes.{Named, isTaken}
-use Rattle.sorts.specs.Written.{sortOf}
+use Rattle.names.specs.Scopes.{Named, isTaken}
+use Rattle.written_sorts.specs.Written.{sortOf}
 
 -- A new name that is reserved or taken.
 abbrev pub newName : (nowhere : ℕ) → (scope : List (List ℕ)) → Lexeme → ℕ

@@ -1,5 +1,5 @@
 -- Names in scope, and what they stand for.
-use Rattle.lookup.specs.Search.{placeIn}
+use Rattle.forest.specs.Search.{placeIn}
 use Prim.Native.Nat.{ℕ, _+_}
 use mathlib.Core.Bool.{Bool, true, false, cond, _&&_, _||_}
 use mathlib.Core.List.{List, [], _∷_, _++_, map}
@@ -8,14 +8,14 @@ use lib.Dec.{leb, ltb}
 use lib.ListN.{getD}
 use Rattle.forest.specs.Forest.{Forest, none, tree}
 use Rattle.forest.specs.Lists.{sameBytes, spelling}
-use Rattle.bits.specs.Operators.{operatorCount, operatorOf}
-use Rattle.bits.specs.Sorts.{maxWidth}
+use Rattle.operators.specs.Operators.{operatorCount, operatorOf}
+use Rattle.operators.specs.Sorts.{maxWidth}
 use Rattle.terms.specs.Labels.{defined, function, literal, name, operator}
 use Rattle.terms.specs.Sorts.{Definition, Signature}
-use Rattle.grammar.specs.Derivation.{Grammar, Item, anyArgument, anyLiteral, nonTerminal, the}
-use Rattle.reserved.specs.Reserved.{isReserved, isWord}
-use Rattle.gathering.specs.Terms.{Raw, constant, cut, number, pattern, word}
-use Rattle.sorts.specs.Written.{sortOf}
+use Rattle.derivation.specs.Derivation.{Grammar, Item, anyArgument, anyLiteral, nonTerminal, the}
+use Rattle.lexemes.specs.Reserved.{isReserved, isWord}
+use Rattle.term_nodes.specs.Terms.{Raw, constant, cut, number, pattern, word}
+use Rattle.written_sorts.specs.Written.{sortOf}
 
 -- A variable, an argument or a non-terminal: its name and its sort.
 pub record Named : Type 0 where

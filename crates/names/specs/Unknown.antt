@@ -3,10 +3,10 @@ use Prim.Native.Nat.{ℕ, min}
 use mathlib.Core.Bool.{cond}
 use mathlib.Core.List.{List, [], _∷_}
 use Rattle.forest.specs.Forest.{Node}
-use Rattle.gathering.specs.Terms.{Raw, constant, cut, number, pattern, word}
-use Rattle.sorts.specs.Written.{sortPlace}
-use Rattle.sorts.specs.declared.Fault.the-variants.{Unknown}
-use Rattle.naming.specs.Scopes.{View, isKnown}
+use Rattle.term_nodes.specs.Terms.{Raw, constant, cut, number, pattern, word}
+use Rattle.written_sorts.specs.Written.{sortPlace}
+use Rattle.written_sorts.specs.declared.Fault.the-variants.{Unknown}
+use Rattle.names.specs.Scopes.{View, isKnown}
 
 -- The word of a node that names something unknown.
 abbrev pub unknownAt : (nowhere : ℕ) → View → Raw → ℕ

@@ -4,17 +4,17 @@ use crate::Seen;
 use crate::lesser;
 use crate::nodes::node_means;
 use crate::nodes::unknown_word;
-use gathering::first_at;
-use gathering::head_at;
-use gathering::operands_at;
-use gathering::size_at;
+use term_nodes::first_at;
+use term_nodes::head_at;
+use term_nodes::operands_at;
+use term_nodes::size_at;
 use terms::ROW;
 ghost use mathlib.Core.Path.{_≡_};
 ghost use mathlib.Core.List.{[], _∷_};
 ghost use Prim.Native.Nat.{_+_, _*_, _≤_};
 ghost use lib.ListN.{length};
 ghost use lib.Seq.{sets};
-ghost use Rattle.naming.specs.Steps.{Resolved, Resolving};
+ghost use Rattle.names.specs.code.Lookup.{Resolved, Resolving};
 
 // Writes the row of a node.
 fn put_form(forms: &mut [u64], row: usize, meaning: Meaning, operands: usize, size: usize)

@@ -1,5 +1,38 @@
+//! Names in scope: a table of them, what a symbol stands for, and the forms that terms say.
 //! New names: whether one is reserved or taken, and the names of arguments and non-terminals put in scope.
-pub mod names;
+pub mod forms;
+mod literals;
+mod meanings;
+pub mod new;
+mod nodes;
+pub mod spelled;
+pub mod table;
+
+ghost use mathlib.Core.Path.{_≡_};
+ghost use Prim.Native.Nat.{min};
+
+// What a term sees, as rows of the table of names: arguments or variables from row `first` on, and how many of the others there are.
+pub struct Seen {
+    pub first: usize,
+    pub names: usize,
+    pub defined: usize,
+    pub functions: usize,
+    pub non_terminals: usize,
+}
+
+// What a node stands for, as the two numbers of a node table, and whether it is known.
+pub struct Meaning {
+    pub known: bool,
+    pub code: u64,
+    pub value: u64,
+}
+
+// The lesser of two numbers.
+fn lesser(one: usize, other: usize) -> usize
+    ensures { λ r. ⌜ r ≡ min one other ⌝ }
+{
+    if one < other { one } else { other }
+}
 
 // How many names of each kind are in scope: variables, `define-fun`s, synthesized functions, and arguments, which stand from row `first` on.
 pub struct Scope {

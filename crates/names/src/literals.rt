@@ -1,8 +1,8 @@
 //! How a literal is written.
 ghost use mathlib.Core.Path.{_≡_};
 ghost use Prim.Native.Nat.{_<_};
-ghost use Rattle.gathering.specs.Terms.{writtenOf};
-ghost use Rattle.naming.specs.Steps.{mostWritten};
+ghost use Rattle.term_nodes.specs.Terms.{writtenOf};
+ghost use Rattle.names.specs.code.Lookup.{mostWritten};
 
 // How a `#x` or `#b` word is written: 0 for `#b`; for `#x` the case of its digits, after a leading 1.
 pub fn written_of(word: &[u8]) -> u64

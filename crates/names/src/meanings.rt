@@ -13,8 +13,8 @@ use lexemes::codes::OTHER;
 use lexemes::codes::TRUE;
 ghost use mathlib.Core.Bool.{true};
 ghost use mathlib.Core.Path.{_≡_};
-ghost use Rattle.lexemes.specs.Table.{symbolCode};
-ghost use Rattle.naming.specs.Steps.{Ordinary, Seeing, SymbolMeans};
+ghost use Rattle.lexemes.specs.code.Table.{symbolCode};
+ghost use Rattle.names.specs.code.Lookup.{Ordinary, Seeing, SymbolMeans};
 
 // The code of a node that stands for nothing: an operator that there is none of.
 pub const NOTHING: u64 = terms::OPERATOR + 16 * 23;

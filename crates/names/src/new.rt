@@ -1,23 +1,23 @@
 //! New names, each tested against those in scope.
 use crate::Scope;
+use crate::spelled::bytes_at;
+use crate::table::DEFINED;
+use crate::table::FUNCTIONS;
+use crate::table::VARIABLES;
+use crate::table::find_name;
+use crate::table::put_name;
 use lexemes::code_at;
 use lexemes::codes::OTHER;
 use lexemes::codes::SET_LOGIC;
 use lexemes::next_at;
-use naming::spelled::bytes_at;
-use naming::table::DEFINED;
-use naming::table::FUNCTIONS;
-use naming::table::VARIABLES;
-use naming::table::find_name;
-use naming::table::put_name;
-use sorts::places::least;
-use sorts::places::sort_of;
+use written_sorts::places::least;
+use written_sorts::places::sort_of;
 ghost use mathlib.Core.Path.{_≡_};
 ghost use Prim.Native.Nat.{_+_, _≤_};
-ghost use Rattle.naming.specs.Scopes.{isNamed};
-ghost use Rattle.naming.specs.Steps.{Names};
-ghost use Rattle.naming.specs.Table.{namesFrom};
-ghost use Rattle.declaring.specs.Steps.{Few, NameTested, NewName, NewPairs, PairAt, PairPut, PairsNamed, namesIn};
+ghost use Rattle.names.specs.Scopes.{isNamed};
+ghost use Rattle.names.specs.code.Lookup.{Names};
+ghost use Rattle.names.specs.code.Table.{namesFrom};
+ghost use Rattle.names.specs.code.NewNames.{Few, NameTested, NewName, NewPairs, PairAt, PairPut, PairsNamed, namesIn};
 
 // Whether a word is one of the names in so many rows from a row on.
 fn is_named(names: &[u8], first: usize, count: usize, word: &[u8]) -> bool

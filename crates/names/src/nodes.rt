@@ -18,10 +18,10 @@ use lexemes::width_at;
 ghost use mathlib.Core.Path.{_≡_};
 ghost use mathlib.Core.Bool.{cond};
 ghost use Prim.Native.Nat.{ℕ, _+_, _≤_, _<_};
-ghost use Rattle.gathering.specs.Terms.{constant, cut, pattern, writtenOf};
-ghost use Rattle.lexemes.specs.Table.{codeAt, valueAt, widthAt};
-ghost use Rattle.naming.specs.Scopes.{View};
-ghost use Rattle.naming.specs.Steps.{NodeAt, NodeMeans, PatternAt, bytesAt, isPatternHead, mostWritten, wordBy};
+ghost use Rattle.term_nodes.specs.Terms.{constant, cut, pattern, writtenOf};
+ghost use Rattle.lexemes.specs.code.Table.{codeAt, valueAt, widthAt};
+ghost use Rattle.names.specs.Scopes.{View};
+ghost use Rattle.names.specs.code.Lookup.{NodeAt, NodeMeans, PatternAt, bytesAt, isPatternHead, mostWritten, wordBy};
 
 // The code of `(_ extract i j)`: the last operator.
 const CUT: u64 = terms::OPERATOR + 16 * 22;

@@ -3,7 +3,7 @@ use crate::lesser;
 use lexemes::end_at;
 use lexemes::start_at;
 ghost use mathlib.Core.Path.{_≡_};
-ghost use Rattle.naming.specs.Steps.{bytesAt};
+ghost use Rattle.names.specs.code.Lookup.{bytesAt};
 
 // The bytes of a word; none past the end of the table or of the text.
 pub fn bytes_at<'a>(text: &'a [u8], lexemes: &[u64], word: usize) -> &'a [u8]

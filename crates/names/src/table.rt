@@ -4,9 +4,9 @@ ghost use Prim.Native.Nat.{_+_, _*_, _<_, _≤_};
 ghost use lib.ListN.{length};
 ghost use lib.Seq.{sets};
 ghost use Rattle.forest.specs.Lists.{sameBytes};
-ghost use Rattle.lookup.specs.Search.{placeIn};
-ghost use Rattle.naming.specs.Steps.{Names};
-ghost use Rattle.naming.specs.Table.{nameIn, nameRow, namesFrom, sortIn};
+ghost use Rattle.forest.specs.Search.{placeIn};
+ghost use Rattle.names.specs.code.Lookup.{Names};
+ghost use Rattle.names.specs.code.Table.{nameIn, nameRow, namesFrom, sortIn};
 
 // How many bytes a row has.
 pub const ROW: usize = 66;

@@ -10,11 +10,11 @@ use lib.ListN.{getD, length}
 use borrow.Author.Tests.{eqb-true}
 use Rattle.forest.proofs.Bools.{and-right}
 use Rattle.forest.proofs.Options.{passed}
-use Rattle.bits.specs.Operators.{Operands, Operator, operatorAt, operatorCount, operatorSort, operatorValue}
-use Rattle.bits.specs.Sorts.{cutting, joining, maxWidth, sortBy, width}
-use Rattle.bits.specs.Steps.{Applied, Joined, Operable, Width, Word, Words}
-use Rattle.bits.proofs.Rules.{cut, pair, vectors}
-use Rattle.bits.proofs.Table.{past}
+use Rattle.operators.specs.Operators.{Operands, Operator, operatorAt, operatorCount, operatorSort, operatorValue}
+use Rattle.operators.specs.Sorts.{cutting, joining, maxWidth, sortBy, width}
+use Rattle.operators.specs.code.Applying.{Applied, Joined, Operable, Width, Word, Words}
+use Rattle.operators.proofs.Rules.{cut, pair, vectors}
+use Rattle.operators.proofs.Table.{past}
 
 -- The operands as `apply` has them: two widths and three values.
 abbrev pub given : (high low first second one two three : ℕ) → Operands

@@ -7,8 +7,8 @@ use lib.Arith.{digits-lt}
 use lib.Bits.{and-lt, or-lt, xor-lt}
 use lib.Dec.{eqb, ltb, lit<}
 use lib.Pow.{ones-lt, ones-sub-lt, pow-add, pow-pos, shr-le}
-use Rattle.bits.specs.Steps.{Joined, Words}
-use Rattle.bits.specs.Values.{bvandValue, bvlshrValue, bvnotValue, bvorValue, bvshlValue, bvudivValue, bvuremValue, bvxorValue, concatValue, truth}
+use Rattle.operators.specs.code.Applying.{Joined, Words}
+use Rattle.operators.specs.Values.{bvandValue, bvlshrValue, bvnotValue, bvorValue, bvshlValue, bvudivValue, bvuremValue, bvxorValue, concatValue, truth}
 
 -- Of two numbers below a bound either is below it.
 pick-below : (t : Bool) {x y m : ℕ} → x < m → y < m → cond t x y < m

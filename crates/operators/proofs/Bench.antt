@@ -5,8 +5,8 @@ use mathlib.Core.Path.{_≡_, refl}
 use mathlib.Core.List.{List, [], _∷_, map}
 use mathlib.Core.Option.{Option, some}
 use Rattle.forest.specs.Lists.{sameBytes, spelling}
-use Rattle.bits.specs.Operators.{named, operatorAt, operatorOf, operatorSort, operatorValue, operators}
-use Rattle.bits.specs.Sorts.{sortBy}
+use Rattle.operators.specs.Operators.{named, operatorAt, operatorOf, operatorSort, operatorValue, operators}
+use Rattle.operators.specs.Sorts.{sortBy}
 
 -- A row: an operator's name, the numbers of `(_ extract i j)`, the sorts and the values of the operands, and the result's sort and value.
 pub record Row : Type 0 where

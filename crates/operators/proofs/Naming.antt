@@ -10,8 +10,8 @@ use lib.Seq.{getD-drop}
 use borrow.Author.Tests.{eq-eqb, ne-eqb}
 use Rattle.forest.proofs.Lists.{drop-next}
 use Rattle.forest.specs.Lists.{sameBytes}
-use Rattle.bits.specs.Operators.{named, operatorCount, operatorOf, operators}
-use Rattle.bits.proofs.Table.{Stands, nameOf, next-row}
+use Rattle.operators.specs.Operators.{named, operatorCount, operatorOf, operators}
+use Rattle.operators.proofs.Table.{Stands, nameOf, next-row}
 
 -- Words of two lengths differ.
 lengths-differ : (u v : List ℕ) → (length u ≡ length v → ⊥) → false ≡ sameBytes u v

@@ -9,8 +9,8 @@ use lib.Pow.{high, mod-mod-pow, ones-lt, ones-split, shl-exact, shl-lt, split}
 use mir.Facts.{fits-bits}
 use mir.Syntax.{w64}
 use mir.Val.{Fits}
-use Rattle.bits.specs.Steps.{Joined, Width, Word, Words}
-use Rattle.bits.specs.Values.{bvnegValue, bvsubValue, concatValue}
+use Rattle.operators.specs.code.Applying.{Joined, Width, Word, Words}
+use Rattle.operators.specs.Values.{bvnegValue, bvsubValue, concatValue}
 
 -- The largest number shifted down by 64 - n leaves n ones.
 pub ones-law : {n : ℕ} → Width n → (2 ^ 64 - 1) / 2 ^ (64 - n) ≡ 2 ^ n - 1

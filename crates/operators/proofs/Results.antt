@@ -8,10 +8,10 @@ use lib.Dec.{eqb, leb, ltb}
 use lib.ListN.{getD, length}
 use borrow.Author.Tests.{leb-true, ltb-true}
 use Rattle.forest.proofs.Options.{never, passed}
-use Rattle.bits.specs.Operators.{operatorAt, operatorCount, operatorSort}
-use Rattle.bits.specs.Sorts.{SortRule, allAre, bool, choice, cutting, equality, joining, logic, maxWidth, order, ruleNumber, sortBy, vector, width}
-use Rattle.bits.specs.Steps.{ResultSort, Sortable}
-use Rattle.bits.proofs.Rules.{both, givesBool, ruled, truths}
+use Rattle.operators.specs.Operators.{operatorAt, operatorCount, operatorSort}
+use Rattle.operators.specs.Sorts.{SortRule, allAre, bool, choice, cutting, equality, joining, logic, maxWidth, order, ruleNumber, sortBy, vector, width}
+use Rattle.operators.specs.code.Applying.{ResultSort, Sortable}
+use Rattle.operators.proofs.Rules.{both, givesBool, ruled, truths}
 
 -- The rule of a number.
 abbrev pub ruleAt : ℕ → SortRule

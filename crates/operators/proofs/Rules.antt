@@ -10,9 +10,9 @@ use lib.ListN.{getD, length}
 use borrow.Author.Tests.{eqb-true, leb-true, lt-ltb, ltb-true}
 use Rattle.forest.proofs.Bools.{and-left, and-right, apart}
 use Rattle.forest.proofs.Options.{never}
-use Rattle.bits.specs.Sorts.{AllFit, Fit, SortRule, allAre, bool, choice, cutting, equality, joining, logic, maxWidth, order, sortBy, vector, when, width}
-use Rattle.bits.specs.Sorts.AllFit.{nothing, also}
-use Rattle.bits.specs.Steps.{Joined, Width, Word}
+use Rattle.operators.specs.Sorts.{AllFit, Fit, SortRule, allAre, bool, choice, cutting, equality, joining, logic, maxWidth, order, sortBy, vector, when, width}
+use Rattle.operators.specs.Sorts.AllFit.{nothing, also}
+use Rattle.operators.specs.code.Applying.{Joined, Width, Word}
 
 -- A rule that gives a sort has passed its test, and the sort is the one it gives.
 pub ruled : (test : Bool) {s r : ℕ} → when test s ≡ some r → (test ≡ true) × (s ≡ r)

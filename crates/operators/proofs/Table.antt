@@ -10,7 +10,7 @@ use borrow.Author.Tests.{leb-true}
 use lib.Dec.{leb}
 use Rattle.forest.proofs.Bools.{each}
 use Rattle.forest.specs.Lists.{spelling}
-use Rattle.bits.specs.Operators.{Operator, noOperator, operatorAt, operatorCount, operators}
+use Rattle.operators.specs.Operators.{Operator, noOperator, operatorAt, operatorCount, operators}
 
 -- There are as many operators as rows.
 pub operators-counted : operatorCount ≡ length operators

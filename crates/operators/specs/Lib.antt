@@ -1,4 +1,4 @@
 pub mod Values
 pub mod Sorts
 pub mod Operators
-pub mod Steps
+pub mod code

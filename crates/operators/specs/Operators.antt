@@ -7,10 +7,10 @@ use mathlib.Core.Option.{Option, none}
 use lib.Dec.{eqb, ltb}
 use lib.ListN.{getD, length}
 use Rattle.forest.specs.Lists.{sameBytes, spelling}
-use Rattle.bits.specs.Sorts.{SortRule, choice, cutting, equality, joining, logic, order, sortBy, width}
-use Rattle.bits.specs.Values.{andValue, bvaddValue, bvandValue, bvlshrValue, bvmulValue, bvnegValue, bvnotValue, bvorValue, bvshlValue, bvsubValue}
-use Rattle.bits.specs.Values.{bvudivValue, bvultValue, bvuremValue, bvxorValue, concatValue, distinctValue, equalValue, extractValue, impliesValue}
-use Rattle.bits.specs.Values.{iteValue, notValue, orValue, xorValue}
+use Rattle.operators.specs.Sorts.{SortRule, choice, cutting, equality, joining, logic, order, sortBy, width}
+use Rattle.operators.specs.Values.{andValue, bvaddValue, bvandValue, bvlshrValue, bvmulValue, bvnegValue, bvnotValue, bvorValue, bvshlValue, bvsubValue}
+use Rattle.operators.specs.Values.{bvudivValue, bvultValue, bvuremValue, bvxorValue, concatValue, distinctValue, equalValue, extractValue, impliesValue}
+use Rattle.operators.specs.Values.{iteValue, notValue, orValue, xorValue}
 
 -- What an operator's value is made of: the numbers of `(_ extract i j)`, and the sorts and the values of its operands.
 pub record Operands : Type 0 where

@@ -25,9 +25,9 @@ use crate::vectors::extract;
 ghost use mathlib.Core.Path.{_≡_};
 ghost use Prim.Native.Nat.{_<_};
 ghost use Rattle.forest.specs.Lists.{sameBytes, spelling};
-ghost use Rattle.bits.specs.Operators.{operatorAt, operatorCount, operatorOf};
-ghost use Rattle.bits.specs.Sorts.{ruleNumber};
-ghost use Rattle.bits.specs.Steps.{Applied, Operable, ResultSort, Sortable};
+ghost use Rattle.operators.specs.Operators.{operatorAt, operatorCount, operatorOf};
+ghost use Rattle.operators.specs.Sorts.{ruleNumber};
+ghost use Rattle.operators.specs.code.Applying.{Applied, Operable, ResultSort, Sortable};
 
 // How many operators there are; also the number that stands for none.
 pub const OPERATORS: usize = 23;

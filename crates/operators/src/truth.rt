@@ -1,7 +1,7 @@
 //! The operators whose operands or values are Bools: 0 is false, 1 is true.
 ghost use mathlib.Core.Path.{_≡_};
 ghost use Prim.Native.Nat.{_<_};
-ghost use Rattle.bits.specs.Values.{andValue, bvultValue, distinctValue, equalValue, impliesValue, iteValue, notValue, orValue, truth, xorValue};
+ghost use Rattle.operators.specs.Values.{andValue, bvultValue, distinctValue, equalValue, impliesValue, iteValue, notValue, orValue, truth, xorValue};
 
 // The number of a truth value.
 fn number_of(test: bool) -> u64

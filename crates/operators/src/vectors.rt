@@ -1,9 +1,9 @@
 //! The operators on bit vectors: numbers below 2^width, where the width is from 1 to 64.
 ghost use mathlib.Core.Path.{_≡_};
 ghost use Prim.Native.Nat.{_*_, _-_, _%_, _^_, _<_, _≤_};
-ghost use Rattle.bits.specs.Steps.{Joined, Width, Word, Words};
-ghost use Rattle.bits.specs.Values.{bvaddValue, bvandValue, bvlshrValue, bvmulValue, bvnegValue, bvnotValue, bvorValue};
-ghost use Rattle.bits.specs.Values.{bvshlValue, bvsubValue, bvudivValue, bvuremValue, bvxorValue, concatValue, extractValue};
+ghost use Rattle.operators.specs.code.Applying.{Joined, Width, Word, Words};
+ghost use Rattle.operators.specs.Values.{bvaddValue, bvandValue, bvlshrValue, bvmulValue, bvnegValue, bvnotValue, bvorValue};
+ghost use Rattle.operators.specs.Values.{bvshlValue, bvsubValue, bvudivValue, bvuremValue, bvxorValue, concatValue, extractValue};
 
 // 2^width - 1: all ones.
 pub fn ones(width: u64) -> u64

@@ -8,15 +8,15 @@ use mathlib.Core.Path.{refl}
 use lib.ListN.{length}
 use Rattle.terms.specs.Sorts.{Definition}
 use Rattle.lexemes.specs.Lists.{Items, inside, item}
-use Rattle.declaring.specs.New.{namedBy}
-use Rattle.naming.specs.Scopes.{Defined}
-use Rattle.sorts.specs.Written.{sortOf}
+use Rattle.names.specs.New.{namedBy}
+use Rattle.names.specs.Scopes.{Defined}
+use Rattle.written_sorts.specs.Written.{sortOf}
 use Rattle.script.specs.Script.{Known, argumentsOf, bodyView, constraintView, grammarPlace, knownAfter, sortingPlace, viewOf}
-use Rattle.promises.proofs.Bodies.{body-sorted}
-use Rattle.promises.proofs.Commands.{Command, Tests, another, constraining, declaring, defining, synthesizing}
-use Rattle.promises.proofs.Growing.{Sound, the-same, with-constraint, with-definition, with-function, with-variable}
+use Rattle.outcome.proofs.BodiesPromised.{body-sorted}
+use Rattle.outcome.proofs.Commands.{Command, Tests, another, constraining, declaring, defining, synthesizing}
+use Rattle.outcome.proofs.Growing.{Sound, the-same, with-constraint, with-definition, with-function, with-variable}
 use Rattle.script.proofs.Places.{Below, inside-below, item-below}
-use Rattle.promises.proofs.Rules.{groups-placed, heads-below, listed, rules-sorted, starts}
+use Rattle.outcome.proofs.Rules.{groups-placed, heads-below, listed, rules-sorted, starts}
 
 -- It is sound where what was known before is.
 module _ {nowhere : ℕ} (k : Known) (c : Items) (some-word : 0 < nowhere) (below : Below nowhere c) (sound : Sound k)

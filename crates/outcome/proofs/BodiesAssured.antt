@@ -2,15 +2,15 @@
 use mathlib.Core.List.{List, [], _∷_, map}
 use mathlib.Core.Path.{_≡_}
 use Rattle.terms.specs.Sorts.{FunctionsSorted, signatures}
-use Rattle.naming.specs.Scopes.{Defined, Function, signatureOf}
+use Rattle.names.specs.Scopes.{Defined, Function, signatureOf}
 use Rattle.script.specs.Script.{Known}
-use Rattle.script.specs.Tables.{definitionsOf}
-use Rattle.response.specs.Response.{Body, inScriptOrder}
+use Rattle.script.specs.code.Tables.{definitionsOf}
+use Rattle.script.specs.Response.{Body, inScriptOrder}
 use Rattle.outcome.specs.Derived.{termsOf}
 use Rattle.outcome.specs.Evaluated.{functionsWith}
 use Rattle.outcome.proofs.Sorts.{TermsSorted, terms-functions-sorted, terms-signatures-same}
 use Rattle.outcome.proofs.Sorts.TermsSorted.{also-sorted, none-sorted}
-use Rattle.assured.specs.Assured.{BodiesFit}
+use Rattle.outcome.specs.code.Assured.{BodiesFit}
 
 -- Bodies that fit are terms of their functions' sorts.
 pub bodies-sorted : (defs : List Defined) (fs : List Function) (bs : List Body) → BodiesFit defs fs bs → TermsSorted defs fs (termsOf bs)

@@ -9,18 +9,18 @@ use lib.Dec.{leb, ltb}
 use borrow.Author.Tests.{eqb-true, le-ltb, ltb-true}
 use Rattle.forest.specs.Forest.{Forest, none, tree}
 use Rattle.forest.proofs.Bools.{apart}
-use Rattle.bits.specs.Operators.{operatorCount, operatorOf, operatorSort}
-use Rattle.bits.specs.Sorts.{maxWidth}
+use Rattle.operators.specs.Operators.{operatorCount, operatorOf, operatorSort}
+use Rattle.operators.specs.Sorts.{maxWidth}
 use Rattle.terms.specs.Labels.{Label}
 use Rattle.terms.specs.Sorts.{Scope, labelSort, sortOver, sortsOf}
-use Rattle.grammar.specs.Derivation.{Item, nonTerminal, the}
-use Rattle.grammar.specs.Sorts.{formSorts, itemSort}
-use Rattle.reserved.specs.Reserved.{isWord}
-use Rattle.scanning.specs.Trees.{Lexeme, wordOf}
+use Rattle.derivation.specs.Derivation.{Item, nonTerminal, the}
+use Rattle.derivation.specs.Sorts.{formSorts, itemSort}
+use Rattle.lexemes.specs.Reserved.{isWord}
+use Rattle.words.specs.Trees.{Lexeme, wordOf}
 use Rattle.lexemes.specs.Lists.{Items}
-use Rattle.gathering.specs.Terms.{Raw, constant, cut, number, pattern, rawTerm, word}
-use Rattle.naming.specs.Scopes.{Named, View, definedNames, formsOf, functionNames, isNamed, itemOr, means, namesOf, namedSorts as sortsIn, symbolMeans}
-use Rattle.faults.specs.Faults.{bodyFault, oneSort, rawSorts, scopeOf, termFault}
+use Rattle.term_nodes.specs.Terms.{Raw, constant, cut, number, pattern, rawTerm, word}
+use Rattle.names.specs.Scopes.{Named, View, definedNames, formsOf, functionNames, isNamed, itemOr, means, namesOf, namedSorts as sortsIn, symbolMeans}
+use Rattle.term_faults.specs.Faults.{bodyFault, oneSort, rawSorts, scopeOf, termFault}
 use Rattle.script.specs.Script.{labelOf, termOf, termsIn}
 use Rattle.script.proofs.Places.{WordsBelow, no-fault}
 use Rattle.script.proofs.Terms.{AllWritten, Written, also-written, none-written, terms-written}

@@ -8,7 +8,7 @@ use lib.Dec.{eqb}
 use borrow.Author.Tests.{eqb-true}
 use Rattle.forest.specs.Lists.{sameBytes, spelling}
 use Rattle.forest.proofs.Bools.{and-left, and-right, apart}
-use Rattle.reserved.specs.Reserved.{isWord}
+use Rattle.lexemes.specs.Reserved.{isWord}
 use Rattle.lexemes.specs.Lists.{Items, is, item, nameOf}
 
 -- The tests of a command's word: whether it declares a variable, defines a function, synthesizes one, constrains.

@@ -11,26 +11,26 @@ use lib.Dec.{eqb}
 use lib.ListN.{drop, getD, length, take}
 use Rattle.forest.proofs.Bools.{and-left, and-right, apart}
 use Rattle.forest.specs.Forest.{none}
-use Rattle.bits.specs.Sorts.{bool}
+use Rattle.operators.specs.Sorts.{bool}
 use Rattle.terms.specs.Labels.{Terms}
 use Rattle.terms.specs.Sorts.{Definition, Scope, sortsOf as termSorts}
 use Rattle.terms.specs.Values.{value, valuesAt}
 use Rattle.terms.specs.declared.Value.{Value}
 use Rattle.terms.proofs.Sound.{one-value}
-use Rattle.grammar.specs.Answer.{start}
-use Rattle.grammar.specs.Derivation.{Derives}
-use Rattle.running.specs.Points.{pointAt, pointsOf}
-use Rattle.running.specs.Running.{isTrue}
-use Rattle.running.specs.declared.PointList.the-variants.{Good}
-use Rattle.naming.specs.Scopes.{Defined, Function, namedSorts}
-use Rattle.faults.specs.Faults.{scopeOf}
+use Rattle.derivation.specs.Answer.{start}
+use Rattle.derivation.specs.Derivation.{Derives}
+use Rattle.evaluation.specs.Points.{pointAt, pointsOf}
+use Rattle.evaluation.specs.Running.{isTrue}
+use Rattle.evaluation.specs.declared.PointList.the-variants.{Good}
+use Rattle.names.specs.Scopes.{Defined, Function, namedSorts}
+use Rattle.term_faults.specs.Faults.{scopeOf}
 use Rattle.script.specs.Script.{Known, constraintView}
-use Rattle.script.specs.Tables.{definitionsOf}
-use Rattle.promises.specs.Sorted.{AllBool, AllRulesSorted, grammarScope}
-use Rattle.promises.proofs.Sorted.{derived-sorted, rules-derive}
-use Rattle.response.specs.Response.{Body, inScriptOrder}
-use Rattle.texts.specs.Outcome.{said, scriptOutcome}
-use Rattle.texts.proofs.Promised.{script-sorted}
+use Rattle.script.specs.code.Tables.{definitionsOf}
+use Rattle.outcome.specs.Sorted.{AllBool, AllRulesSorted, grammarScope}
+use Rattle.outcome.proofs.Sorted.{derived-sorted, rules-derive}
+use Rattle.script.specs.Response.{Body, inScriptOrder}
+use Rattle.script.specs.Outcome.{said, scriptOutcome}
+use Rattle.outcome.proofs.Promised.{script-sorted}
 use Rattle.outcome.specs.Checked.{Checked, Passing, Judgement, evaluated, points-refused, underived}
 use Rattle.outcome.specs.Demands.{Affords, Decided, InOrder, OneTruth, RightSorts, Showing, UnitsStated, accepted, all-true, budget-ended}
 use Rattle.outcome.specs.Demands.{constraint-false, is-false, is-true, named-false, valuesOn}
@@ -40,8 +40,8 @@ use Rattle.outcome.specs.Evaluated.{functionsWith, ranWith}
 use Rattle.outcome.specs.Units.{summed}
 use Rattle.outcome.specs.declared.Outcome.{Outcome}
 use Rattle.outcome.proofs.Deriving.{not-derived}
-use Rattle.running.proofs.GoodPoints.{good-list, point-fits}
-use Rattle.running.proofs.PointRuns.{sorts-by}
+use Rattle.evaluation.proofs.GoodPoints.{good-list, point-fits}
+use Rattle.evaluation.proofs.PointRuns.{sorts-by}
 use Rattle.outcome.proofs.Sorts.{TermsSorted, also-sorted, none-sorted, terms-functions-sorted, terms-point-scope}
 use Rattle.outcome.proofs.Stages.{of-passing, ran-showing}
 use Rattle.outcome.proofs.Units.{in-order, units}

@@ -5,9 +5,9 @@ use mathlib.Core.List.{List}
 use mathlib.Core.Path.{_≡_, refl, ap}
 use lib.ListN.{length}
 use Rattle.terms.specs.Labels.{Terms}
-use Rattle.grammar.proofs.Simple.{simple-derives}
-use Rattle.naming.specs.Scopes.{Function}
-use Rattle.response.specs.Response.{Body}
+use Rattle.derivation.proofs.Simple.{simple-derives}
+use Rattle.names.specs.Scopes.{Function}
+use Rattle.script.specs.Response.{Body}
 use Rattle.outcome.specs.Derived.{Derived, FirstUnderived, ListsShown, termsOf}
 
 -- What is shown is a derivation of each.

@@ -3,10 +3,10 @@ use Prim.Native.Nat.{ℕ}
 use native.Mathlib.Omega.{arith}
 use mathlib.Core.List.{List}
 use mathlib.Core.Path.{_≡_, refl, sym}
-use Rattle.running.specs.declared.Ran.{Ran}
-use Rattle.running.specs.declared.Ran.the-variants.{Passed, False, Ended}
+use Rattle.evaluation.specs.declared.Ran.{Ran}
+use Rattle.evaluation.specs.declared.Ran.the-variants.{Passed, False, Ended}
 use Rattle.script.specs.Script.{Known}
-use Rattle.response.specs.Response.{Body, inScriptOrder}
+use Rattle.script.specs.Response.{Body, inScriptOrder}
 use Rattle.outcome.specs.Checked.{Checked, Judgement, evaluated, judged, missized, points-refused, response-refused, script-refused, underived}
 use Rattle.outcome.specs.Demands.{AreaStated, Exact, NoDerivation, shows, shows-none}
 use Rattle.outcome.specs.Derived.{Derived, termsOf}

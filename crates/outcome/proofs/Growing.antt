@@ -8,11 +8,11 @@ use mathlib.Core.Path.{_≡_}
 use lib.ListN.{length}
 use Rattle.terms.specs.Labels.{Terms}
 use Rattle.terms.specs.Sorts.{AllSorted, BodySorted, Scope, sortsOf as termSorts}
-use Rattle.naming.specs.Scopes.{Defined, Function, Named, signatureOf}
-use Rattle.faults.specs.Faults.{scopeOf}
+use Rattle.names.specs.Scopes.{Defined, Function, Named, signatureOf}
+use Rattle.term_faults.specs.Faults.{scopeOf}
 use Rattle.script.specs.Script.{Known, constraintView}
-use Rattle.promises.specs.Sorted.{AllBool, AllRulesSorted, RulesSorted, Sorted, grammarScope}
-use Rattle.promises.proofs.Widening.{bool-wider, wider-defined, wider-functions, wider-names}
+use Rattle.outcome.specs.Sorted.{AllBool, AllRulesSorted, RulesSorted, Sorted, grammarScope}
+use Rattle.outcome.proofs.Widening.{bool-wider, wider-defined, wider-functions, wider-names}
 
 -- No function has more `define-fun`s before it than there are.
 unfoldable pub AllBefore : (count : ℕ) → List Function → Type 0

@@ -1,3 +1,10 @@
+pub mod Widening
+pub mod BodiesPromised
+pub mod Rules
+pub mod Commands
+pub mod Growing
+pub mod After
+pub mod Sorted
 pub mod Areas
 pub mod Stages
 pub mod Small
@@ -9,3 +16,9 @@ pub mod Runs
 pub mod Units
 pub mod Variables
 pub mod Demands
+pub mod Proper
+pub mod Limited
+pub mod Script
+pub mod BodiesAssured
+pub mod Nodes
+pub mod Promised

@@ -8,20 +8,20 @@ use lib.Dec.{leb}
 use lib.ListN.{length}
 use borrow.Author.Tests.{leb-true}
 use Rattle.forest.specs.Forest.{none, tree}
-use Rattle.bits.specs.Sorts.{maxWidth}
-use Rattle.scanning.specs.Trees.{Lexeme, wordOf}
+use Rattle.operators.specs.Sorts.{maxWidth}
+use Rattle.words.specs.Trees.{Lexeme, wordOf}
 use Rattle.lexemes.specs.Lists.{Items, inside, is, item}
 use Rattle.shapes.specs.Shapes.{isPattern}
-use Rattle.sorts.specs.Written.{groupPlace, leastIn, rulePlace, sortOf, sortPlace}
-use Rattle.sorts.specs.declared.Fault.the-variants.{TooWide}
-use Rattle.gathering.specs.Terms.{pattern, rawRule, rawTerm}
-use Rattle.rules.specs.Rules.{Ruled, rulePast, rulesIn, rulesOf}
-use Rattle.grammar.specs.Derivation.{formOf}
-use Rattle.naming.specs.Scopes.{View, formsOf as formIn}
+use Rattle.written_sorts.specs.Written.{groupPlace, leastIn, rulePlace, sortOf, sortPlace}
+use Rattle.written_sorts.specs.declared.Fault.the-variants.{TooWide}
+use Rattle.term_nodes.specs.Terms.{pattern, rawRule, rawTerm}
+use Rattle.term_nodes.specs.Rules.{Ruled, rulePast, rulesIn, rulesOf}
+use Rattle.derivation.specs.Derivation.{formOf}
+use Rattle.names.specs.Scopes.{View, formsOf as formIn}
 use Rattle.script.proofs.Places.{Below, inside-below, item-below, sort-narrow}
 use Rattle.script.proofs.Terms.{terms-written}
-use Rattle.promises.proofs.Rules.{AllPlaced, also, no-rule, said}
-use Rattle.assured.proofs.Proper.{AllBounded, also-bounded, none-bounded, terms-bounded}
+use Rattle.outcome.proofs.Rules.{AllPlaced, also, no-rule, said}
+use Rattle.outcome.proofs.Proper.{AllBounded, also-bounded, none-bounded, terms-bounded}
 
 -- Rules none of which is past the limit are no more than that.
 pub rules-few : {nowhere heads : ℕ} (most : ℕ) {rs : List Ruled} → AllPlaced nowhere heads rs → nowhere ≤ rulePast nowhere most rs → length rs ≤ most

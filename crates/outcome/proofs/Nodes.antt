@@ -9,14 +9,14 @@ use lib.ListN.{length}
 use Rattle.forest.specs.Forest.{Forest, Node, nodesOf, none, size, tree}
 use Rattle.forest.proofs.Nodes.{length-nodes}
 use Rattle.forest.proofs.Options.{never}
-use Rattle.bits.specs.Operators.{operatorSort}
+use Rattle.operators.specs.Operators.{operatorSort}
 use Rattle.terms.specs.Sorts.{Scope, labelSort, sortsOf}
 use Rattle.terms.proofs.Sorted.{sorted}
-use Rattle.scanning.specs.Trees.{Lexeme}
+use Rattle.words.specs.Trees.{Lexeme}
 use Rattle.lexemes.specs.Lists.{Items, is, item}
-use Rattle.gathering.specs.Terms.{Raw, constant, cut, firstWord, isNode, nodeWord, number, pattern, rawOf, rawTerm, rawTerms, word}
-use Rattle.naming.specs.Scopes.{View, formsOf, itemOr, means}
-use Rattle.standing.proofs.Rising.{first-raw}
+use Rattle.term_nodes.specs.Terms.{Raw, constant, cut, firstWord, isNode, nodeWord, number, pattern, rawOf, rawTerm, rawTerms, word}
+use Rattle.names.specs.Scopes.{View, formsOf, itemOr, means}
+use Rattle.term_faults.proofs.Rising.{first-raw}
 use Rattle.script.specs.Script.{labelOf, termOf, termsIn}
 use Rattle.script.proofs.Places.{Below, WordsBelow}
 use Rattle.script.proofs.Terms.{term-size}

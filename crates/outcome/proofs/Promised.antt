@@ -3,17 +3,17 @@ use Prim.Native.Nat.{ℕ}
 use native.Mathlib.Omega.{arith}
 use mathlib.Core.List.{List}
 use mathlib.Core.Path.{_≡_, refl}
-use Rattle.scanning.specs.Reading.{readingOf}
-use Rattle.readings.specs.Limits.{scriptLimits}
-use Rattle.readings.specs.declared.Reading.{Reading}
-use Rattle.readings.specs.declared.Reading.the-variants.{Whole, Refused}
-use Rattle.lexemes.specs.Standing.{itemsOf}
+use Rattle.words.specs.Reading.{readingOf}
+use Rattle.words.specs.Limits.{scriptLimits}
+use Rattle.words.specs.declared.Reading.{Reading}
+use Rattle.words.specs.declared.Reading.the-variants.{Whole, Refused}
+use Rattle.lexemes.specs.code.Standing.{itemsOf}
 use Rattle.lexemes.proofs.Wholes.{text-stands}
-use Rattle.heading.specs.Heads.{allowed}
+use Rattle.headers.specs.Heads.{allowed}
 use Rattle.script.specs.Script.{Known, Read, passed, readAll, refused, nothingKnown}
-use Rattle.promises.specs.Sorted.{Sorted}
-use Rattle.promises.proofs.Sorted.{passed-sorted}
-use Rattle.texts.specs.Outcome.{ScriptOutcome, byCommands, byWords, said, scriptOutcome}
+use Rattle.outcome.specs.Sorted.{Sorted}
+use Rattle.outcome.proofs.Sorted.{passed-sorted}
+use Rattle.script.specs.Outcome.{ScriptOutcome, byCommands, byWords, said, scriptOutcome}
 
 -- A refusal says nothing.
 not-said : {A : Type 0} {number offset : ℕ} {k : Known} → ScriptOutcome.faulty number offset ≡ said k → A

@@ -11,18 +11,18 @@ use borrow.Author.Tests.{eqb-true, leb-true, ltb-true}
 use Rattle.forest.specs.Forest.{Forest, count, none, tree}
 use Rattle.forest.proofs.Bools.{and-left, and-right}
 use Rattle.forest.proofs.Options.{passed}
-use Rattle.bits.specs.Operators.{operatorCount, operatorOf}
-use Rattle.bits.specs.Sorts.{maxWidth, valuesOf}
+use Rattle.operators.specs.Operators.{operatorCount, operatorOf}
+use Rattle.operators.specs.Sorts.{maxWidth, valuesOf}
 use Rattle.terms.specs.Labels.{Label, defined, function, literal, name, operator}
-use Rattle.terms.specs.Nodes.{Plain}
+use Rattle.terms.specs.code.Nodes.{Plain}
 use Rattle.terms.specs.Sorts.{labelSort}
 use Rattle.terms.proofs.Parts.{parts}
 use Rattle.terms.proofs.Sorted.{joining}
-use Rattle.grammar.specs.Derivation.{Item, Proper, anyArgument, anyLiteral, nonTerminal, the}
-use Rattle.reserved.specs.Reserved.{isWord}
-use Rattle.sorting.specs.Forms.{FormScope, formSorts, itemSort}
-use Rattle.gathering.specs.Terms.{Raw, constant, cut, number, pattern, word}
-use Rattle.naming.specs.Scopes.{View, definedNames, formsOf, functionNames, isNamed, itemOr, means, namesOf, symbolMeans}
+use Rattle.derivation.specs.Derivation.{Item, Proper, anyArgument, anyLiteral, nonTerminal, the}
+use Rattle.lexemes.specs.Reserved.{isWord}
+use Rattle.term_sorts.specs.Forms.{FormScope, formSorts, itemSort}
+use Rattle.term_nodes.specs.Terms.{Raw, constant, cut, number, pattern, word}
+use Rattle.names.specs.Scopes.{View, definedNames, formsOf, functionNames, isNamed, itemOr, means, namesOf, symbolMeans}
 use Rattle.script.proofs.Terms.{AllWritten, Written, also-written}
 
 -- The numbers of an item that its sort does not tell are small: j of `(_ extract i j)`, and σ of `(Constant σ)` and `(Variable σ)`.

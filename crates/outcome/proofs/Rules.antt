@@ -9,17 +9,17 @@ use lib.Dec.{eqb}
 use lib.ListN.{getD, length}
 use borrow.Author.Tests.{eqb-true, ne-eqb}
 use Rattle.forest.specs.Forest.{count, none, tree}
-use Rattle.grammar.specs.Derivation.{Rule, formOf, headOf, rule}
-use Rattle.grammar.specs.Sorts.{formSorts}
-use Rattle.scanning.specs.Trees.{wordOf}
+use Rattle.derivation.specs.Derivation.{Rule, formOf, headOf, rule}
+use Rattle.derivation.specs.Sorts.{formSorts}
+use Rattle.words.specs.Trees.{wordOf}
 use Rattle.lexemes.specs.Lists.{Items, inside, item}
-use Rattle.declaring.specs.New.{namedBy}
-use Rattle.naming.specs.Scopes.{Named, View, formsOf as formIn, namedSorts}
-use Rattle.rules.specs.Rules.{Ruled, rulesIn, rulesOf}
-use Rattle.faults.specs.Faults.{oneSort, rawSorts, ruleMisfit, scopeOf}
-use Rattle.sorts.specs.Written.{sortOf}
-use Rattle.listing.specs.Listing.{listingMisfit}
-use Rattle.promises.proofs.Bodies.{one-sort}
+use Rattle.names.specs.New.{namedBy}
+use Rattle.names.specs.Scopes.{Named, View, formsOf as formIn, namedSorts}
+use Rattle.term_nodes.specs.Rules.{Ruled, rulesIn, rulesOf}
+use Rattle.term_faults.specs.Faults.{oneSort, rawSorts, ruleMisfit, scopeOf}
+use Rattle.written_sorts.specs.Written.{sortOf}
+use Rattle.grammars.specs.Listing.{listingMisfit}
+use Rattle.outcome.proofs.BodiesPromised.{one-sort}
 use Rattle.script.proofs.Places.{Below, inside-below, item-below, no-fault}
 
 -- A rule's first word is below nowhere, and its non-terminal is one of the first `most`.

@@ -15,10 +15,10 @@ use Rattle.terms.specs.Labels.{Terms}
 use Rattle.terms.specs.Sorts.{Definition}
 use Rattle.terms.specs.Values.{valuesAt}
 use Rattle.terms.specs.declared.Value.{Value}
-use Rattle.running.specs.Points.{pointAt}
-use Rattle.running.specs.Running.{allPassed, isTrue, leftOf, runPoints, runTerms}
-use Rattle.running.specs.declared.Ran.{Ran}
-use Rattle.running.specs.declared.Ran.the-variants.{Passed, False, Ended}
+use Rattle.evaluation.specs.Points.{pointAt}
+use Rattle.evaluation.specs.Running.{allPassed, isTrue, leftOf, runPoints, runTerms}
+use Rattle.evaluation.specs.declared.Ran.{Ran}
+use Rattle.evaluation.specs.declared.Ran.the-variants.{Passed, False, Ended}
 use Rattle.outcome.specs.Units.{summed}
 
 module _ (defs funs : List Definition) where

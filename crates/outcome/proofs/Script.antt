@@ -6,28 +6,28 @@ use mathlib.Core.List.{List, [], _∷_}
 use mathlib.Core.Path.{_≡_}
 use lib.ListN.{length, length-map}
 use Rattle.forest.specs.Forest.{count}
-use Rattle.grammar.specs.Derivation.{Admitted, formOf}
+use Rattle.derivation.specs.Derivation.{Admitted, formOf}
 use Rattle.lexemes.specs.Lists.{Items, inside}
-use Rattle.rules.specs.Rules.{itemPast, rulePast, rulesIn}
-use Rattle.sorts.specs.Written.{grammarSorts, groupPlace, leastIn, pairPlace}
-use Rattle.sorts.specs.declared.Fault.the-variants.{TooWide}
-use Rattle.naming.specs.Scopes.{Defined, Function, Named}
-use Rattle.heading.specs.Heads.{allowed, headerPast}
+use Rattle.term_nodes.specs.Rules.{itemPast, rulePast, rulesIn}
+use Rattle.written_sorts.specs.Written.{grammarSorts, groupPlace, leastIn, pairPlace}
+use Rattle.written_sorts.specs.declared.Fault.the-variants.{TooWide}
+use Rattle.names.specs.Scopes.{Defined, Function, Named}
+use Rattle.headers.specs.Heads.{allowed, headerPast}
 use Rattle.grammars.specs.Grammars.{grammarPast}
 use Rattle.script.specs.Script.{Known, knownAfter, limitPlace, viewOf}
 use Rattle.script.proofs.Places.{Below, inside-below}
-use Rattle.synthesizing.proofs.After.{named-long}
-use Rattle.synthesizing.proofs.Within.{items-few, past-neither, past-none}
-use Rattle.promises.specs.Sorted.{AllRulesSorted, RulesSorted, grammarScope}
-use Rattle.promises.proofs.Commands.{Command, Tests, another, command, constraining, declaring, defining, synthesizing}
-use Rattle.promises.proofs.Rules.{groups-placed}
-use Rattle.texts.specs.Outcome.{said, scriptOutcome}
-use Rattle.texts.proofs.Keeping.{script-keeps}
-use Rattle.texts.proofs.Promised.{script-sorted}
+use Rattle.names.proofs.PairNames.{named-long}
+use Rattle.script.proofs.Within.{items-few, past-neither, past-none}
+use Rattle.outcome.specs.Sorted.{AllRulesSorted, RulesSorted, grammarScope}
+use Rattle.outcome.proofs.Commands.{Command, Tests, another, command, constraining, declaring, defining, synthesizing}
+use Rattle.outcome.proofs.Rules.{groups-placed}
+use Rattle.script.specs.Outcome.{said, scriptOutcome}
+use Rattle.script.proofs.Keeping.{script-keeps}
+use Rattle.outcome.proofs.Promised.{script-sorted}
 use Rattle.outcome.proofs.Variables.{variables-small}
-use Rattle.assured.specs.Assured.{AllAdmitted, Assured}
-use Rattle.assured.proofs.Proper.{AllBounded, sorted-proper, sorts-counted}
-use Rattle.assured.proofs.Limited.{groups-bounded, rules-few, said-bounded}
+use Rattle.outcome.specs.code.Assured.{AllAdmitted, Assured}
+use Rattle.outcome.proofs.Proper.{AllBounded, sorted-proper, sorts-counted}
+use Rattle.outcome.proofs.Limited.{groups-bounded, rules-few, said-bounded}
 
 -- The grammar of a function is within its limits.
 record Limited (f : Function) : Type 0 where

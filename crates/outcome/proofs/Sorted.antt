@@ -11,22 +11,22 @@ use borrow.Author.Tests.{lt-ltb, ltb-false}
 use Rattle.forest.specs.Forest.{none, tree}
 use Rattle.terms.specs.Labels.{Terms}
 use Rattle.terms.specs.Sorts.{AllSorted, sortOver, sortsOf as termSorts, withSort}
-use Rattle.grammar.specs.Derivation.{Derives, nonTerminal}
-use Rattle.grammar.specs.Sorts.{formSorts, itemSort}
-use Rattle.grammar.proofs.Sorts.{derived-sorts}
-use Rattle.scanning.specs.Trees.{wordOf}
+use Rattle.derivation.specs.Derivation.{Derives, nonTerminal}
+use Rattle.derivation.specs.Sorts.{formSorts, itemSort}
+use Rattle.derivation.proofs.Sorts.{derived-sorts}
+use Rattle.words.specs.Trees.{wordOf}
 use Rattle.lexemes.specs.Lists.{Items, isList}
-use Rattle.lexemes.specs.Standing.{Source, Stands}
-use Rattle.naming.specs.Scopes.{Defined, Function, Named}
-use Rattle.carrying.specs.Carried.{notCarried}
+use Rattle.lexemes.specs.code.Standing.{Source, Stands}
+use Rattle.names.specs.Scopes.{Defined, Function, Named}
+use Rattle.shapes.specs.Carried.{notCarried}
 use Rattle.shapes.specs.Shapes.{commandShape}
-use Rattle.heading.specs.Heads.{Counts}
+use Rattle.headers.specs.Heads.{Counts}
 use Rattle.script.specs.Script.{Known, Read, andThen, grammarPlace, judged, tested, knownAfter, limitPlace, namePlace, outOfPlace, passed, readAll, refused}
 use Rattle.script.specs.Script.{sortingPlace, nothingKnown}
-use Rattle.promises.specs.Sorted.{AllBool, AllRulesSorted, RulesSorted, Sorted, grammarScope}
-use Rattle.promises.proofs.After.{after-command}
-use Rattle.promises.proofs.Commands.{command}
-use Rattle.promises.proofs.Growing.{AllBefore, Sound}
+use Rattle.outcome.specs.Sorted.{AllBool, AllRulesSorted, RulesSorted, Sorted, grammarScope}
+use Rattle.outcome.proofs.After.{after-command}
+use Rattle.outcome.proofs.Commands.{command}
+use Rattle.outcome.proofs.Growing.{AllBefore, Sound}
 use Rattle.script.proofs.Places.{Below, stands-below}
 
 -- A refusal is not what passes.

@@ -11,11 +11,11 @@ use Rattle.terms.specs.Values.{sortsIn}
 use Rattle.terms.specs.declared.Value.{Value}
 use Rattle.terms.proofs.Bodies.{sorts-more}
 use Rattle.terms.proofs.Sound.{pointScope}
-use Rattle.naming.specs.Scopes.{Defined, Function, signatureOf, namedSorts}
-use Rattle.faults.specs.Faults.{scopeOf}
+use Rattle.names.specs.Scopes.{Defined, Function, signatureOf, namedSorts}
+use Rattle.term_faults.specs.Faults.{scopeOf}
 use Rattle.script.specs.Script.{Known, constraintView}
-use Rattle.script.specs.Tables.{definedSignatures, definitionsOf}
-use Rattle.response.specs.Response.{inScriptOrder, responseView}
+use Rattle.script.specs.code.Tables.{definedSignatures, definitionsOf}
+use Rattle.script.specs.Response.{inScriptOrder, responseView}
 use Rattle.outcome.specs.Evaluated.{completed, functionsWith}
 
 -- Each function's term has the function's sort, where the `define-fun`s before the function are seen.

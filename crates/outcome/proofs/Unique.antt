@@ -3,9 +3,9 @@ use Prim.Native.Nat.{ℕ}
 use native.Mathlib.Omega.{arith}
 use mathlib.Core.List.{List}
 use mathlib.Core.Path.{_≡_, ap, subst, sym, _∙_}
-use Rattle.running.specs.declared.PointList.the-variants.{Good, Bad}
+use Rattle.evaluation.specs.declared.PointList.the-variants.{Good, Bad}
 use Rattle.script.specs.Script.{Known}
-use Rattle.response.specs.Response.{Body}
+use Rattle.script.specs.Response.{Body}
 use Rattle.outcome.specs.Checked.{Checked, Judgement, evaluated, judged, missized, points-refused, response-refused, script-refused, underived}
 use Rattle.outcome.specs.Demands.{Alike, AreaStated, both-show, shows, shows-none, the-same}
 use Rattle.outcome.specs.Derived.{termsOf}

@@ -6,13 +6,13 @@ use mathlib.Core.List.{List}
 use mathlib.Core.Path.{_≡_, ap}
 use lib.ListN.{take}
 use Rattle.terms.specs.Labels.{Terms}
-use Rattle.running.specs.Points.{pointsOf}
-use Rattle.running.specs.declared.PointList.the-variants.{Good}
-use Rattle.running.specs.declared.Ran.{Ran}
-use Rattle.naming.specs.Scopes.{namedSorts}
+use Rattle.evaluation.specs.Points.{pointsOf}
+use Rattle.evaluation.specs.declared.PointList.the-variants.{Good}
+use Rattle.evaluation.specs.declared.Ran.{Ran}
+use Rattle.names.specs.Scopes.{namedSorts}
 use Rattle.script.specs.Script.{Known}
-use Rattle.script.specs.Tables.{definitionsOf}
-use Rattle.response.specs.Response.{Body}
+use Rattle.script.specs.code.Tables.{definitionsOf}
+use Rattle.script.specs.Response.{Body}
 use Rattle.outcome.specs.Checked.{Checked, Passing, Judgement, evaluated, judged, missized, points-refused, response-refused, script-refused, underived}
 use Rattle.outcome.specs.Demands.{InOrder, Showing, UnitsStated}
 use Rattle.outcome.specs.Derived.{termsOf}

@@ -5,16 +5,16 @@ use mathlib.Core.Bool.{Bool, true, false, cond}
 use mathlib.Core.List.{List, [], _∷_, _++_}
 use mathlib.Core.Path.{_≡_}
 use lib.ListN.{getD}
-use Rattle.running.specs.Steps.{SortsSmall}
+use Rattle.evaluation.specs.code.Runs.{SortsSmall}
 use Rattle.lexemes.specs.Lists.{Items, inside, is, item, nameOf}
-use Rattle.sorts.specs.Written.{sortOf, sortPlace}
-use Rattle.sorts.specs.declared.Fault.the-variants.{TooWide}
-use Rattle.naming.specs.Scopes.{Named, namedSorts}
-use Rattle.heading.specs.Heads.{allowed}
+use Rattle.written_sorts.specs.Written.{sortOf, sortPlace}
+use Rattle.written_sorts.specs.declared.Fault.the-variants.{TooWide}
+use Rattle.names.specs.Scopes.{Named, namedSorts}
+use Rattle.headers.specs.Heads.{allowed}
 use Rattle.script.specs.Script.{Known, knownAfter, limitPlace}
 use Rattle.script.proofs.Places.{Below, inside-below, item-below, sort-narrow}
-use Rattle.texts.specs.Outcome.{said, scriptOutcome}
-use Rattle.texts.proofs.Keeping.{script-keeps}
+use Rattle.script.specs.Outcome.{said, scriptOutcome}
+use Rattle.script.proofs.Keeping.{script-keeps}
 
 -- One variable more.
 small-more : (vs : List Named) (v : Named) → ((i : ℕ) → getD (namedSorts vs) i 0 ≤ 64) → v .sort ≤ 64 → (i : ℕ) → getD (namedSorts (vs ++ v ∷ [])) i 0 ≤ 64

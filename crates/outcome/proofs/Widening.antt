@@ -15,7 +15,7 @@ use Rattle.terms.specs.Labels.{Label, Terms, defined, function, literal, name, 
 use Rattle.terms.specs.Sorts.{Scope, Signature, calledSort, labelSort, sortsOf}
 use Rattle.terms.proofs.Bodies.{called-within}
 use Rattle.terms.proofs.Sorted.{sorted, sorts-tree}
-use Rattle.promises.specs.Sorted.{AllBool}
+use Rattle.outcome.specs.Sorted.{AllBool}
 
 -- A call that has a sort where the ones are seen has it where the others are.
 abbrev pub Keeps : (fs gs : List Signature) → Type 0

@@ -6,14 +6,14 @@ use mathlib.Core.Option.{Option, none as nothing, some}
 use mathlib.Core.Path.{_≡_}
 use lib.Dec.{eqb, ltb}
 use lib.ListN.{length}
-use Rattle.readings.specs.Limits.{responseLimits, scriptLimits}
-use Rattle.grammar.specs.Answer.{areaSize}
-use Rattle.running.specs.Points.{pointsOf}
-use Rattle.running.specs.declared.PointList.the-variants.{Good, Bad}
-use Rattle.naming.specs.Scopes.{namedSorts}
+use Rattle.words.specs.Limits.{responseLimits, scriptLimits}
+use Rattle.derivation.specs.Answer.{areaSize}
+use Rattle.evaluation.specs.Points.{pointsOf}
+use Rattle.evaluation.specs.declared.PointList.the-variants.{Good, Bad}
+use Rattle.names.specs.Scopes.{namedSorts}
 use Rattle.script.specs.Script.{Known}
-use Rattle.response.specs.Response.{Body, inScriptOrder}
-use Rattle.texts.specs.Outcome.{ResponseOutcome, ScriptOutcome, given, offsetOf, responseOutcome, said, scriptOutcome}
+use Rattle.script.specs.Response.{Body, inScriptOrder}
+use Rattle.script.specs.Outcome.{ResponseOutcome, ScriptOutcome, given, offsetOf, responseOutcome, said, scriptOutcome}
 use Rattle.outcome.specs.Derived.{FirstUnderived, ListsShown, blankArea, shownArea, termsOf}
 use Rattle.outcome.specs.Evaluated.{ranOutcome, ranWith}
 use Rattle.outcome.specs.declared.Outcome.{Outcome}

@@ -6,18 +6,18 @@ use mathlib.Core.Option.{Option, some}
 use mathlib.Core.Path.{_≡_}
 use lib.ListN.{getD, length}
 use Rattle.forest.specs.Forest.{none}
-use Rattle.bits.specs.Sorts.{AllFit, bool}
+use Rattle.operators.specs.Sorts.{AllFit, bool}
 use Rattle.terms.specs.Labels.{Terms}
 use Rattle.terms.specs.Values.{numbersIn, sortsIn, value, valuesAt}
 use Rattle.terms.specs.declared.Value.{Value}
-use Rattle.running.specs.Points.{pointAt, pointsOf}
-use Rattle.running.specs.Running.{isTrue}
-use Rattle.running.specs.declared.PointList.the-variants.{Good}
-use Rattle.naming.specs.Scopes.{namedSorts}
+use Rattle.evaluation.specs.Points.{pointAt, pointsOf}
+use Rattle.evaluation.specs.Running.{isTrue}
+use Rattle.evaluation.specs.declared.PointList.the-variants.{Good}
+use Rattle.names.specs.Scopes.{namedSorts}
 use Rattle.script.specs.Script.{Known}
-use Rattle.script.specs.Tables.{definitionsOf}
-use Rattle.response.specs.Response.{Body, inScriptOrder}
-use Rattle.texts.specs.Outcome.{offsetOf}
+use Rattle.script.specs.code.Tables.{definitionsOf}
+use Rattle.script.specs.Response.{Body, inScriptOrder}
+use Rattle.script.specs.Outcome.{offsetOf}
 use Rattle.outcome.specs.Checked.{Passing, unshown}
 use Rattle.outcome.specs.Derived.{Derived, FirstUnderived, ListsShown, shownArea, termsOf}
 use Rattle.outcome.specs.Evaluated.{functionsWith}

@@ -3,10 +3,10 @@ use Prim.Native.Nat.{ℕ, zero, suc, _-_, _≤_}
 use mathlib.Core.List.{List, [], _∷_, _++_, map}
 use lib.ListN.{length, replicate}
 use Rattle.terms.specs.Labels.{Terms}
-use Rattle.grammar.specs.Answer.{areaSize, listOf, listSize, start, unused}
-use Rattle.grammar.specs.Derivation.{Derives, Simple}
-use Rattle.naming.specs.Scopes.{Function}
-use Rattle.response.specs.Response.{Body}
+use Rattle.derivation.specs.Answer.{areaSize, listOf, listSize, start, unused}
+use Rattle.derivation.specs.Derivation.{Derives, Simple}
+use Rattle.names.specs.Scopes.{Function}
+use Rattle.script.specs.Response.{Body}
 
 -- The terms of bodies.
 abbrev pub termsOf : List Body → List Terms

@@ -3,13 +3,13 @@ use Prim.Native.Nat.{ℕ, _-_}
 use mathlib.Core.List.{List, [], _∷_}
 use Rattle.terms.specs.Labels.{Terms}
 use Rattle.terms.specs.Sorts.{Definition}
-use Rattle.running.specs.Running.{runPoints}
-use Rattle.running.specs.declared.Ran.{Ran}
-use Rattle.running.specs.declared.Ran.the-variants.{Passed, False, Ended}
-use Rattle.naming.specs.Scopes.{Function, signatureOf, namedSorts}
+use Rattle.evaluation.specs.Running.{runPoints}
+use Rattle.evaluation.specs.declared.Ran.{Ran}
+use Rattle.evaluation.specs.declared.Ran.the-variants.{Passed, False, Ended}
+use Rattle.names.specs.Scopes.{Function, signatureOf, namedSorts}
 use Rattle.script.specs.Script.{Known}
-use Rattle.script.specs.Tables.{definitionsOf}
-use Rattle.response.specs.Response.{inScriptOrder}
+use Rattle.script.specs.code.Tables.{definitionsOf}
+use Rattle.script.specs.Response.{inScriptOrder}
 use Rattle.outcome.specs.declared.Outcome.{Outcome}
 
 -- Functions in script order with terms for their bodies, as definitions, the last first; those of `earlier` come before them in the script.

@@ -8,10 +8,10 @@ use mathlib.Core.Path.{_≡_}
 use lib.ListN.{drop, getD, length}
 use Rattle.terms.specs.Labels.{Terms}
 use Rattle.terms.specs.Sorts.{AllSorted, Scope, sortsOf as termSorts}
-use Rattle.grammar.specs.Derivation.{formOf, headOf}
-use Rattle.sorting.specs.Forms.{FormScope, formSorts}
-use Rattle.naming.specs.Scopes.{Defined, Function, namedSorts}
-use Rattle.faults.specs.Faults.{scopeOf}
+use Rattle.derivation.specs.Derivation.{formOf, headOf}
+use Rattle.term_sorts.specs.Forms.{FormScope, formSorts}
+use Rattle.names.specs.Scopes.{Defined, Function, namedSorts}
+use Rattle.term_faults.specs.Faults.{scopeOf}
 use Rattle.script.specs.Script.{Known, constraintView}
 
 -- What the rules of a function see: its arguments, the `define-fun`s before it, and its non-terminals.

@@ -9,36 +9,36 @@ use lib.ListN.{drop, getD, length, length-drop, length-map, length-replicate, ta
 use lib.Seq.{drop-at, getD-drop, length-take-le, sets, sets-eq}
 use borrow.Author.Tests.{le-ltb, lt-ltb}
 use Rattle.forest.specs.Forest.{Node, nodesOf, size, tree}
-use Rattle.forest.specs.Rows.{numberAt}
-use Rattle.scanning.specs.Trees.{Lexeme, list}
+use Rattle.forest.specs.code.Rows.{numberAt}
+use Rattle.words.specs.Trees.{Lexeme, list}
 use Rattle.lexemes.specs.Lists.{Items, inside, item}
-use Rattle.lexemes.specs.Standing.{ListAt, Stands}
-use Rattle.lexemes.specs.Table.{nextAt}
+use Rattle.lexemes.specs.code.Standing.{ListAt, Stands}
+use Rattle.lexemes.specs.code.Table.{nextAt}
 use Rattle.lexemes.proofs.Listed.{as-item}
 use Rattle.lexemes.proofs.Standing.{by-itself, forward}
-use Rattle.grammar.specs.Tables.{formTable}
-use Rattle.sorting.specs.Tables.{RowIs, RowsAre, SortsAre, functionSignature as signatureOfFunction}
-use Rattle.gathering.specs.Table.{rawTable, uncountedTable}
-use Rattle.gathering.specs.Terms.{Raw, rawTerm}
-use Rattle.gathering.proofs.Saying.{say-terms}
-use Rattle.naming.specs.Scopes.{Named as Argument, View, formsOf, inOrder, signatureOf}
-use Rattle.naming.specs.Steps.{Sees, sourceOf}
-use Rattle.naming.specs.Table.{functionRow, namesFrom, ownArgumentRow}
-use Rattle.naming.specs.Unknown.{unknownIn}
-use Rattle.naming.specs.declared.Seen.{Seen}
-use Rattle.faults.specs.Faults.{bodyFault}
-use Rattle.faults.specs.Steps.{BodyFound, BodySought, Signed}
-use Rattle.standing.proofs.Rising.{rising-wider, terms-rise}
-use Rattle.bodies.specs.Steps.{Named, Naming, noSorts}
-use Rattle.headers.specs.Steps.{Compared, Differs}
+use Rattle.derivation.specs.code.Tables.{formTable}
+use Rattle.term_sorts.specs.code.Signatures.{RowIs, RowsAre, SortsAre, functionSignature as signatureOfFunction}
+use Rattle.term_nodes.specs.code.Table.{rawTable, uncountedTable}
+use Rattle.term_nodes.specs.Terms.{Raw, rawTerm}
+use Rattle.term_nodes.proofs.Saying.{say-terms}
+use Rattle.names.specs.Scopes.{Named as Argument, View, formsOf, inOrder, signatureOf}
+use Rattle.names.specs.code.Lookup.{Sees, sourceOf}
+use Rattle.names.specs.code.Table.{functionRow, namesFrom, ownArgumentRow}
+use Rattle.names.specs.Unknown.{unknownIn}
+use Rattle.names.specs.declared.Seen.{Seen}
+use Rattle.term_faults.specs.Faults.{bodyFault}
+use Rattle.term_faults.specs.code.Seeking.{BodyFound, BodySought, Signed}
+use Rattle.term_faults.proofs.Rising.{rising-wider, terms-rise}
+use Rattle.bodies.specs.code.Bodies.{Named, Naming, noSorts}
+use Rattle.headers.specs.code.Comparing.{Compared, Differs}
 use Rattle.script.specs.Script.{Known, termOf}
-use Rattle.script.specs.Tables.{GrammarHeld, functionsPlace}
+use Rattle.script.specs.code.Tables.{GrammarHeld, functionsPlace}
 use Rattle.script.specs.declared.Progress.{Progress}
 use Rattle.script.specs.declared.Verdict.{Verdict}
 use Rattle.script.proofs.Nodes.{length-table}
 use Rattle.script.proofs.Terms.{term-size, term-table}
-use Rattle.response.specs.Response.{Answered, refused, responseView}
-use Rattle.response.specs.Steps.{Answering, Comparing, Matched, bodyAt, matched, seenBy}
+use Rattle.script.specs.Response.{Answered, refused, responseView}
+use Rattle.response.specs.code.Responding.{Answering, Comparing, Matched, bodyAt, matched, seenBy}
 use Rattle.response.proofs.Parts.{body-item, body-shaped, command-symbol, next-within}
 use Rattle.response.proofs.Picked.{At, Own, arguments-at, at-below, grammar-at, name-at, names-before, place, row-at, rows-before}
 

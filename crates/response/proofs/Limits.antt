@@ -9,20 +9,20 @@ use lib.Dec.{eqb, ltb}
 use borrow.Author.Tests.{eq-eqb, le-ltb, lt-ltb, ne-eqb, not-false, not-true}
 use Rattle.forest.specs.Forest.{nodesOf, tree}
 use Rattle.lexemes.specs.Lists.{Items, after, inside, is, item}
-use Rattle.lexemes.specs.Standing.{Between, ListAt, Stands}
-use Rattle.lexemes.specs.Table.{codeAt, nextAt}
+use Rattle.lexemes.specs.code.Standing.{Between, ListAt, Stands}
+use Rattle.lexemes.specs.code.Table.{codeAt, nextAt}
 use Rattle.lexemes.proofs.ByCode.{codeFor, front-word}
 use Rattle.lexemes.proofs.Listed.{between, first-code}
-use Rattle.carrying.specs.Carried.{anyUncarried}
+use Rattle.shapes.specs.Carried.{anyUncarried}
 use Rattle.shapes.specs.Shapes.{defineFunShape}
-use Rattle.sorts.specs.Steps.{HeaderAt}
-use Rattle.gathering.specs.Terms.{nodeWord, rawTerm}
-use Rattle.bodies.specs.Steps.{Limited, TermAt}
+use Rattle.written_sorts.specs.code.Places.{HeaderAt}
+use Rattle.term_nodes.specs.Terms.{nodeWord, rawTerm}
+use Rattle.bodies.specs.code.Bodies.{Limited, TermAt}
 use Rattle.bodies.specs.declared.Body.{Body as Rows}
-use Rattle.heading.specs.Heads.{allowed, headerPast}
-use Rattle.heading.specs.Steps.{HeadLimited}
-use Rattle.response.specs.Response.{Answered, judgedExtra, refused}
-use Rattle.response.specs.Steps.{Extra, Gathered, ListIn, Outlined, bodyAt, outlined}
+use Rattle.headers.specs.Heads.{allowed, headerPast}
+use Rattle.headers.specs.code.Heading.{HeadLimited}
+use Rattle.script.specs.Response.{Answered, judgedExtra, refused}
+use Rattle.response.specs.code.Responding.{Extra, Gathered, ListIn, Outlined, bodyAt, outlined}
 use Rattle.script.specs.declared.Verdict.{Verdict}
 use Rattle.response.proofs.Parts.{body-item, body-shaped, head-of, next-within, rows-within}
 

@@ -8,20 +8,20 @@ use lib.Dec.{eqb}
 use Rattle.forest.specs.Forest.{count, none, size, tree}
 use Rattle.forest.specs.Lists.{sameBytes}
 use Rattle.forest.proofs.Bools.{and-right, apart}
-use Rattle.scanning.specs.Trees.{Lexeme, list, literal, numeral, symbol, wordOf}
+use Rattle.words.specs.Trees.{Lexeme, list, literal, numeral, symbol, wordOf}
 use Rattle.lexemes.specs.Lists.{Items, inside, is, isList, isSymbol, item}
-use Rattle.lexemes.specs.Standing.{ItemAt, ListAt}
-use Rattle.lexemes.specs.Table.{codeAt, nextAt}
+use Rattle.lexemes.specs.code.Standing.{ItemAt, ListAt}
+use Rattle.lexemes.specs.code.Table.{codeAt, nextAt}
 use Rattle.lexemes.proofs.ByCode.{code-pos}
 use Rattle.lexemes.proofs.Listed.{at-item, held}
 use Rattle.shapes.specs.Shapes.{defineFunShape, headerShape, termShape}
-use Rattle.sorts.specs.Steps.{HeaderAt}
-use Rattle.sorts.proofs.Commands.{come-result}
-use Rattle.sorts.proofs.Walked.{Come, come-next, item-come, placed}
-use Rattle.gathering.specs.Terms.{rawTerm, rawTerms}
+use Rattle.written_sorts.specs.code.Places.{HeaderAt}
+use Rattle.written_sorts.proofs.Commands.{come-result}
+use Rattle.written_sorts.proofs.Walked.{Come, come-next, item-come, placed}
+use Rattle.term_nodes.specs.Terms.{rawTerm, rawTerms}
 use Rattle.bodies.proofs.Fewer.{nodes-fewer}
 use Rattle.headers.proofs.HeaderHeld.{define-fun}
-use Rattle.response.specs.Steps.{bodyAt}
+use Rattle.response.specs.code.Responding.{bodyAt}
 
 -- A command's word is a symbol.
 pub command-symbol : (l : Lexeme) → is "define-fun" l ≡ true → isSymbol l ≡ true

@@ -7,23 +7,23 @@ use mathlib.Core.List.{List, [], _∷_, _++_}
 use lib.ListN.{drop, length, length-drop}
 use lib.Seq.{drop-drop}
 use Rattle.forest.specs.Forest.{none, tree}
-use Rattle.scanning.specs.Trees.{Lexeme, list, wordOf}
+use Rattle.words.specs.Trees.{Lexeme, list, wordOf}
 use Rattle.lexemes.specs.Lists.{Items, isList}
-use Rattle.lexemes.specs.Standing.{ItemAt, ListAt, Stands}
-use Rattle.lexemes.specs.Table.{codeAt, nextAt, openCode}
+use Rattle.lexemes.specs.code.Standing.{ItemAt, ListAt, Stands}
+use Rattle.lexemes.specs.code.Table.{codeAt, nextAt, openCode}
 use Rattle.lexemes.proofs.ByCode.{code-pos}
 use Rattle.lexemes.proofs.Listed.{at-item, is-list, no-list}
 use Rattle.forest.proofs.Laws.{Tree}
 use Rattle.lexemes.proofs.Standing.{some-left}
-use Rattle.sorts.proofs.Walked.{placed}
-use Rattle.naming.specs.Scopes.{Defined, Function}
-use Rattle.naming.specs.Steps.{sourceOf}
-use Rattle.heading.specs.Heads.{allowed}
+use Rattle.written_sorts.proofs.Walked.{placed}
+use Rattle.names.specs.Scopes.{Defined, Function}
+use Rattle.names.specs.code.Lookup.{sourceOf}
+use Rattle.headers.specs.Heads.{allowed}
 use Rattle.script.specs.Script.{Known}
 use Rattle.script.specs.declared.Progress.{Progress}
 use Rattle.script.specs.declared.Verdict.{Verdict}
-use Rattle.response.specs.Response.{Answered, Body, inScriptOrder, judgedAll, judgedBody, judgedExtra, refused, withBody}
-use Rattle.response.specs.Steps.{AnyReading, Answering, Extra, ItemPassed, ItemRead, ListIn, OneMore, Taken, bodyOf}
+use Rattle.script.specs.Response.{Answered, Body, inScriptOrder, judgedAll, judgedBody, judgedExtra, refused, withBody}
+use Rattle.response.specs.code.Responding.{AnyReading, Answering, Extra, ItemPassed, ItemRead, ListIn, OneMore, Taken, bodyOf}
 use Rattle.response.proofs.Picked.{order-length}
 
 -- An item that is no list is refused.

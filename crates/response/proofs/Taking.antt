@@ -8,23 +8,23 @@ use lib.ListN.{drop, getD, length, set}
 use lib.Seq.{sets}
 use Rattle.forest.specs.Forest.{join, size, tree}
 use Rattle.terms.specs.Labels.{Terms}
-use Rattle.meaning.specs.Tables.{TermStands}
+use Rattle.evaluation.specs.code.Tables.{TermStands}
 use Rattle.lexemes.specs.Lists.{Items, inside, item}
-use Rattle.lexemes.specs.Table.{nextAt}
+use Rattle.lexemes.specs.code.Table.{nextAt}
 use Rattle.lexemes.proofs.Standing.{by-itself}
-use Rattle.gathering.proofs.Saying.{say-terms}
-use Rattle.naming.specs.Scopes.{Defined, Function}
-use Rattle.naming.specs.Steps.{sourceOf}
-use Rattle.heading.specs.Heads.{allowed}
+use Rattle.term_nodes.proofs.Saying.{say-terms}
+use Rattle.names.specs.Scopes.{Defined, Function}
+use Rattle.names.specs.code.Lookup.{sourceOf}
+use Rattle.headers.specs.Heads.{allowed}
 use Rattle.script.specs.Script.{termOf}
-use Rattle.script.specs.Tables.{PlacesHold, bodiesPlace, firstsPlace, functionsPlace}
+use Rattle.script.specs.code.Tables.{PlacesHold, bodiesPlace, firstsPlace, functionsPlace}
 use Rattle.script.specs.declared.Progress.{Progress}
 use Rattle.script.specs.declared.Verdict.{Verdict}
 use Rattle.script.proofs.Answered.{body-held, body-places, first-put, grammars-kept, node-put, other-place}
 use Rattle.script.proofs.Nodes.{Grown, stands-wider, term-stands}
 use Rattle.script.proofs.Terms.{term-plain, term-size, term-table, term-tree}
-use Rattle.response.specs.Response.{Answered, judgedBody, refused, responseView, withBody}
-use Rattle.response.specs.Steps.{Answering, Comparing, Gathered, ListIn, Matched, OneMore, Outlined, Taken, bodyAt, bodyOf, matched, outlined}
+use Rattle.script.specs.Response.{Answered, judgedBody, refused, responseView, withBody}
+use Rattle.response.specs.code.Responding.{Answering, Comparing, Gathered, ListIn, Matched, OneMore, Outlined, Taken, bodyAt, bodyOf, matched, outlined}
 use Rattle.response.proofs.Comparing.{command-list, j-low, rows-room}
 use Rattle.response.proofs.Parts.{body-first, body-item, body-shaped}
 

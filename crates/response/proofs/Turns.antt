@@ -8,25 +8,25 @@ use mathlib.Core.List.{List, [], _∷_, _++_}
 use lib.ListN.{drop, getD, length, length-append}
 use Rattle.forest.specs.Forest.{count, none, tree}
 use Rattle.forest.specs.Lists.{sameBytes}
-use Rattle.scanning.specs.Trees.{Lexeme, list, wordOf}
+use Rattle.words.specs.Trees.{Lexeme, list, wordOf}
 use Rattle.terms.specs.Labels.{Terms}
-use Rattle.meaning.specs.Tables.{TermStands}
+use Rattle.evaluation.specs.code.Tables.{TermStands}
 use Rattle.lexemes.specs.Lists.{Items, isList}
-use Rattle.lexemes.specs.Standing.{ItemAt, Stands}
-use Rattle.lexemes.specs.Table.{codeAt, nextAt, openCode}
+use Rattle.lexemes.specs.code.Standing.{ItemAt, Stands}
+use Rattle.lexemes.specs.code.Table.{codeAt, nextAt, openCode}
 use Rattle.forest.proofs.Laws.{Tree}
 use Rattle.lexemes.proofs.Listed.{at-item, is-list}
 use Rattle.lexemes.proofs.Standing.{forward, none-left, some-left}
-use Rattle.sorts.proofs.Walked.{placed}
-use Rattle.naming.specs.Scopes.{Defined, Function}
-use Rattle.naming.specs.Steps.{sourceOf}
-use Rattle.heading.specs.Heads.{allowed}
+use Rattle.written_sorts.proofs.Walked.{placed}
+use Rattle.names.specs.Scopes.{Defined, Function}
+use Rattle.names.specs.code.Lookup.{sourceOf}
+use Rattle.headers.specs.Heads.{allowed}
 use Rattle.script.specs.Script.{Known}
-use Rattle.script.specs.Tables.{GrammarsHold, PlacesHold, functionsPlace}
+use Rattle.script.specs.code.Tables.{GrammarsHold, PlacesHold, functionsPlace}
 use Rattle.script.specs.declared.Progress.{Progress}
 use Rattle.script.specs.declared.Verdict.{Verdict}
-use Rattle.response.specs.Response.{Answered, Body, answered, bodies, nothingBehind, inScriptOrder, judgedAll, refused, withBody}
-use Rattle.response.specs.Steps.{Answers, AnyReading, BodiesHeld, ItemRead, Reading, Responded, Responding, ResponseAt}
+use Rattle.script.specs.Response.{Answered, Body, answered, bodies, nothingBehind, inScriptOrder, judgedAll, refused, withBody}
+use Rattle.response.specs.code.Responding.{Answers, AnyReading, BodiesHeld, ItemRead, Reading, Responded, Responding, ResponseAt}
 use Rattle.response.proofs.Picked.{order-length}
 use Rattle.response.proofs.Reading.{drop-next, drop-none}
 

@@ -9,20 +9,20 @@ use lib.ListN.{length}
 use borrow.Author.Tests.{eq-eqb, ltb-false, ltb-true, ne-eqb}
 use Rattle.forest.specs.Forest.{count, none, tree}
 use Rattle.forest.proofs.Laws.{Tree}
-use Rattle.scanning.specs.Trees.{Lexeme, wordOf}
+use Rattle.words.specs.Trees.{Lexeme, wordOf}
 use Rattle.lexemes.specs.Lists.{Items, is, isList}
-use Rattle.lexemes.specs.Standing.{ItemAt, Source, Stands}
-use Rattle.lexemes.specs.Table.{codeAt, codeOf, nextAt, openCode}
+use Rattle.lexemes.specs.code.Standing.{ItemAt, Source, Stands}
+use Rattle.lexemes.specs.code.Table.{codeAt, codeOf, nextAt, openCode}
 use Rattle.lexemes.proofs.ByCode.{codeFor, word-code}
 use Rattle.lexemes.proofs.Listed.{at-item, no-list}
 use Rattle.lexemes.proofs.Standing.{none-left, some-left}
-use Rattle.sorts.proofs.Walked.{placed}
-use Rattle.naming.specs.Scopes.{Defined, Function}
-use Rattle.naming.specs.Steps.{sourceOf}
-use Rattle.heading.specs.Heads.{allowed}
+use Rattle.written_sorts.proofs.Walked.{placed}
+use Rattle.names.specs.Scopes.{Defined, Function}
+use Rattle.names.specs.code.Lookup.{sourceOf}
+use Rattle.headers.specs.Heads.{allowed}
 use Rattle.script.specs.declared.Progress.{Progress}
-use Rattle.response.specs.Response.{Answered, answered, inScriptOrder, isAlone, refused}
-use Rattle.response.specs.Steps.{Answers, Responded, Responding}
+use Rattle.script.specs.Response.{Answered, answered, inScriptOrder, isAlone, refused}
+use Rattle.response.specs.code.Responding.{Answers, Responded, Responding}
 use Rattle.response.proofs.Turns.{first-item}
 
 -- What a word of that code gives, alone or not.

@@ -1,2 +1,1 @@
-pub mod Response
-pub mod Steps
+pub mod code

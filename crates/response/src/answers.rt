@@ -10,8 +10,8 @@ use lexemes::next_at;
 use script::Progress;
 use script::Verdict;
 ghost use mathlib.Core.Path.{_≡_};
-ghost use Rattle.lexemes.specs.Table.{codeAt, openCode};
-ghost use Rattle.response.specs.Steps.{AnyReading, ItemRead, Responded, Responding};
+ghost use Rattle.lexemes.specs.code.Table.{codeAt, openCode};
+ghost use Rattle.response.specs.code.Responding.{AnyReading, ItemRead, Responded, Responding};
 
 // The item of a response's list at a word, before which there are so many functions and rows of their bodies.
 fn read_item(

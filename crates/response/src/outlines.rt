@@ -1,16 +1,16 @@
 //! The shape and the limits of a `define-fun` in a response.
 use bodies::read::body_limit;
-use carrying::any_uncarried;
-use heading::heads::head_past;
+use headers::heads::head_past;
 use lexemes::code_at;
 use lexemes::codes::DEFINE_FUN;
 use lexemes::next_at;
 use script::Verdict;
+use shapes::carried::any_uncarried;
 use shapes::commands::define_fun_shape;
-use sorts::places::least;
+use written_sorts::places::least;
 ghost use mathlib.Core.Path.{_≡_};
-ghost use Rattle.lexemes.specs.Standing.{ListAt};
-ghost use Rattle.response.specs.Steps.{Extra, ListIn, Outlined, bodyAt};
+ghost use Rattle.lexemes.specs.code.Standing.{ListAt};
+ghost use Rattle.response.specs.code.Responding.{Extra, ListIn, Outlined, bodyAt};
 
 // The number of an answer, its word, and how many rows were taken.
 pub fn verdict(number: usize, place: usize, rows: usize) -> Verdict

@@ -8,11 +8,11 @@ use lib.ListN.{drop, getD, length, length-drop, length-map, length-set, length-t
 use lib.Seq.{ext-getD, getD-drop, getD-set-other, getD-set-same, getD-take}
 use Rattle.forest.specs.Forest.{join}
 use Rattle.terms.specs.Labels.{Terms}
-use Rattle.terms.specs.Nodes.{nodeTable}
-use Rattle.sorting.specs.Tables.{functionSignature}
-use Rattle.naming.specs.Scopes.{Defined, Function, signatureOf}
+use Rattle.terms.specs.code.Nodes.{nodeTable}
+use Rattle.term_sorts.specs.code.Signatures.{functionSignature}
+use Rattle.names.specs.Scopes.{Defined, Function, signatureOf}
 use Rattle.script.specs.Script.{Known}
-use Rattle.script.specs.Tables.{
+use Rattle.script.specs.code.Tables.{
   GrammarHeld,
   GrammarsHold,
   PlacesHold,

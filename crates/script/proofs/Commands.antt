@@ -5,9 +5,9 @@ use mathlib.Core.Bool.{true}
 use mathlib.Core.Path.{_≡_, refl, sym, ap, _∙_}
 use lib.Dec.{eqb}
 use borrow.Author.Tests.{eqb-true}
-use Rattle.reserved.proofs.Numbers.{isKnown}
+use Rattle.lexemes.proofs.Numbers.{isKnown}
 use Rattle.lexemes.specs.Lists.{Items, is, item}
-use Rattle.lexemes.specs.Table.{codeOf}
+use Rattle.lexemes.specs.code.Table.{codeOf}
 use Rattle.lexemes.proofs.ByCode.{codeFor, word-code}
 
 -- The tests of a command's word, by its code.

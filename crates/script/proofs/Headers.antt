@@ -6,14 +6,14 @@ use mathlib.Core.Path.{_≡_, refl}
 use lib.Dec.{leb}
 use borrow.Author.Tests.{leb-true}
 use Rattle.forest.specs.Forest.{count, none, tree}
-use Rattle.bits.specs.Sorts.{maxWidth}
-use Rattle.scanning.specs.Trees.{wordOf}
+use Rattle.operators.specs.Sorts.{maxWidth}
+use Rattle.words.specs.Trees.{wordOf}
 use Rattle.lexemes.specs.Lists.{Items, inside, item}
-use Rattle.sorts.specs.Written.{leastIn, pairPlace, sortOf}
-use Rattle.sorts.specs.declared.Fault.the-variants.{TooWide}
-use Rattle.rules.specs.Rules.{itemPast}
-use Rattle.declaring.specs.Steps.{AllNarrow}
-use Rattle.heading.specs.Heads.{allowed, headerPast}
+use Rattle.written_sorts.specs.Written.{leastIn, pairPlace, sortOf}
+use Rattle.written_sorts.specs.declared.Fault.the-variants.{TooWide}
+use Rattle.term_nodes.specs.Rules.{itemPast}
+use Rattle.names.specs.code.NewNames.{AllNarrow}
+use Rattle.headers.specs.Heads.{allowed, headerPast}
 use Rattle.script.proofs.Places.{Below, inside-below, item-below, sort-narrow}
 
 -- Items are at most so many, where none is past the limit.

@@ -7,21 +7,21 @@ use mathlib.Core.Path.{_≡_, refl, subst}
 use lib.Dec.{ltb}
 use borrow.Author.Tests.{ltb-false}
 use Rattle.forest.specs.Forest.{none, tree}
-use Rattle.scanning.specs.Reading.{readingOf}
-use Rattle.scanning.specs.Trees.{wordOf}
-use Rattle.readings.specs.Limits.{scriptLimits}
-use Rattle.readings.specs.declared.Reading.{Reading}
-use Rattle.readings.specs.declared.Reading.the-variants.{Whole, Refused}
+use Rattle.words.specs.Reading.{readingOf}
+use Rattle.words.specs.Trees.{wordOf}
+use Rattle.words.specs.Limits.{scriptLimits}
+use Rattle.words.specs.declared.Reading.{Reading}
+use Rattle.words.specs.declared.Reading.the-variants.{Whole, Refused}
 use Rattle.lexemes.specs.Lists.{Items, isList}
-use Rattle.lexemes.specs.Standing.{itemsOf}
+use Rattle.lexemes.specs.code.Standing.{itemsOf}
 use Rattle.lexemes.proofs.Wholes.{text-stands}
-use Rattle.carrying.specs.Carried.{notCarried}
+use Rattle.shapes.specs.Carried.{notCarried}
 use Rattle.shapes.specs.Shapes.{commandShape}
-use Rattle.heading.specs.Heads.{allowed}
+use Rattle.headers.specs.Heads.{allowed}
 use Rattle.script.specs.Script.{Known, Read, andThen, grammarPlace, judged, knownAfter, limitPlace, namePlace, outOfPlace, passed, readAll, refused}
 use Rattle.script.specs.Script.{sortingPlace, nothingKnown, tested}
 use Rattle.script.proofs.Places.{Below, stands-below}
-use Rattle.texts.specs.Outcome.{ScriptOutcome, byCommands, byWords, said, scriptOutcome}
+use Rattle.script.specs.Outcome.{ScriptOutcome, byCommands, byWords, said, scriptOutcome}
 
 -- Every command within its limits keeps to P.
 module _ (P : Known → Type 0)

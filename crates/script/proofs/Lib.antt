@@ -1,3 +1,7 @@
+pub mod Written
+pub mod Writing
+pub mod Signed
+pub mod Sorted
 pub mod Names
 pub mod Places
 pub mod Commands
@@ -6,3 +10,6 @@ pub mod Nodes
 pub mod Terms
 pub mod Headers
 pub mod Answered
+pub mod Within
+pub mod Numbers
+pub mod Keeping

@@ -7,15 +7,15 @@ use mathlib.Core.Bool.{_||_}
 use mathlib.Core.List.{List, [], _∷_, _++_, append-nil}
 use lib.ListN.{length}
 use Rattle.forest.specs.Lists.{sameBytes}
-use Rattle.naming.specs.Scopes.{Function, definedNames, functionNames, inOrder, isNamed, namesOf}
-use Rattle.naming.specs.Steps.{Kept, Names}
-use Rattle.naming.specs.Table.{definedRow, functionRow, nameIn, namesFrom, ownArgumentRow, rowCount, sortIn, sortsFrom, variableRow}
-use Rattle.naming.proofs.Putting.{SameRows, last-row}
-use Rattle.declaring.specs.Steps.{Few, namesIn}
-use Rattle.declaring.specs.declared.Scope.{Scope}
-use Rattle.declaring.proofs.Members.{SameNames, name-between, named-both}
+use Rattle.names.specs.Scopes.{Function, definedNames, functionNames, inOrder, isNamed, namesOf}
+use Rattle.names.specs.code.Lookup.{Kept, Names}
+use Rattle.names.specs.code.Table.{definedRow, functionRow, nameIn, namesFrom, ownArgumentRow, rowCount, sortIn, sortsFrom, variableRow}
+use Rattle.names.proofs.Putting.{SameRows, last-row}
+use Rattle.names.specs.code.NewNames.{Few, namesIn}
+use Rattle.names.specs.declared.Scope.{Scope}
+use Rattle.names.proofs.Members.{SameNames, name-between, named-both}
 use Rattle.script.specs.Script.{Known, scope}
-use Rattle.script.specs.Tables.{ArgumentsHold, Counted, NamesHold}
+use Rattle.script.specs.code.Tables.{ArgumentsHold, Counted, NamesHold}
 use Rattle.script.specs.declared.Progress.{Progress}
 
 module _ {names after : List ℕ} {row n : ℕ} (kept : Kept names row n after) (r m : ℕ) where

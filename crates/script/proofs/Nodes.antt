@@ -7,23 +7,23 @@ use mathlib.Core.Path.{_≡_, refl, sym, ap, _∙_}
 use lib.ListN.{drop, getD, length, length-map, length-set, set, take}
 use lib.Seq.{getD-drop, getD-set-other, getD-set-same, sets, sets-eq, take-append-seam}
 use Rattle.forest.specs.Forest.{Forest, from, join, nodesOf, none, size, tree}
-use Rattle.forest.specs.Rows.{numberAt, rows}
+use Rattle.forest.specs.code.Rows.{numberAt, rows}
 use Rattle.forest.proofs.Laws.{from-past, join-assoc, size-join}
 use Rattle.forest.proofs.Nodes.{length-nodes, nodes-join}
 use Rattle.forest.proofs.Rows.{length-rows, rows-append}
 use Rattle.terms.specs.Labels.{Label, Terms}
-use Rattle.terms.specs.Nodes.{AllPlain, nodeRow, nodeTable}
+use Rattle.terms.specs.code.Nodes.{AllPlain, nodeRow, nodeTable}
 use Rattle.terms.proofs.Bodies.{plain-join}
 use Rattle.terms.specs.Sorts.{Definition, Signature}
-use Rattle.meaning.specs.Tables.{BodiesAt, TermStands}
-use Rattle.sorting.specs.Tables.{RowsAre, allRows, functionSignature}
-use Rattle.bits.specs.Sorts.{maxWidth}
-use Rattle.naming.specs.Scopes.{Defined, signatureOf}
-use Rattle.naming.specs.Table.{sortsFrom}
-use Rattle.signatures.specs.Steps.{SignedIn, Signing}
-use Rattle.signatures.proofs.Signed.{back-kept, long-kept, row-same, rows-grow, rows-kept, rows-same}
+use Rattle.evaluation.specs.code.Tables.{BodiesAt, TermStands}
+use Rattle.term_sorts.specs.code.Signatures.{RowsAre, allRows, functionSignature}
+use Rattle.operators.specs.Sorts.{maxWidth}
+use Rattle.names.specs.Scopes.{Defined, signatureOf}
+use Rattle.names.specs.code.Table.{sortsFrom}
+use Rattle.script.specs.code.Signing.{SignedIn, Signing}
+use Rattle.script.proofs.Signed.{back-kept, long-kept, row-same, rows-grow, rows-kept, rows-same}
 use Rattle.script.specs.Script.{Known}
-use Rattle.script.specs.Tables.{ConstraintsAt, PlacesHold, bodiesPlace, constraintsPlace, definitionsOf, placesLength}
+use Rattle.script.specs.code.Tables.{ConstraintsAt, PlacesHold, bodiesPlace, constraintsPlace, definitionsOf, placesLength}
 
 -- ---- forests
 

@@ -8,31 +8,31 @@ use borrow.Author.Tests.{eqb-false}
 use lib.Dec.{eqb, leb, ltb}
 use lib.ListN.{length}
 use Rattle.forest.specs.Forest.{none, tree}
-use Rattle.scanning.specs.Reading.{depthAfter, faultAt, foundFrom as judgedWords, readingOf}
-use Rattle.scanning.specs.Words.{Word, wordsOf}
-use Rattle.spelling.specs.declared.Fault.{Fault}
-use Rattle.spelling.specs.declared.Fault.the-variants.{BadWord, Bracket, NoFault, NotCarried, PastLimit, TooLong}
-use Rattle.readings.specs.Answers.{faultNumber, numberOf, passed as passedWords}
-use Rattle.readings.specs.Limits.{responseLimits, scriptLimits}
-use Rattle.readings.specs.declared.Limits.{Limits}
-use Rattle.readings.specs.declared.Reading.{Reading}
-use Rattle.readings.specs.declared.Reading.the-variants.{Whole, Refused}
+use Rattle.words.specs.Reading.{depthAfter, faultAt, foundFrom as judgedWords, readingOf}
+use Rattle.words.specs.Words.{Word, wordsOf}
+use Rattle.word_kinds.specs.declared.Fault.{Fault}
+use Rattle.word_kinds.specs.declared.Fault.the-variants.{BadWord, Bracket, NoFault, NotCarried, PastLimit, TooLong}
+use Rattle.words.specs.Answers.{faultNumber, numberOf, passed as passedWords}
+use Rattle.words.specs.Limits.{responseLimits, scriptLimits}
+use Rattle.words.specs.declared.Limits.{Limits}
+use Rattle.words.specs.declared.Reading.{Reading}
+use Rattle.words.specs.declared.Reading.the-variants.{Whole, Refused}
 use Rattle.lexemes.specs.Lists.{Items, inside, is, isList, item}
-use Rattle.lexemes.specs.Standing.{itemsOf}
-use Rattle.carrying.specs.Carried.{anyUncarried, notCarried}
+use Rattle.lexemes.specs.code.Standing.{itemsOf}
+use Rattle.shapes.specs.Carried.{anyUncarried, notCarried}
 use Rattle.shapes.specs.Shapes.{commandShape, defineFunShape}
 use Rattle.headers.specs.Tokens.{differing, headerOf, headerTokens, wordsIn}
-use Rattle.faults.specs.Faults.{bodyFault}
-use Rattle.heading.specs.Heads.{Counts, allowed, headerPast}
+use Rattle.term_faults.specs.Faults.{bodyFault}
+use Rattle.headers.specs.Heads.{Counts, allowed, headerPast}
 use Rattle.script.specs.Limits.{nodePast}
 use Rattle.script.specs.Naming.{termNames}
-use Rattle.naming.specs.Scopes.{Defined, Function}
+use Rattle.names.specs.Scopes.{Defined, Function}
 use Rattle.script.specs.Script.{Known, Read, andThen, grammarPlace, judged, limitPlace, namePlace, outOfPlace, passed, readAll, refused, sortingPlace}
 use Rattle.script.specs.Script.{nothingKnown, tested}
-use Rattle.response.specs.Response.{Answered, Body, answered, bodies, nothingBehind, inScriptOrder, isAlone, judgedAll, judgedBody, judgedExtra}
-use Rattle.response.specs.Response.{refused as declined, responseView, withBody}
-use Rattle.texts.specs.Outcome.{ResponseOutcome, ScriptOutcome, byAnswers, byCommands, byResponse, byWords, given, offsetOf, responseOutcome, said}
-use Rattle.texts.specs.Outcome.{scriptOutcome}
+use Rattle.script.specs.Response.{Answered, Body, answered, bodies, nothingBehind, inScriptOrder, isAlone, judgedAll, judgedBody, judgedExtra}
+use Rattle.script.specs.Response.{refused as declined, responseView, withBody}
+use Rattle.script.specs.Outcome.{ResponseOutcome, ScriptOutcome, byAnswers, byCommands, byResponse, byWords, given, offsetOf, responseOutcome, said}
+use Rattle.script.specs.Outcome.{scriptOutcome}
 
 -- what was found has a number, one of those that texts give
 pub record Numbered {A : Type 0} (number : A → ℕ) (a : A) : Type 0 where

@@ -8,13 +8,13 @@ use lib.Dec.{ltb}
 use borrow.Author.Tests.{ltb-false}
 use Rattle.forest.specs.Forest.{none, tree}
 use Rattle.forest.proofs.Bools.{apart}
-use Rattle.scanning.specs.Trees.{Lexeme, list, literal, numeral, symbol, wordOf}
+use Rattle.words.specs.Trees.{Lexeme, list, literal, numeral, symbol, wordOf}
 use Rattle.lexemes.specs.Lists.{Items, closeOf, inside, isList, item, numeralOf}
-use Rattle.lexemes.specs.Standing.{Source, Stands, bracketed, ends, word}
+use Rattle.lexemes.specs.code.Standing.{Source, Stands, bracketed, ends, word}
 use Rattle.lexemes.proofs.Standing.{forward, here}
-use Rattle.sorts.specs.Written.{sortOf, sortPlace}
-use Rattle.sorts.specs.declared.Fault.the-variants.{TooWide}
-use Rattle.script.specs.Tables.{CommandAt}
+use Rattle.written_sorts.specs.Written.{sortOf, sortPlace}
+use Rattle.written_sorts.specs.declared.Fault.the-variants.{TooWide}
+use Rattle.script.specs.code.Tables.{CommandAt}
 
 -- The words of a lexeme are below n.
 pub record WordsBelow (n : ℕ) (l : Lexeme) : Type 0 where

@@ -8,13 +8,13 @@ use lib.Dec.{ltb}
 use lib.ListN.{drop, getD, length, take}
 use lib.Seq.{length-sets, sets}
 use borrow.Author.Tests.{ltb-false, ltb-true}
-use Rattle.forest.specs.Rows.{numberAt}
-use Rattle.bits.specs.Sorts.{maxWidth}
+use Rattle.forest.specs.code.Rows.{numberAt}
+use Rattle.operators.specs.Sorts.{maxWidth}
 use Rattle.terms.specs.Sorts.{Signature}
-use Rattle.sorting.specs.Tables.{RowIs, RowsAre, allRows, signatureWidth}
-use Rattle.naming.specs.Table.{sortsFrom}
-use Rattle.signatures.specs.Steps.{SignedIn, Signing, signatureRow}
-use Rattle.signatures.proofs.Written.{before-written, behind-written, drop-written, read-written, take-written}
+use Rattle.term_sorts.specs.code.Signatures.{RowIs, RowsAre, allRows, signatureWidth}
+use Rattle.names.specs.code.Table.{sortsFrom}
+use Rattle.script.specs.code.Signing.{SignedIn, Signing, signatureRow}
+use Rattle.script.proofs.Written.{before-written, behind-written, drop-written, read-written, take-written}
 
 -- there is a sort for each row
 pub length-sorts : (names : List ℕ) (r n : ℕ) → length (sortsFrom names r n) ≡ n

@@ -9,13 +9,13 @@ use lib.Dec.{eqb}
 use lib.ListN.{drop, getD, length, take}
 use lib.Seq.{getD-take}
 use borrow.Author.Tests.{eqb-false, eqb-true}
-use Rattle.forest.specs.Rows.{numberAt}
+use Rattle.forest.specs.code.Rows.{numberAt}
 use Rattle.terms.specs.Sorts.{Signature}
-use Rattle.bits.specs.Sorts.{maxWidth}
-use Rattle.sorting.specs.Tables.{RowIs, RowsAre, SortsAre, allRows, nonTerminalSignature, signatureWidth}
-use Rattle.naming.specs.Table.{nonTerminalRow as firstNonTerminal, sortIn, sortsFrom}
-use Rattle.signatures.specs.Steps.{Listed, Listing, SignedIn, Signing}
-use Rattle.signatures.proofs.Signed.{back-kept, front-kept, long-kept, row-kept, row-same, row-signed, rows-same}
+use Rattle.operators.specs.Sorts.{maxWidth}
+use Rattle.term_sorts.specs.code.Signatures.{RowIs, RowsAre, SortsAre, allRows, nonTerminalSignature, signatureWidth}
+use Rattle.names.specs.code.Table.{nonTerminalRow as firstNonTerminal, sortIn, sortsFrom}
+use Rattle.script.specs.code.Signing.{Listed, Listing, SignedIn, Signing}
+use Rattle.script.proofs.Signed.{back-kept, front-kept, long-kept, row-kept, row-same, row-signed, rows-same}
 
 -- The signature of a non-terminal.
 abbrev sorted : (sort : ℕ) → Signature

@@ -8,26 +8,26 @@ use mathlib.Core.Option.{Option, none as nothing, some}
 use mathlib.Core.Path.{_≡_, refl, ap, subst, _∙_}
 use lib.Dec.{leb, ltb}
 use Rattle.forest.specs.Forest.{Forest, count, nodesOf, none, size, tree}
-use Rattle.forest.specs.Rows.{rows}
+use Rattle.forest.specs.code.Rows.{rows}
 use Rattle.forest.proofs.Rows.{rows-append}
-use Rattle.bits.specs.Operators.{operatorCount, operatorOf}
-use Rattle.bits.specs.Sorts.{maxWidth}
+use Rattle.operators.specs.Operators.{operatorCount, operatorOf}
+use Rattle.operators.specs.Sorts.{maxWidth}
 use Rattle.terms.specs.Labels.{Label, defined, function, literal, name as label-name, operator}
-use Rattle.terms.specs.Nodes.{AllPlain, Plain, codeOf, nodeRow, nodeTable, valueOf}
-use Rattle.grammar.specs.Derivation.{Item, nonTerminal, the}
-use Rattle.grammar.specs.Tables.{formTable, itemCode, itemRow, itemValue}
-use Rattle.reserved.specs.Reserved.{isWord}
-use Rattle.sorting.specs.Forms.{FormScope}
-use Rattle.sorting.specs.Tables.{AllReal, Real}
-use Rattle.scanning.specs.Trees.{Lexeme, list, literal as literal-word, numeral, symbol}
+use Rattle.terms.specs.code.Nodes.{AllPlain, Plain, codeOf, nodeRow, nodeTable, valueOf}
+use Rattle.derivation.specs.Derivation.{Item, nonTerminal, the}
+use Rattle.derivation.specs.code.Tables.{formTable, itemCode, itemRow, itemValue}
+use Rattle.lexemes.specs.Reserved.{isWord}
+use Rattle.term_sorts.specs.Forms.{FormScope}
+use Rattle.term_sorts.specs.code.Signatures.{AllReal, Real}
+use Rattle.words.specs.Trees.{Lexeme, list, literal as literal-word, numeral, symbol}
 use Rattle.lexemes.specs.Lists.{Items, inside, is, item}
-use Rattle.lexemes.specs.Standing.{Source}
-use Rattle.gathering.specs.Steps.{AllSay}
-use Rattle.gathering.specs.Terms.{Raw, constant, cut, cutBy, headedBy, number, operandsOf, pattern, rawOf, rawTerm, rawTerms, word}
-use Rattle.naming.specs.Scopes.{Named, View, definedNames, formsOf, functionNames, isNamed, itemOr, means, namesOf, symbolMeans}
-use Rattle.faults.specs.Faults.{scopeOf}
-use Rattle.faults.specs.Steps.{Lawful}
-use Rattle.faults.proofs.Reals.{all-real}
+use Rattle.lexemes.specs.code.Standing.{Source}
+use Rattle.term_nodes.specs.code.Gathering.{AllSay}
+use Rattle.term_nodes.specs.Terms.{Raw, constant, cut, cutBy, headedBy, number, operandsOf, pattern, rawOf, rawTerm, rawTerms, word}
+use Rattle.names.specs.Scopes.{Named, View, definedNames, formsOf, functionNames, isNamed, itemOr, means, namesOf, symbolMeans}
+use Rattle.term_faults.specs.Faults.{scopeOf}
+use Rattle.term_faults.specs.code.Seeking.{Lawful}
+use Rattle.term_faults.proofs.Reals.{all-real}
 use Rattle.script.specs.Script.{labelOf, termOf, termsIn}
 
 -- A node is no `(Constant σ)` and no `(Variable σ)`.

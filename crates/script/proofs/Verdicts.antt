@@ -3,9 +3,9 @@ use Prim.Native.Nat.{ℕ, _≤_, _<_}
 use mathlib.Core.Path.{_≡_, refl}
 use borrow.Author.Tests.{le-ltb, lt-ltb}
 use Rattle.lexemes.specs.Lists.{Items}
-use Rattle.heading.specs.Heads.{Counts}
+use Rattle.headers.specs.Heads.{Counts}
 use Rattle.script.specs.Script.{Known, grammarPlace, limitPlace, namePlace, sortingPlace, tested}
-use Rattle.script.specs.Tables.{Says}
+use Rattle.script.specs.code.Tables.{Says}
 use Rattle.script.specs.declared.Verdict.{Verdict}
 
 -- The verdict is a refusal by the number and the word, which is one of the text.

@@ -9,11 +9,11 @@ use lib.ListN.{length}
 use borrow.Author.Tests.{leb-true}
 use Rattle.forest.specs.Forest.{count, join, tree}
 use Rattle.lexemes.specs.Lists.{Items, inside}
-use Rattle.lexemes.specs.Standing.{Source, Stands, bracketed, ends, word}
+use Rattle.lexemes.specs.code.Standing.{Source, Stands, bracketed, ends, word}
 use Rattle.lexemes.proofs.Standing.{forward}
-use Rattle.faults.specs.Steps.{AllSingle, Rising}
-use Rattle.rules.specs.Rules.{Ruled, itemPast, rulePast, sides}
+use Rattle.term_faults.specs.code.Seeking.{AllSingle, Rising}
+use Rattle.term_nodes.specs.Rules.{Ruled, itemPast, rulePast, sides}
 use Rattle.script.proofs.Places.{Below, item-below, no-fault}
 
 -- Items stand somewhere between word i and word e.
 pub record Amid (s : Source) (i e : ℕ) (F : Items) : Type 0 where

@@ -6,7 +6,7 @@ use mathlib.Core.Path.{_≡_, refl, _∙_}
 use mathlib.Core.List.{List, _∷_}
 use lib.ListN.{length, set, length-set}
 use lib.Seq.{sets}
-use Rattle.naming.specs.Table.{sortIn, sortsFrom}
+use Rattle.names.specs.code.Table.{sortIn, sortsFrom}
 
 -- The first k of them are written.
 pub record Writing (before names places : List ℕ) (first arguments at k : ℕ) : Type 0 where

@@ -1,4 +1,6 @@
 pub mod Limits
 pub mod Naming
 pub mod Script
-pub mod Tables
+pub mod Response
+pub mod Outcome
+pub mod code

@@ -3,10 +3,10 @@ use Prim.Native.Nat.{ℕ}
 use mathlib.Core.Bool.{cond}
 use lib.Dec.{ltb}
 use Rattle.forest.specs.Forest.{nodesOf}
-use Rattle.scanning.specs.Trees.{Lexeme}
+use Rattle.words.specs.Trees.{Lexeme}
 use Rattle.lexemes.specs.Lists.{Items}
-use Rattle.heading.specs.Heads.{Counts}
-use Rattle.gathering.specs.Terms.{nodeWord, rawTerm}
+use Rattle.headers.specs.Heads.{Counts}
+use Rattle.term_nodes.specs.Terms.{nodeWord, rawTerm}
 
 -- The node past the limit of a term.
 abbrev pub nodePast : Counts → (nowhere : ℕ) → Lexeme → Items → ℕ

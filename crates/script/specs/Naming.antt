@@ -1,11 +1,11 @@
 -- 7, "name unknown", in a term: the least word at fault; nowhere, a number past every word, where there is none.
 use Prim.Native.Nat.{ℕ}
 use Rattle.forest.specs.Forest.{nodesOf}
-use Rattle.scanning.specs.Trees.{Lexeme}
+use Rattle.words.specs.Trees.{Lexeme}
 use Rattle.lexemes.specs.Lists.{Items}
-use Rattle.naming.specs.Scopes.{View}
-use Rattle.naming.specs.Unknown.{unknownIn}
-use Rattle.gathering.specs.Terms.{rawTerm}
+use Rattle.names.specs.Scopes.{View}
+use Rattle.names.specs.Unknown.{unknownIn}
+use Rattle.term_nodes.specs.Terms.{rawTerm}
 
 -- In a term.
 abbrev pub termNames : (nowhere : ℕ) → View → Lexeme → Items → ℕ

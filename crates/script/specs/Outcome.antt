@@ -4,16 +4,16 @@ use mathlib.Core.Bool.{cond, _||_}
 use mathlib.Core.List.{List, [], _∷_}
 use lib.Dec.{eqb}
 use lib.ListN.{length}
-use Rattle.scanning.specs.Reading.{readingOf}
-use Rattle.scanning.specs.Words.{Word, wordsOf}
-use Rattle.readings.specs.Answers.{faultNumber}
-use Rattle.readings.specs.Limits.{responseLimits, scriptLimits}
-use Rattle.readings.specs.declared.Reading.{Reading}
-use Rattle.readings.specs.declared.Reading.the-variants.{Whole, Refused}
-use Rattle.lexemes.specs.Standing.{itemsOf}
-use Rattle.heading.specs.Heads.{allowed}
+use Rattle.words.specs.Reading.{readingOf}
+use Rattle.words.specs.Words.{Word, wordsOf}
+use Rattle.words.specs.Answers.{faultNumber}
+use Rattle.words.specs.Limits.{responseLimits, scriptLimits}
+use Rattle.words.specs.declared.Reading.{Reading}
+use Rattle.words.specs.declared.Reading.the-variants.{Whole, Refused}
+use Rattle.lexemes.specs.code.Standing.{itemsOf}
+use Rattle.headers.specs.Heads.{allowed}
 use Rattle.script.specs.Script.{Known, Read, passed, readAll, refused, nothingKnown}
-use Rattle.response.specs.Response.{Answered, Body, answered, bodies, inScriptOrder, refused as declined}
+use Rattle.script.specs.Response.{Answered, Body, answered, bodies, inScriptOrder, refused as declined}
 
 -- The offset of word n of the words; `past`, where there are not so many.
 unfoldable pub startOf : (past : ℕ) → List Word → (n : ℕ) → ℕ

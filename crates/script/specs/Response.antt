@@ -6,17 +6,17 @@ use lib.Dec.{eqb, ltb}
 use lib.ListN.{drop, length}
 use Rattle.forest.specs.Forest.{count, none, tree}
 use Rattle.terms.specs.Labels.{Terms}
-use Rattle.scanning.specs.Trees.{wordOf}
+use Rattle.words.specs.Trees.{wordOf}
 use Rattle.headers.specs.Tokens.{differing, headerOf, headerTokens, wordsIn}
-use Rattle.carrying.specs.Carried.{anyUncarried}
-use Rattle.heading.specs.Heads.{Counts, headerPast}
+use Rattle.shapes.specs.Carried.{anyUncarried}
+use Rattle.headers.specs.Heads.{Counts, headerPast}
 use Rattle.script.specs.Limits.{nodePast}
 use Rattle.lexemes.specs.Lists.{Items, closeOf, inside, is, isList, item}
 use Rattle.script.specs.Naming.{termNames}
-use Rattle.naming.specs.Scopes.{Defined, Function, View}
+use Rattle.names.specs.Scopes.{Defined, Function, View}
 use Rattle.script.specs.Script.{termOf}
 use Rattle.shapes.specs.Shapes.{defineFunShape}
-use Rattle.faults.specs.Faults.{bodyFault}
+use Rattle.term_faults.specs.Faults.{bodyFault}
 
 -- "a response body see[s] the function's arguments and the `define-fun`s before that `synth-fun`": the script's `define-fun`s stand the last first.
 abbrev pub responseView : (defs : List Defined) → Function → View

@@ -5,24 +5,24 @@ use mathlib.Core.List.{List, [], _∷_, _++_, map}
 use lib.Dec.{eqb, ltb}
 use lib.ListN.{length}
 use Rattle.forest.specs.Forest.{Forest, none, tree}
-use Rattle.bits.specs.Operators.{operatorCount}
+use Rattle.operators.specs.Operators.{operatorCount}
 use Rattle.terms.specs.Labels.{Label, Terms, operator}
 use Rattle.terms.specs.Sorts.{Definition, Signature}
-use Rattle.grammar.specs.Derivation.{Item, anyArgument, anyLiteral, nonTerminal, the}
-use Rattle.scanning.specs.Trees.{Lexeme, wordOf}
-use Rattle.carrying.specs.Carried.{notCarried}
-use Rattle.heading.specs.Heads.{Counts, headerNames, headerPast}
+use Rattle.derivation.specs.Derivation.{Item, anyArgument, anyLiteral, nonTerminal, the}
+use Rattle.words.specs.Trees.{Lexeme, wordOf}
+use Rattle.shapes.specs.Carried.{notCarried}
+use Rattle.headers.specs.Heads.{Counts, headerNames, headerPast}
 use Rattle.grammars.specs.Grammars.{grammarFault, grammarMisfit, grammarNames, grammarOf, grammarPast}
 use Rattle.script.specs.Limits.{commandPast, nodePast}
 use Rattle.lexemes.specs.Lists.{Items, inside, is, isList, item, nameOf}
 use Rattle.script.specs.Naming.{termNames}
-use Rattle.declaring.specs.New.{namedBy, newName}
-use Rattle.naming.specs.Scopes.{Defined, Function, Named, View, definedNames, formsOf, functionNames, namesOf, namedSorts}
+use Rattle.names.specs.New.{namedBy, newName}
+use Rattle.names.specs.Scopes.{Defined, Function, Named, View, definedNames, formsOf, functionNames, namesOf, namedSorts}
 use Rattle.shapes.specs.Shapes.{commandShape}
-use Rattle.faults.specs.Faults.{bodyFault}
-use Rattle.gathering.specs.Terms.{rawTerm}
-use Rattle.sorts.specs.Written.{headerPlace, sortOf, sortPlace}
-use Rattle.sorts.specs.declared.Fault.the-variants.{TooWide, Unknown, Empty}
+use Rattle.term_faults.specs.Faults.{bodyFault}
+use Rattle.term_nodes.specs.Terms.{rawTerm}
+use Rattle.written_sorts.specs.Written.{headerPlace, sortOf, sortPlace}
+use Rattle.written_sorts.specs.declared.Fault.the-variants.{TooWide, Unknown, Empty}
 
 -- What the commands before have said: whether the logic was set and `check-synth` was met; variables and constraints in script order; `define-fun`s and
 -- functions, the last first.

@@ -1,4 +1,7 @@
 //! Scripts: what is known after each command, in tables.
+//! The table of signatures: ten numbers for each `define-fun`, synthesized function and non-terminal, how many arguments it has, its sort, and the sorts of its
+//! arguments.
+pub mod signatures;
 
 // Where the forms of rules begin in the table of nodes, behind the terms of 4,096 words of a script and 2,048 of a response.
 pub const FORMS: usize = 24576;

@@ -1,7 +1,7 @@
 //! Rows of the table of signatures, written from the table of names.
-use naming::table::NON_TERMINALS;
-use naming::table::sort_in;
-ghost use Rattle.signatures.specs.Steps.{Listed, Listing, SignedIn, Signing};
+use names::table::NON_TERMINALS;
+use names::table::sort_in;
+ghost use Rattle.script.specs.code.Signing.{Listed, Listing, SignedIn, Signing};
 
 // How many numbers a row has.
 const ROW: usize = 10;

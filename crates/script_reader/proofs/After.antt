@@ -8,10 +8,10 @@ use lib.Dec.{eqb}
 use lib.ListN.{length, length-append}
 use Rattle.lexemes.specs.Lists.{Items}
 use Rattle.script.specs.Script.{Known, knownAfter, outOfPlace}
-use Rattle.script.specs.Tables.{Counted, NamesHold, PlacesHold}
+use Rattle.script.specs.code.Tables.{Counted, NamesHold, PlacesHold}
 use Rattle.script.specs.declared.Progress.{Progress}
-use Rattle.reader.specs.Steps.{outOfPlaceBy, saidBy}
-use Rattle.reader.proofs.Words.{Tests}
+use Rattle.script_reader.specs.code.Commands.{outOfPlaceBy, saidBy}
+use Rattle.script_reader.proofs.Words.{Tests}
 
 -- A list that a test adds to: how long it is.
 longer : {A : Type 0} (b m : Bool) (more few : List A) → b ≡ m → length more ≡ length few + 1 → length (cond b more few) ≡ cond m (length few + 1) (length few)

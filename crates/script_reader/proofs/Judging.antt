@@ -8,16 +8,16 @@ use mathlib.Core.Path.{_≡_, refl, _∙_}
 use lib.Dec.{eqb, ltb}
 use borrow.Author.Tests.{le-ltb, ltb-false, ltb-true}
 use Rattle.lexemes.specs.Lists.{Items}
-use Rattle.carrying.specs.Carried.{notCarried}
+use Rattle.shapes.specs.Carried.{notCarried}
 use Rattle.shapes.specs.Shapes.{commandShape}
-use Rattle.heading.specs.Heads.{Counts}
+use Rattle.headers.specs.Heads.{Counts}
 use Rattle.script.specs.Limits.{commandPast}
 use Rattle.script.specs.Script.{Known, Read, grammarPlace, judged, limitPlace, namePlace, outOfPlace, passed, refused, sortingPlace, tested}
-use Rattle.script.specs.Tables.{KnownHeld, Says}
+use Rattle.script.specs.code.Tables.{KnownHeld, Says}
 use Rattle.script.specs.declared.Verdict.{Verdict}
-use Rattle.reader.specs.Steps.{Reads}
-use Rattle.reader.specs.declared.Step.{Step}
-use Rattle.reader.proofs.Words.{Tests}
+use Rattle.script_reader.specs.code.Commands.{Reads}
+use Rattle.script_reader.specs.declared.Step.{Step}
+use Rattle.script_reader.proofs.Words.{Tests}
 
 -- A refusal has a number, which is not 0.
 abbrev pub Numbered : Read → Type 0

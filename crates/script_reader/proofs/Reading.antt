@@ -6,20 +6,20 @@ use mathlib.Core.List.{List}
 use mathlib.Core.Path.{_≡_, sym, ap, ap₂, _∙_, subst⁻¹}
 use borrow.Author.Tests.{not-false}
 use Rattle.forest.proofs.Bools.{or-left}
-use Rattle.lexemes.specs.Table.{codeAt}
-use Rattle.lexemes.specs.Standing.{ListAt}
-use Rattle.carrying.specs.Carried.{notCarried}
+use Rattle.lexemes.specs.code.Table.{codeAt}
+use Rattle.lexemes.specs.code.Standing.{ListAt}
+use Rattle.shapes.specs.Carried.{notCarried}
 use Rattle.shapes.specs.Shapes.{commandShape}
-use Rattle.heading.specs.Heads.{allowed}
+use Rattle.headers.specs.Heads.{allowed}
 use Rattle.script.specs.Script.{Read, judged, knownAfter, outOfPlace, refused}
-use Rattle.script.specs.Tables.{KnownHeld}
+use Rattle.script.specs.code.Tables.{KnownHeld}
 use Rattle.script.specs.declared.Progress.{Progress}
 use Rattle.script.specs.declared.Verdict.{Verdict}
-use Rattle.reader.specs.Steps.{CommandRead, CommandTested, Commanded, Few, Reads, Shaped, Stepped, outOfPlaceBy, saidBy}
-use Rattle.reader.specs.declared.Step.{Step}
-use Rattle.reader.proofs.Words.{ends-in, listed, tests, word-fits}
-use Rattle.reader.proofs.After.{out-by}
-use Rattle.reader.proofs.Judging.{judged-misplaced, judged-placed, judged-uncarried, reads-by}
+use Rattle.script_reader.specs.code.Commands.{CommandRead, CommandTested, Commanded, Few, Reads, Shaped, Stepped, outOfPlaceBy, saidBy}
+use Rattle.script_reader.specs.declared.Step.{Step}
+use Rattle.script_reader.proofs.Words.{ends-in, listed, tests, word-fits}
+use Rattle.script_reader.proofs.After.{out-by}
+use Rattle.script_reader.proofs.Judging.{judged-misplaced, judged-placed, judged-uncarried, reads-by}
 
 module _ {text lexemes names raw places nodes : List ℕ} {p : Progress} {i nowhere : ℕ} where
   -- The word of the command has a number.

@@ -9,19 +9,19 @@ use lib.ListN.{drop, length, length-drop, take}
 use lib.Seq.{length-take-le}
 use borrow.Author.Tests.{ne-eqb}
 use Rattle.lexemes.specs.Lists.{Items, is, item}
-use Rattle.heading.specs.Heads.{allowed}
+use Rattle.headers.specs.Heads.{allowed}
 use Rattle.script.specs.Script.{Known, knownAfter, limitPlace, tested}
-use Rattle.script.specs.Tables.{CommandOf, Says, TablesHold, formsPlace}
+use Rattle.script.specs.code.Tables.{CommandOf, Says, TablesHold, formsPlace}
 use Rattle.script.specs.declared.Progress.{Progress}
 use Rattle.script.specs.declared.Verdict.{Verdict}
-use Rattle.variables.specs.Steps.{Declared, Declaring}
-use Rattle.defining.specs.Steps.{Constrained, Constraining, Defined, Defining}
-use Rattle.synthesizing.specs.Steps.{Synthesized, Synthesizing}
-use Rattle.reader.specs.Steps.{CommandTested, Shaped, saidBy}
-use Rattle.reader.proofs.Words.{Tests, ends-in, tests}
-use Rattle.reader.proofs.After.{counted-after, names-kept, places-kept, same-constraints, same-defined, same-functions, same-variables}
-use Rattle.reader.proofs.Parts.{Parts, all-lent, formsLent, parts-behind, parts-front, parts-same}
-use Rattle.reader.proofs.Judging.{fewer, others-pass, within-limits}
+use Rattle.commands.specs.code.Declaring.{Declared, Declaring}
+use Rattle.commands.specs.code.Defining.{Constrained, Constraining, Defined, Defining}
+use Rattle.synth_fun.specs.code.Synthesizing.{Synthesized, Synthesizing}
+use Rattle.script_reader.specs.code.Commands.{CommandTested, Shaped, saidBy}
+use Rattle.script_reader.proofs.Words.{Tests, ends-in, tests}
+use Rattle.script_reader.proofs.After.{counted-after, names-kept, places-kept, same-constraints, same-defined, same-functions, same-variables}
+use Rattle.script_reader.proofs.Parts.{Parts, all-lent, formsLent, parts-behind, parts-front, parts-same}
+use Rattle.script_reader.proofs.Judging.{fewer, others-pass, within-limits}
 
 -- The tables hold what is known, in no more rows than words before the one given.
 pub record Held (names places nodes forms : List ℕ) (q : Progress) (k : Known) (close : ℕ) : Type 0 where

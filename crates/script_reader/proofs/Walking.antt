@@ -6,28 +6,28 @@ use mathlib.Core.List.{List}
 use mathlib.Core.Path.{_≡_, refl, sym, ap, _∙_, subst, subst⁻¹}
 use lib.ListN.{length, take}
 use Rattle.forest.specs.Forest.{nodesOf, none, size, tree}
-use Rattle.forest.specs.Rows.{rows}
-use Rattle.scanning.specs.Trees.{Lexeme, wordOf}
+use Rattle.forest.specs.code.Rows.{rows}
+use Rattle.words.specs.Trees.{Lexeme, wordOf}
 use Rattle.lexemes.specs.Lists.{Items}
-use Rattle.lexemes.specs.Table.{codeAt, nextAt, openCode}
-use Rattle.lexemes.specs.Standing.{ItemAt, Stands}
+use Rattle.lexemes.specs.code.Table.{codeAt, nextAt, openCode}
+use Rattle.lexemes.specs.code.Standing.{ItemAt, Stands}
 use Rattle.lexemes.proofs.Listed.{at-item, is-list, item-ahead, list-from, no-list}
 use Rattle.lexemes.proofs.Standing.{forward, here, none-left, some-left}
-use Rattle.gathering.proofs.TermWords.{first-of}
-use Rattle.terms.specs.Nodes.{AllPlain, nodeTable}
-use Rattle.meaning.specs.Tables.{BodiesAt}
-use Rattle.sorting.specs.Tables.{RowsAre}
-use Rattle.naming.specs.Scopes.{inOrder}
-use Rattle.naming.specs.Steps.{Names, sourceOf}
-use Rattle.naming.specs.Table.{namesFrom, sortsFrom}
-use Rattle.heading.specs.Heads.{allowed}
+use Rattle.term_nodes.proofs.TermWords.{first-of}
+use Rattle.terms.specs.code.Nodes.{AllPlain, nodeTable}
+use Rattle.evaluation.specs.code.Tables.{BodiesAt}
+use Rattle.term_sorts.specs.code.Signatures.{RowsAre}
+use Rattle.names.specs.Scopes.{inOrder}
+use Rattle.names.specs.code.Lookup.{Names, sourceOf}
+use Rattle.names.specs.code.Table.{namesFrom, sortsFrom}
+use Rattle.headers.specs.Heads.{allowed}
 use Rattle.script.specs.Script.{Known, Read, andThen, judged, knownAfter, passed, readAll, refused, nothingKnown}
-use Rattle.script.specs.Tables.{ArgumentsHold, ConstraintsAt, GrammarsHold, KnownHeld, formsPlace, placesLength}
+use Rattle.script.specs.code.Tables.{ArgumentsHold, ConstraintsAt, GrammarsHold, KnownHeld, formsPlace, placesLength}
 use Rattle.script.specs.declared.Progress.{Progress}
-use Rattle.reader.specs.Steps.{CommandRead, Commanded, Reads, Roomy, ScriptAt, ScriptRead, lastStep, nothingSaid}
-use Rattle.reader.specs.declared.Step.{Step}
-use Rattle.reader.proofs.Words.{ends-in}
-use Rattle.reader.proofs.Judging.{Numbered, judged-numbered}
+use Rattle.script_reader.specs.code.Commands.{CommandRead, Commanded, Reads, Roomy, ScriptAt, ScriptRead, lastStep, nothingSaid}
+use Rattle.script_reader.specs.declared.Step.{Step}
+use Rattle.script_reader.proofs.Words.{ends-in}
+use Rattle.script_reader.proofs.Judging.{Numbered, judged-numbered}
 
 -- Before the first command the tables hold that nothing is known.
 pub nothing-held : {names places : List ℕ} (nodes : List ℕ) → Names names → length places ≡ placesLength → KnownHeld names places nodes nothingSaid nothingKnown

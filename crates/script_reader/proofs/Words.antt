@@ -5,13 +5,13 @@ use mathlib.Core.List.{List}
 use mathlib.Core.Path.{_≡_, refl, sym, ap, _∙_}
 use lib.Dec.{eqb}
 use Rattle.lexemes.specs.Lists.{Items, after, closeOf, is, item}
-use Rattle.lexemes.specs.Table.{codeAt, nextAt}
-use Rattle.lexemes.specs.Standing.{ListAt}
+use Rattle.lexemes.specs.code.Table.{codeAt, nextAt}
+use Rattle.lexemes.specs.code.Standing.{ListAt}
 use Rattle.lexemes.proofs.ByCode.{codeFor, front-word, frontCode}
 use Rattle.lexemes.proofs.Listed.{first-code, held}
 use Rattle.lexemes.proofs.Standing.{forward}
-use Rattle.naming.specs.Steps.{sourceOf}
-use Rattle.script.specs.Tables.{CommandAt}
+use Rattle.names.specs.code.Lookup.{sourceOf}
+use Rattle.script.specs.code.Tables.{CommandAt}
 
 -- The tests of a command's word by its code.
 pub record Tests (c : Items) (code : ℕ) : Type 0 where

@@ -3,9 +3,9 @@ use crate::Step;
 use crate::steps::answer;
 use crate::steps::out_of_place;
 use crate::steps::step_by;
-use carrying::not_carried;
-use defining::commands::constrain;
-use defining::commands::define_fun;
+use commands::constraint::constrain;
+use commands::declare_var::declare_var;
+use commands::define_fun::define_fun;
 use lexemes::code_at;
 use lexemes::codes::CONSTRAINT;
 use lexemes::codes::DECLARE_VAR;
@@ -14,11 +14,11 @@ use lexemes::codes::SYNTH_FUN;
 use script::FORMS;
 use script::Progress;
 use script::Verdict;
+use shapes::carried::not_carried;
 use shapes::commands::command_shape;
-use synthesizing::command::synth_fun;
-use variables::command::declare_var;
+use synth_fun::command::synth_fun;
 ghost use mathlib.Core.Path.{_≡_};
-ghost use Rattle.reader.specs.Steps.{CommandRead, CommandTested, Commanded, Shaped};
+ghost use Rattle.script_reader.specs.code.Commands.{CommandRead, CommandTested, Commanded, Shaped};
 
 // The verdict of a command that says nothing but itself.
 fn passing(place: usize) -> Verdict

@@ -1,5 +1,5 @@
 //! The reader of scripts: one command after the other, each refusal at its place, and the tables of a script that passes.
-pub mod commands;
+pub mod command;
 pub mod scripts;
 mod steps;
 

@@ -1,13 +1,13 @@
 //! The commands of a script, one after the other.
 use crate::Step;
-use crate::commands::read_command;
+use crate::command::read_command;
 use crate::steps::answer;
 use lexemes::OPEN;
 use lexemes::code_at;
 use lexemes::next_at;
 use script::Progress;
 ghost use mathlib.Core.Path.{_≡_};
-ghost use Rattle.reader.specs.Steps.{ScriptAt, ScriptRead, lastStep, nothingSaid};
+ghost use Rattle.script_reader.specs.code.Commands.{ScriptAt, ScriptRead, lastStep, nothingSaid};
 
 // What is said before the first command.
 fn nothing_said() -> Progress

@@ -11,7 +11,7 @@ use script::Verdict;
 ghost use mathlib.Core.Bool.{cond};
 ghost use mathlib.Core.Path.{_≡_};
 ghost use Prim.Native.Nat.{_+_, _≤_};
-ghost use Rattle.reader.specs.Steps.{Few, Stepped, outOfPlaceBy, saidBy};
+ghost use Rattle.script_reader.specs.code.Commands.{Few, Stepped, outOfPlaceBy, saidBy};
 
 // Whether a command of the code is out of place.
 pub fn out_of_place(progress: Progress, code: u64) -> bool

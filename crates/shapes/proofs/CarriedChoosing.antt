@@ -6,14 +6,14 @@ use mathlib.Core.Bool.{Bool, true, false, _&&_, _||_, and-false, and-true}
 use mathlib.Core.List.{List}
 use lib.Dec.{leb, ltb}
 use borrow.Author.Tests.{le-leb, le-ltb, leb-false, leb-true, lt-leb, lt-ltb, ltb-false, ltb-true}
-use Rattle.reserved.specs.Reserved.{carriedCommands, otherCommands}
-use Rattle.lexemes.specs.Table.{codeAt, nextAt}
-use Rattle.lexemes.specs.Standing.{Between, ListAt}
+use Rattle.lexemes.specs.Reserved.{carriedCommands, otherCommands}
+use Rattle.lexemes.specs.code.Table.{codeAt, nextAt}
+use Rattle.lexemes.specs.code.Standing.{Between, ListAt}
 use Rattle.lexemes.proofs.ByCode.{codeFor, front-range, frontCode}
 use Rattle.lexemes.proofs.Listed.{between, first-code}
 use Rattle.forest.proofs.Bools.{or-left, or-other, or-right}
-use Rattle.carrying.proofs.Tests.{no-grammar-test, no-logic-test}
-use Rattle.carrying.specs.Carried.{anyUncarried, noGrammar, notCarried, otherLogic}
+use Rattle.shapes.proofs.CarriedTests.{no-grammar-test, no-logic-test}
+use Rattle.shapes.specs.Carried.{anyUncarried, noGrammar, notCarried, otherLogic}
 
 -- a code that is no command's
 record Outside (code : ℕ) : Type 0 where

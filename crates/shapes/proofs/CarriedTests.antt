@@ -8,14 +8,14 @@ use lib.Dec.{eqb}
 use borrow.Author.Tests.{eqb-true, ne-eqb}
 use Rattle.forest.specs.Forest.{count}
 use Rattle.lexemes.specs.Lists.{after, is}
-use Rattle.lexemes.specs.Table.{codeAt}
-use Rattle.lexemes.specs.Standing.{ListAt}
+use Rattle.lexemes.specs.code.Table.{codeAt}
+use Rattle.lexemes.specs.code.Standing.{ListAt}
 use Rattle.lexemes.proofs.ByCode.{codeFor, front-word, front-words, frontCode}
 use Rattle.lexemes.proofs.Standing.{front}
 use Rattle.lexemes.proofs.Listed.{first-code, held}
 use Rattle.lexemes.proofs.Spelt.{behind-word}
 use Rattle.shapes.specs.Shapes.{setLogicShape}
-use Rattle.carrying.specs.Carried.{noGrammar, otherLogic, uncarriedStart}
+use Rattle.shapes.specs.Carried.{noGrammar, otherLogic, uncarriedStart}
 
 module _ {lexemes : List ℕ} {at : ℕ} where
   -- the second word of a list whose first is no bracket

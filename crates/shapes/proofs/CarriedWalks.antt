@@ -4,10 +4,10 @@ use mathlib.Core.Path.{_≡_, sym, _∙_}
 use mathlib.Core.Bool.{Bool, true, false, _||_, or-assoc, or-false}
 use mathlib.Core.List.{List, [], _∷_}
 use Rattle.lexemes.specs.Lists.{Items}
-use Rattle.lexemes.specs.Table.{codeAt, openCode}
-use Rattle.lexemes.specs.Standing.{Between, ListAt}
+use Rattle.lexemes.specs.code.Table.{codeAt, openCode}
+use Rattle.lexemes.specs.code.Standing.{Between, ListAt}
 use Rattle.lexemes.proofs.Pending.{DownAny, at-a-list, down-end, down-enter, down-start, down-word}
-use Rattle.carrying.specs.Carried.{anyUncarried, uncarriedStart}
+use Rattle.shapes.specs.Carried.{anyUncarried, uncarriedStart}
 
 -- whether a list that is not carried is among the items that are pending further out, or within one
 abbrev pub outerUncarried : List Items → Bool

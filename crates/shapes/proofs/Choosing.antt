@@ -6,8 +6,8 @@ use mathlib.Core.List.{List}
 use lib.Dec.{eqb}
 use borrow.Author.Tests.{ne-eqb}
 use Rattle.lexemes.specs.Lists.{Items, after}
-use Rattle.lexemes.specs.Table.{codeAt}
-use Rattle.lexemes.specs.Standing.{ListAt}
+use Rattle.lexemes.specs.code.Table.{codeAt}
+use Rattle.lexemes.specs.code.Standing.{ListAt}
 use Rattle.lexemes.proofs.ByCode.{codeFor, front-word, frontCode}
 use Rattle.lexemes.proofs.Listed.{first-code}
 use Rattle.shapes.specs.Shapes.{checkSynthShape, commandShape, constraintShape, declareVarShape, defineFunShape, setLogicShape, synthFunShape}

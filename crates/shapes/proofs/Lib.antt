@@ -4,3 +4,6 @@ pub mod Shaped
 pub mod Every
 pub mod Walks
 pub mod Choosing
+pub mod CarriedWalks
+pub mod CarriedTests
+pub mod CarriedChoosing

@@ -8,13 +8,13 @@ use lib.Dec.{eqb, leb}
 use borrow.Author.Tests.{eq-eqb, ne-eqb}
 use lib.ListN.{length}
 use Rattle.forest.specs.Forest.{count}
-use Rattle.scanning.specs.Trees.{Lexeme}
+use Rattle.words.specs.Trees.{Lexeme}
 use Rattle.lexemes.specs.Lists.{Items, after, inside, isSymbol, item}
-use Rattle.lexemes.specs.Table.{codeAt, nextAt}
-use Rattle.lexemes.specs.Standing.{Between, ItemAt, ListAt, Reached, Stands}
+use Rattle.lexemes.specs.code.Table.{codeAt, nextAt}
+use Rattle.lexemes.specs.code.Standing.{Between, ItemAt, ListAt, Reached, Stands}
 use Rattle.lexemes.proofs.ByCode.{symbol-code}
 use Rattle.lexemes.proofs.Listed.{at-item, between, from-item, list-room}
-use Rattle.shapes.specs.Steps.{ItemOf, Long}
+use Rattle.shapes.specs.code.Items.{ItemOf, Long}
 
 module _ {lexemes : List ℕ} {list : ℕ} where
   -- a list has as many items as were counted

@@ -7,14 +7,14 @@ use lib.Dec.{eqb}
 use borrow.Author.Tests.{not-false, not-true}
 use Rattle.forest.specs.Forest.{count}
 use Rattle.forest.proofs.Bools.{and-left}
-use Rattle.scanning.specs.Trees.{Lexeme}
+use Rattle.words.specs.Trees.{Lexeme}
 use Rattle.lexemes.specs.Lists.{Items, inside, isAmong, isList, isSymbol, item}
-use Rattle.lexemes.specs.Table.{codeAt, nextAt, openCode}
-use Rattle.lexemes.specs.Standing.{Between, ItemAt, ListAt}
+use Rattle.lexemes.specs.code.Table.{codeAt, nextAt, openCode}
+use Rattle.lexemes.specs.code.Standing.{Between, ItemAt, ListAt}
 use Rattle.lexemes.proofs.Listed.{as-list, between, is-list, list-from}
 use Rattle.shapes.specs.Shapes.{all, constraintShape, declareVarShape, defineFunShape, groupShape, headerShape, isPattern, isListOf, pairShape, ruleShape}
 use Rattle.shapes.specs.Shapes.{setLogicShape, sortShape, synthFunShape, termShape}
-use Rattle.shapes.specs.Steps.{ItemOf}
+use Rattle.shapes.specs.code.Items.{ItemOf}
 use Rattle.shapes.proofs.Parts.{not-so-many, part, so-many}
 
 -- a test says of an item whether it is of a shape

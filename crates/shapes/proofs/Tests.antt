@@ -8,13 +8,13 @@ use lib.Dec.{eqb, leb}
 use borrow.Author.Tests.{le-leb, lt-leb}
 use Rattle.forest.specs.Forest.{count}
 use Rattle.lexemes.specs.Lists.{after, indexed, inside, is, isAmong, isList, item}
-use Rattle.lexemes.specs.Table.{codeAt, codeOf}
-use Rattle.lexemes.specs.Standing.{ItemAt, ListAt}
+use Rattle.lexemes.specs.code.Table.{codeAt, codeOf}
+use Rattle.lexemes.specs.code.Standing.{ItemAt, ListAt}
 use Rattle.lexemes.proofs.ByCode.{codeFor, front-words, list-code, symbol-code, word-code, words-code}
 use Rattle.lexemes.proofs.Standing.{front}
 use Rattle.lexemes.proofs.Listed.{at-item}
 use Rattle.shapes.specs.Shapes.{applicationShape, headShape, isPattern, sortShape}
-use Rattle.shapes.specs.Steps.{ItemOf}
+use Rattle.shapes.specs.code.Items.{ItemOf}
 use Rattle.shapes.proofs.Parts.{the-item}
 
 module _ {lexemes : List ℕ} {at : ℕ} where

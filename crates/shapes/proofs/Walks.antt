@@ -9,8 +9,8 @@ use borrow.Author.Tests.{leb-true}
 use Rattle.forest.specs.Forest.{count}
 use Rattle.forest.proofs.Bools.{and-left, and-right, apart}
 use Rattle.lexemes.specs.Lists.{Items, indexed, inside, is, isList, item}
-use Rattle.lexemes.specs.Table.{codeAt, nextAt, openCode}
-use Rattle.lexemes.specs.Standing.{Between, ItemAt, ListAt}
+use Rattle.lexemes.specs.code.Table.{codeAt, nextAt, openCode}
+use Rattle.lexemes.specs.code.Standing.{Between, ItemAt, ListAt}
 use Rattle.lexemes.proofs.Listed.{as-item}
 use Rattle.lexemes.proofs.Pending.{DownAny, at-a-list, behind-less, down-behind, down-end, down-skip, down-start, down-word}
 use Rattle.shapes.specs.Shapes.{applicationShape, headShape, termShapes}

@@ -4,8 +4,8 @@ use mathlib.Core.List.{[], _∷_}
 use lib.Dec.{eqb}
 use Rattle.forest.specs.Forest.{count, none, tree}
 use Rattle.lexemes.specs.Lists.{Items, is, isAmong, isList, item}
-use Rattle.reserved.specs.Reserved.{carriedCommands, otherCommands}
+use Rattle.lexemes.specs.Reserved.{carriedCommands, otherCommands}
 use Rattle.shapes.specs.Shapes.{setLogicShape}
 
 -- A list begun by "`let`, `exists`, `forall`, `!`, or by `_` and then neither `BitVec` nor `extract`".
 abbrev pub uncarriedStart : Items → Bool

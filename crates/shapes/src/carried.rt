@@ -1,4 +1,6 @@
 //! What is not carried: answer 6 of a command.
+use crate::forms::set_logic_shape;
+use crate::lists::count_in;
 use lexemes::OPEN;
 use lexemes::code_at;
 use lexemes::codes::BANG;
@@ -14,11 +16,9 @@ use lexemes::codes::SYNTH_FUN;
 use lexemes::codes::TRUE;
 use lexemes::codes::UNDERSCORE;
 use lexemes::next_at;
-use shapes::forms::set_logic_shape;
-use shapes::lists::count_in;
 ghost use mathlib.Core.Path.{_≡_};
-ghost use Rattle.lexemes.specs.Standing.{Between, ListAt};
-ghost use Rattle.carrying.specs.Carried.{anyUncarried, noGrammar, notCarried, otherLogic, uncarriedStart};
+ghost use Rattle.lexemes.specs.code.Standing.{Between, ListAt};
+ghost use Rattle.shapes.specs.Carried.{anyUncarried, noGrammar, notCarried, otherLogic, uncarriedStart};
 
 // Whether a list begins with a word that is not carried there.
 fn uncarried_start(lexemes: &[u64], at: usize) -> bool

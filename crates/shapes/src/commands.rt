@@ -15,7 +15,7 @@ use lexemes::codes::DEFINE_FUN;
 use lexemes::codes::SET_LOGIC;
 use lexemes::codes::SYNTH_FUN;
 ghost use mathlib.Core.Path.{_≡_};
-ghost use Rattle.lexemes.specs.Standing.{ListAt};
+ghost use Rattle.lexemes.specs.code.Standing.{ListAt};
 ghost use Rattle.shapes.specs.Shapes.{commandShape, defineFunShape};
 
 // Whether a list has the shape of `define-fun`.

@@ -9,7 +9,7 @@ use lexemes::OPEN;
 use lexemes::code_at;
 use lexemes::next_at;
 ghost use mathlib.Core.Path.{_≡_};
-ghost use Rattle.lexemes.specs.Standing.{Between, ItemAt};
+ghost use Rattle.lexemes.specs.code.Standing.{Between, ItemAt};
 ghost use Rattle.shapes.specs.Shapes.{all, groupShape, isListOf, ruleShape};
 
 // Whether an item is a rule.

@@ -1,4 +1,5 @@
-//! Shapes of commands: answer 5.
+//! Shapes of commands, answer 5, and what is not carried, answer 6.
+pub mod carried;
 pub mod commands;
 pub mod forms;
 mod grammars;

@@ -4,7 +4,7 @@ use lexemes::code_at;
 use lexemes::codes::CONSTANT;
 use lexemes::codes::VARIABLE;
 ghost use mathlib.Core.Path.{_≡_};
-ghost use Rattle.lexemes.specs.Standing.{ItemAt};
+ghost use Rattle.lexemes.specs.code.Standing.{ItemAt};
 ghost use Rattle.shapes.specs.Shapes.{isPattern};
 
 // Whether a rule is `(Constant σ)` or `(Variable σ)`.

@@ -13,7 +13,7 @@ use lexemes::next_at;
 ghost use mathlib.Core.Path.{_≡_};
 ghost use mathlib.Core.Bool.{_&&_};
 ghost use Rattle.lexemes.specs.Lists.{indexed, isList};
-ghost use Rattle.lexemes.specs.Standing.{Between, ItemAt};
+ghost use Rattle.lexemes.specs.code.Standing.{Between, ItemAt};
 ghost use Rattle.shapes.specs.Shapes.{all, isListOf, pairShape, sortShape};
 
 // Whether an item is `(_ BitVec n)`.

@@ -16,7 +16,7 @@ use lexemes::next_at;
 ghost use mathlib.Core.Path.{_≡_};
 ghost use mathlib.Core.Bool.{false, not, _&&_};
 ghost use Rattle.lexemes.specs.Lists.{indexed, is, isList, item};
-ghost use Rattle.lexemes.specs.Standing.{Between, ItemAt, ListAt};
+ghost use Rattle.lexemes.specs.code.Standing.{Between, ItemAt, ListAt};
 ghost use Rattle.shapes.specs.Shapes.{applicationShape, headShape, termShape, termShapes};
 
 // Whether an item is `(_ extract i j)`.

@@ -1,19 +1,18 @@
 -- What is known after a `synth-fun`: one function more.
 use Prim.Native.Nat.{ℕ}
 use mathlib.Core.Bool.{_||_}
-use mathlib.Core.Path.{_≡_, refl}
+use mathlib.Core.Path.{_≡_}
 use mathlib.Core.List.{List, _∷_}
 use lib.ListN.{length}
-use Rattle.forest.specs.Forest.{count, none, tree}
 use Rattle.lexemes.specs.Lists.{Items, inside, is, item, nameOf}
-use Rattle.sorts.specs.Written.{sortOf}
-use Rattle.naming.specs.Scopes.{Function, namedSorts}
-use Rattle.declaring.specs.New.{namedBy}
+use Rattle.written_sorts.specs.Written.{sortOf}
+use Rattle.names.specs.Scopes.{Function, namedSorts}
+use Rattle.names.specs.New.{namedBy}
 use Rattle.grammars.specs.Grammars.{grammarOf}
 use Rattle.script.specs.Script.{Known, argumentsOf, knownAfter, viewOf}
-use Rattle.script.specs.Tables.{After, CommandOf}
+use Rattle.script.specs.code.Tables.{After, CommandOf}
 use Rattle.script.specs.declared.Progress.{Progress}
-use Rattle.synthesizing.proofs.Small.{synth-chosen}
+use Rattle.synth_fun.proofs.Small.{synth-chosen}
 
 -- The function that a `synth-fun` says.
 abbrev pub functionOf : Known → Items → Function
@@ -42,9 +41,3 @@ pub after-is : {text lexemes : List ℕ} {p : Progress} {i nowhere : ℕ} (of : 
     → After of ≡ withFunction (of .known) (of .here .command)
 unfolding knownAfter
 after-is of = let t = synth-chosen of in rw (t .declares, t .defines, t .synthesizes, t .constrains)
-
--- There is a name for each pair.
-pub named-long : (pairs : Items) → length (namedBy pairs) ≡ count pairs
-unfolding count namedBy
-named-long none = refl
-named-long (tree l ops more) = rw (named-long more)

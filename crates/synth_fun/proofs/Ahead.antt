@@ -8,24 +8,24 @@ use mathlib.Core.List.{List, [], _∷_, _++_, append-assoc, append-nil}
 use lib.Dec.{leb, ltb}
 use borrow.Author.Tests.{leb-false, le-ltb, ltb-true}
 use Rattle.forest.specs.Forest.{Forest, Node, count, join, nodesOf, none, tree}
-use Rattle.scanning.specs.Trees.{Lexeme, wordOf}
+use Rattle.words.specs.Trees.{Lexeme, wordOf}
 use Rattle.lexemes.specs.Lists.{Items, inside, isList, item, numeralOf}
-use Rattle.lexemes.specs.Standing.{Source, Stands, bracketed, ends, word}
+use Rattle.lexemes.specs.code.Standing.{Source, Stands, bracketed, ends, word}
 use Rattle.lexemes.proofs.Standing.{forward, here}
 use Rattle.shapes.specs.Shapes.{isPattern}
-use Rattle.sorts.specs.Written.{groupPlace, leastIn, pairPlace, rulePlace, sortPlace}
-use Rattle.sorts.specs.declared.Fault.the-variants.{TooWide}
-use Rattle.gathering.specs.Terms.{Raw, firstWord, isNode, nodeWord}
-use Rattle.faults.specs.Steps.{AllSingle, Rising}
-use Rattle.rules.specs.Rules.{Ruled, itemPast, nodesPast, rulePast, sides}
-use Rattle.heading.specs.Heads.{allowed, headerPast}
+use Rattle.written_sorts.specs.Written.{groupPlace, leastIn, pairPlace, rulePlace, sortPlace}
+use Rattle.written_sorts.specs.declared.Fault.the-variants.{TooWide}
+use Rattle.term_nodes.specs.Terms.{Raw, firstWord, isNode, nodeWord}
+use Rattle.term_faults.specs.code.Seeking.{AllSingle, Rising}
+use Rattle.term_nodes.specs.Rules.{Ruled, itemPast, nodesPast, rulePast, sides}
+use Rattle.headers.specs.Heads.{allowed, headerPast}
 use Rattle.grammars.specs.Grammars.{grammarPast}
 use Rattle.script.specs.Script.{limitPlace}
-use Rattle.script.specs.Tables.{CommandOf}
+use Rattle.script.specs.code.Tables.{CommandOf}
 use Rattle.script.specs.declared.Progress.{Progress}
 use Rattle.script.proofs.Places.{command-word}
-use Rattle.synthesizing.specs.Steps.{ruledBy}
-use Rattle.synthesizing.proofs.Small.{groups-amid, limit-is, rules-rising, rules-trees}
+use Rattle.synth_fun.specs.code.Synthesizing.{ruledBy}
+use Rattle.synth_fun.proofs.Small.{groups-amid, limit-is, rules-rising, rules-trees}
 
 -- The words of all items are n or behind it.
 unfoldable Ahead : (n : ℕ) → Items → Type 0

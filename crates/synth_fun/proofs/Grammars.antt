@@ -6,11 +6,11 @@ use lib.ListN.{length, length-map}
 use Rattle.forest.specs.Forest.{Forest, join, nodesOf, none, size, tree}
 use Rattle.forest.proofs.Nodes.{length-nodes}
 use Rattle.forest.proofs.Rows.{length-rows}
-use Rattle.grammar.specs.Derivation.{Item, Rule, rule}
-use Rattle.grammar.specs.Tables.{formTable, itemRow, rightSides, ruleTable}
-use Rattle.gathering.specs.Terms.{Raw}
-use Rattle.naming.specs.Scopes.{View, formsOf}
-use Rattle.rules.specs.Rules.{Ruled, sides, startTable}
+use Rattle.derivation.specs.Derivation.{Item, Rule, rule}
+use Rattle.derivation.specs.code.Tables.{formTable, itemRow, rightSides, ruleTable}
+use Rattle.term_nodes.specs.Terms.{Raw}
+use Rattle.names.specs.Scopes.{View, formsOf}
+use Rattle.term_nodes.specs.Rules.{Ruled, sides, startTable}
 
 -- How many numbers the table of forms has.
 pub length-forms : (F : Forest Item) → length (formTable F) ≡ 4 * size F

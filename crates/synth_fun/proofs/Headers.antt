@@ -4,15 +4,15 @@ use mathlib.Core.Path.{_≡_}
 use mathlib.Core.List.{List}
 use lib.ListN.{length}
 use Rattle.forest.specs.Forest.{count}
-use Rattle.lexemes.specs.Standing.{Between}
-use Rattle.lexemes.specs.Table.{nextAt}
+use Rattle.lexemes.specs.code.Standing.{Between}
+use Rattle.lexemes.specs.code.Table.{nextAt}
 use Rattle.lexemes.proofs.Listed.{item-ahead, item-room}
-use Rattle.sorts.specs.Steps.{SortAt, SynthFunAt}
-use Rattle.sorts.specs.Written.{sortOf}
-use Rattle.sorts.proofs.Commands.{grammar-pairs, header, header-sort}
-use Rattle.sorts.proofs.Parts.{list-between}
-use Rattle.heading.proofs.Parts.{arguments-ahead, arguments-room, items-between}
-use Rattle.synthesizing.specs.Steps.{HeaderOf}
+use Rattle.written_sorts.specs.code.Places.{SortAt, SynthFunAt}
+use Rattle.written_sorts.specs.Written.{sortOf}
+use Rattle.written_sorts.proofs.Commands.{grammar-pairs, header, header-sort}
+use Rattle.written_sorts.proofs.Parts.{list-between}
+use Rattle.headers.proofs.Parts.{arguments-ahead, arguments-room, items-between}
+use Rattle.synth_fun.specs.code.Synthesizing.{HeaderOf}
 
 module _ {lexemes : List ℕ} {at : ℕ} {arguments : ℕ} (ea : arguments ≡ nextAt lexemes (at + 2)) where
   -- The arguments stand within the table of lexemes.

@@ -8,25 +8,26 @@ use lib.ListN.{drop, getD, length, length-map, take}
 use lib.Seq.{drop-drop, getD-drop, length-sets, sets, take-at}
 use Rattle.forest.specs.Forest.{size}
 use Rattle.lexemes.specs.Lists.{inside}
-use Rattle.naming.specs.Scopes.{Defined, formsOf, signatureOf, namedSorts}
-use Rattle.naming.specs.Table.{ownArgumentRow, sortsFrom}
-use Rattle.rules.specs.Rules.{sides, startTable}
-use Rattle.rules.specs.declared.Gathered.{Gathered}
-use Rattle.rules.proofs.Listing.{length-starts}
-use Rattle.signatures.specs.Steps.{Listed, Signing, signatureRow}
-use Rattle.signatures.proofs.Signed.{back-kept, rows-grow, rows-kept}
-use Rattle.signatures.proofs.Sorted.{rows-before}
-use Rattle.signatures.proofs.Written.{before-written, drop-written, read-written}
+use Rattle.names.specs.Scopes.{Defined, formsOf, signatureOf, namedSorts}
+use Rattle.names.specs.code.Table.{ownArgumentRow, sortsFrom}
+use Rattle.term_nodes.specs.Rules.{sides, startTable}
+use Rattle.term_nodes.specs.declared.Gathered.{Gathered}
+use Rattle.term_nodes.proofs.Listing.{length-starts}
+use Rattle.script.specs.code.Signing.{Listed, Signing, signatureRow}
+use Rattle.script.proofs.Signed.{back-kept, rows-grow, rows-kept}
+use Rattle.script.proofs.Sorted.{rows-before}
+use Rattle.script.proofs.Written.{before-written, drop-written, read-written}
 use Rattle.script.specs.Script.{argumentsOf, viewOf}
-use Rattle.script.specs.Tables.{ArgumentsHold, GrammarHeld, GrammarsHold, PlacesHold, bodiesPlace, constraintsPlace, definedSignatures, definitionsOf}
-use Rattle.script.specs.Tables.{functionsPlace, placesLength, rulesPlace}
+use Rattle.script.specs.code.Tables.{ArgumentsHold, GrammarHeld, GrammarsHold, PlacesHold, bodiesPlace, constraintsPlace, definedSignatures, definitionsOf}
+use Rattle.script.specs.code.Tables.{functionsPlace, placesLength, rulesPlace}
 use Rattle.script.specs.declared.Progress.{Progress}
-use Rattle.synthesizing.specs.Steps.{Put, Putting, Unsorted, formsSaid, numbersOf, ownRules, ruledBy}
-use Rattle.synthesizing.specs.declared.Header.{Header}
-use Rattle.synthesizing.proofs.After.{after-is, functionOf, named-long, withFunction}
-use Rattle.synthesizing.proofs.Grammars.{forms-size, length-forms, said-long, sides-said, starts-said}
-use Rattle.synthesizing.proofs.Sorting.{forms-there, limits, same-behind}
-use Rattle.synthesizing.proofs.Kept.{Same, bodies-same, constraints-same, grammars-kept, part-before, rows-elsewhere}
+use Rattle.synth_fun.specs.code.Synthesizing.{Put, Putting, Unsorted, formsSaid, numbersOf, ownRules, ruledBy}
+use Rattle.synth_fun.specs.declared.Header.{Header}
+use Rattle.names.proofs.PairNames.{named-long}
+use Rattle.synth_fun.proofs.After.{after-is, functionOf, withFunction}
+use Rattle.synth_fun.proofs.Grammars.{forms-size, length-forms, said-long, sides-said, starts-said}
+use Rattle.synth_fun.proofs.Sorting.{forms-there, limits, same-behind}
+use Rattle.synth_fun.proofs.Kept.{Same, bodies-same, constraints-same, grammars-kept, part-before, rows-elsewhere}
 
 module _ {text lexemes names raw places forms : List ℕ} {p : Progress} {g : Gathered} {h : Header} {i nowhere : ℕ}
     (s : Unsorted text lexemes names raw places forms p g h i nowhere)

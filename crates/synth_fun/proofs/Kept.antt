@@ -6,16 +6,16 @@ use mathlib.Core.Path.{_≡_, refl, ap, _∙_}
 use mathlib.Core.List.{List, [], _∷_, map}
 use lib.ListN.{drop, getD, length, length-map, set, take}
 use lib.Seq.{drop-set-add, getD-drop, sets, take-set-le}
-use Rattle.forest.specs.Rows.{numberAt}
+use Rattle.forest.specs.code.Rows.{numberAt}
 use Rattle.terms.specs.Labels.{Terms}
 use Rattle.terms.specs.Sorts.{Definition, Signature}
-use Rattle.meaning.specs.Tables.{BodiesAt}
-use Rattle.sorting.specs.Tables.{RowsAre, allRows}
-use Rattle.naming.specs.Scopes.{Defined, Function, signatureOf}
-use Rattle.signatures.proofs.Signed.{row-same, rows-same}
+use Rattle.evaluation.specs.code.Tables.{BodiesAt}
+use Rattle.term_sorts.specs.code.Signatures.{RowsAre, allRows}
+use Rattle.names.specs.Scopes.{Defined, Function, signatureOf}
+use Rattle.script.proofs.Signed.{row-same, rows-same}
 use Rattle.script.specs.Script.{Known}
-use Rattle.script.specs.Tables.{ConstraintsAt, Counted, GrammarHeld, GrammarsHold, PlacesHold, bodiesPlace, constraintsPlace, definedSignatures, definitionsOf}
-use Rattle.script.specs.Tables.{functionsPlace, rulesPlace}
+use Rattle.script.specs.code.Tables.{ConstraintsAt, Counted, GrammarHeld, GrammarsHold, PlacesHold, bodiesPlace, constraintsPlace, definedSignatures, definitionsOf}
+use Rattle.script.specs.code.Tables.{functionsPlace, rulesPlace}
 use Rattle.script.specs.declared.Progress.{Progress}
 
 -- A part of a list before a number that is written.

@@ -1,4 +1,3 @@
-pub mod Within
 pub mod Small
 pub mod Ahead
 pub mod Headers

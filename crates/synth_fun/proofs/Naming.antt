@@ -8,29 +8,30 @@ use lib.ListN.{length}
 use Rattle.forest.specs.Forest.{count, nodesOf}
 use Rattle.forest.specs.Lists.{sameBytes}
 use Rattle.lexemes.specs.Lists.{Items, inside, item, nameOf}
-use Rattle.sorts.specs.Written.{grammarSorts, headerPlace}
-use Rattle.sorts.specs.declared.Fault.the-variants.{Unknown}
-use Rattle.sorts.proofs.Commands.{synth-fun-parts}
-use Rattle.naming.specs.Scopes.{View, isNamed, namesOf}
-use Rattle.naming.specs.Unknown.{unknownIn}
-use Rattle.naming.specs.Table.{definedRow, functionRow, nameIn, namesFrom, ownArgumentRow, variableRow}
-use Rattle.naming.proofs.Putting.{SameRows}
-use Rattle.declaring.specs.Steps.{namesIn}
-use Rattle.declaring.specs.declared.Scope.{Scope}
-use Rattle.declaring.proofs.Members.{SameNames, named-both, same-members, same-name}
-use Rattle.rules.specs.Rules.{rulesIn, sides}
-use Rattle.heading.specs.Heads.{headerNames}
-use Rattle.heading.specs.Steps.{HeadAt, HeadNamed, grownBy}
-use Rattle.heading.proofs.Grown.{same-names}
+use Rattle.written_sorts.specs.Written.{grammarSorts, headerPlace}
+use Rattle.written_sorts.specs.declared.Fault.the-variants.{Unknown}
+use Rattle.written_sorts.proofs.Commands.{synth-fun-parts}
+use Rattle.names.specs.Scopes.{View, isNamed, namesOf}
+use Rattle.names.specs.Unknown.{unknownIn}
+use Rattle.names.specs.code.Table.{definedRow, functionRow, nameIn, namesFrom, ownArgumentRow, variableRow}
+use Rattle.names.proofs.Putting.{SameRows}
+use Rattle.names.specs.code.NewNames.{namesIn}
+use Rattle.names.specs.declared.Scope.{Scope}
+use Rattle.names.proofs.Members.{SameNames, named-both, same-members, same-name}
+use Rattle.term_nodes.specs.Rules.{rulesIn, sides}
+use Rattle.headers.specs.Heads.{headerNames}
+use Rattle.headers.specs.code.Heading.{HeadAt, HeadNamed, grownBy}
+use Rattle.headers.proofs.Grown.{same-names}
 use Rattle.grammars.specs.Grammars.{grammarNames}
-use Rattle.grammars.specs.Steps.{GrammarNamed, Naming}
+use Rattle.grammars.specs.code.Reading.{GrammarNamed, Naming}
 use Rattle.script.specs.Script.{argumentsOf, scope, viewOf}
-use Rattle.script.specs.Tables.{ArgumentsHold, NamesHold}
+use Rattle.script.specs.code.Tables.{ArgumentsHold, NamesHold}
 use Rattle.script.specs.declared.Progress.{Progress}
 use Rattle.script.proofs.Names.{SameArguments, arguments-kept, few-before, one-more-in-order, same-before, same-behind, same-scope, same-through, scopeBefore}
-use Rattle.synthesizing.specs.Steps.{NamesFound, Unnamed}
-use Rattle.synthesizing.proofs.Small.{Small, name-is, small, synth-named, synth-shaped}
-use Rattle.synthesizing.proofs.After.{after-is, named-long, withFunction}
+use Rattle.synth_fun.specs.code.Synthesizing.{NamesFound, Unnamed}
+use Rattle.synth_fun.proofs.Small.{Small, name-is, small, synth-named, synth-shaped}
+use Rattle.names.proofs.PairNames.{named-long}
+use Rattle.synth_fun.proofs.After.{after-is, withFunction}
 
 -- The names in scope before the non-terminals: the command's own and its arguments too.
 abbrev pub scopeWithin : Progress → (arguments : ℕ) → Scope

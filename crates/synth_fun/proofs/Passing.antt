@@ -4,25 +4,25 @@ use native.Mathlib.Omega.{arith}
 use mathlib.Core.Path.{_≡_, refl}
 use mathlib.Core.List.{List}
 use lib.ListN.{drop, length, take}
-use Rattle.bodies.specs.Steps.{noSorts}
-use Rattle.sorts.specs.Steps.{HeaderAt}
-use Rattle.sorts.specs.Written.{headerPlace}
-use Rattle.sorts.specs.declared.Fault.the-variants.{Empty}
-use Rattle.faults.specs.Steps.{RulesFound, RulesSought}
-use Rattle.heading.specs.Heads.{allowed}
-use Rattle.grammars.specs.Steps.{Declared, ListsTested, Sorted, Sorting}
-use Rattle.rules.specs.declared.Gathered.{Gathered}
-use Rattle.signatures.specs.Steps.{Listed}
+use Rattle.bodies.specs.code.Bodies.{noSorts}
+use Rattle.written_sorts.specs.code.Places.{HeaderAt}
+use Rattle.written_sorts.specs.Written.{headerPlace}
+use Rattle.written_sorts.specs.declared.Fault.the-variants.{Empty}
+use Rattle.term_faults.specs.code.Seeking.{RulesFound, RulesSought}
+use Rattle.headers.specs.Heads.{allowed}
+use Rattle.grammars.specs.code.Reading.{Declared, ListsTested, Sorted, Sorting}
+use Rattle.term_nodes.specs.declared.Gathered.{Gathered}
+use Rattle.script.specs.code.Signing.{Listed}
 use Rattle.script.specs.Script.{sortingPlace}
-use Rattle.script.specs.Tables.{After, Tested}
+use Rattle.script.specs.code.Tables.{After, Tested}
 use Rattle.script.specs.declared.Progress.{Progress}
 use Rattle.script.specs.declared.Verdict.{Verdict}
 use Rattle.script.proofs.Verdicts.{says-grammar, says-passed, says-sorting}
-use Rattle.synthesizing.specs.Steps.{Put, Synthesized, Synthesizing, Unsorted}
-use Rattle.synthesizing.specs.declared.Header.{Header}
-use Rattle.synthesizing.proofs.After.{after-is}
-use Rattle.synthesizing.proofs.Sorting.{forms-long, fromRules, grammar-place, sorting-place}
-use Rattle.synthesizing.proofs.Holding.{grammars-grow, places-grow}
+use Rattle.synth_fun.specs.code.Synthesizing.{Put, Synthesized, Synthesizing, Unsorted}
+use Rattle.synth_fun.specs.declared.Header.{Header}
+use Rattle.synth_fun.proofs.After.{after-is}
+use Rattle.synth_fun.proofs.Sorting.{forms-long, fromRules, grammar-place, sorting-place}
+use Rattle.synth_fun.proofs.Holding.{grammars-grow, places-grow}
 
 -- A refusal changes nothing that is known, and keeps the lengths of the tables.
 pub refused-so : {text lexemes names raw places forms : List ℕ} {p : Progress} {i nowhere : ℕ}

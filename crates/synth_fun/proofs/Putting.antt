@@ -5,13 +5,13 @@ use mathlib.Core.Path.{_≡_, _∙_}
 use mathlib.Core.List.{List, [], _∷_}
 use lib.ListN.{set}
 use lib.Seq.{sets}
-use Rattle.naming.specs.Table.{ownArgumentRow}
-use Rattle.rules.specs.declared.Gathered.{Gathered}
-use Rattle.signatures.specs.Steps.{SignedIn}
-use Rattle.script.specs.Tables.{functionsPlace}
+use Rattle.names.specs.code.Table.{ownArgumentRow}
+use Rattle.term_nodes.specs.declared.Gathered.{Gathered}
+use Rattle.script.specs.code.Signing.{SignedIn}
+use Rattle.script.specs.code.Tables.{functionsPlace}
 use Rattle.script.specs.declared.Progress.{Progress}
-use Rattle.synthesizing.specs.Steps.{Put, numbersOf}
-use Rattle.synthesizing.specs.declared.Header.{Header}
+use Rattle.synth_fun.specs.code.Synthesizing.{Put, numbersOf}
+use Rattle.synth_fun.specs.declared.Header.{Header}
 
 -- Four numbers, one after the other.
 pub four-written : (l : List ℕ) (at a b c d : ℕ) → set (set (set (set l at a) (at + 1) b) (at + 2) c) (at + 3) d ≡ sets l at (a ∷ b ∷ c ∷ d ∷ [])

@@ -6,13 +6,13 @@ use mathlib.Core.Path.{_≡_, refl, sym, ap, _∙_}
 use mathlib.Core.List.{List, _++_, append-assoc}
 use lib.ListN.{drop, length, take}
 use lib.Seq.{drop-drop, getD-drop, length-sets, sets, sets-eq}
-use Rattle.signatures.proofs.Written.{before-written}
-use Rattle.script.specs.Tables.{functionsPlace, rulesPlace}
+use Rattle.script.proofs.Written.{before-written}
+use Rattle.script.specs.code.Tables.{functionsPlace, rulesPlace}
 use Rattle.script.specs.declared.Progress.{Progress}
 use Rattle.script.specs.declared.Verdict.{Verdict}
-use Rattle.synthesizing.specs.Steps.{Synthesized, Synthesizing, ownRules}
-use Rattle.synthesizing.proofs.Kept.{Same, grammars-kept, part-before, places-kept}
-use Rattle.synthesizing.proofs.Sorting.{written-there}
+use Rattle.synth_fun.specs.code.Synthesizing.{Synthesized, Synthesizing, ownRules}
+use Rattle.synth_fun.proofs.Kept.{Same, grammars-kept, part-before, places-kept}
+use Rattle.synth_fun.proofs.Sorting.{written-there}
 
 -- The part of the table of places for the rules of one function more.
 abbrev pub rulesPart : Progress → (places : List ℕ) → List ℕ

@@ -9,36 +9,36 @@ use lib.ListN.{length}
 use borrow.Author.Tests.{eqb-true, ltb-true}
 use Rattle.forest.specs.Forest.{count, size}
 use Rattle.forest.proofs.Bools.{and-right}
-use Rattle.bits.specs.Sorts.{maxWidth}
+use Rattle.operators.specs.Sorts.{maxWidth}
 use Rattle.lexemes.specs.Lists.{Items, inside, is, isList, isSymbol, item, nameOf}
-use Rattle.lexemes.specs.Table.{codeOf, nextAt}
+use Rattle.lexemes.specs.code.Table.{codeOf, nextAt}
 use Rattle.lexemes.proofs.ByCode.{codeFor, symbol-code, word-code}
 use Rattle.lexemes.proofs.Standing.{forward, here}
 use Rattle.shapes.specs.Shapes.{all, commandShape, groupShape, synthFunShape}
-use Rattle.sorts.specs.Steps.{SynthFunAt}
-use Rattle.sorts.specs.Written.{grammarSorts, headerPlace, leastIn, pairPlace, sortOf}
-use Rattle.sorts.specs.declared.Fault.the-variants.{Empty, TooWide}
-use Rattle.sorts.proofs.Commands.{synth-fun-parts}
-use Rattle.naming.specs.Scopes.{namesOf}
-use Rattle.naming.specs.Steps.{sourceOf}
-use Rattle.declaring.specs.Steps.{AllNarrow}
-use Rattle.heading.specs.Heads.{allowed, headerNames, headerPast}
+use Rattle.written_sorts.specs.code.Places.{SynthFunAt}
+use Rattle.written_sorts.specs.Written.{grammarSorts, headerPlace, leastIn, pairPlace, sortOf}
+use Rattle.written_sorts.specs.declared.Fault.the-variants.{Empty, TooWide}
+use Rattle.written_sorts.proofs.Commands.{synth-fun-parts}
+use Rattle.names.specs.Scopes.{namesOf}
+use Rattle.names.specs.code.Lookup.{sourceOf}
+use Rattle.names.specs.code.NewNames.{AllNarrow}
+use Rattle.headers.specs.Heads.{allowed, headerNames, headerPast}
 use Rattle.grammars.specs.Grammars.{grammarFault, grammarMisfit, grammarNames, grammarPast}
-use Rattle.rules.specs.Rules.{itemPast, rulePast, sides}
-use Rattle.faults.specs.Steps.{AllSingle, Rising}
-use Rattle.gathering.specs.Steps.{AllSay}
-use Rattle.standing.proofs.Rising.{rising-wider, rules-rise}
-use Rattle.standing.proofs.Said.{rules-say, rules-single}
+use Rattle.term_nodes.specs.Rules.{itemPast, rulePast, sides}
+use Rattle.term_faults.specs.code.Seeking.{AllSingle, Rising}
+use Rattle.term_nodes.specs.code.Gathering.{AllSay}
+use Rattle.term_faults.proofs.Rising.{rising-wider, rules-rise}
+use Rattle.term_faults.proofs.Said.{rules-say, rules-single}
 use Rattle.script.specs.Limits.{commandPast}
 use Rattle.script.specs.Script.{argumentsOf, grammarPlace, limitPlace, namePlace, scope, sortingPlace, viewOf}
-use Rattle.script.specs.Tables.{CommandOf}
+use Rattle.script.specs.code.Tables.{CommandOf}
 use Rattle.script.specs.declared.Progress.{Progress}
 use Rattle.script.proofs.Commands.{Chosen, chosen}
 use Rattle.script.proofs.Headers.{head-narrow, pairs-narrow}
 use Rattle.script.proofs.Places.{command-below, command-word, inside-below, no-fault}
-use Rattle.synthesizing.specs.Steps.{ruledBy}
+use Rattle.synth_fun.specs.code.Synthesizing.{ruledBy}
 use Rattle.grammars.proofs.Within.{rising-few}
-use Rattle.synthesizing.proofs.Within.{Amid, amid, items-few, past-neither, past-none, rules-few}
+use Rattle.script.proofs.Within.{Amid, amid, items-few, past-neither, past-none, rules-few}
 
 -- What a `synth-fun` keeps to within its limits.
 pub record Small (c : Items) (functions : ℕ) : Type 0 where

@@ -7,41 +7,41 @@ use mathlib.Core.List.{List, [], _∷_, _++_, append-assoc}
 use lib.ListN.{drop, getD, length, length-drop, length-map, length-replicate, take}
 use lib.Seq.{drop-at, drop-drop, length-sets, length-take-le, sets, sets-eq, take-all}
 use Rattle.forest.specs.Forest.{Node, count, nodesOf, none, tree}
-use Rattle.bits.specs.Sorts.{maxWidth}
-use Rattle.sorting.specs.Forms.{sortColumn}
-use Rattle.sorting.specs.Tables.{RowsAre, SortsAre}
+use Rattle.operators.specs.Sorts.{maxWidth}
+use Rattle.term_sorts.specs.Forms.{sortColumn}
+use Rattle.term_sorts.specs.code.Signatures.{RowsAre, SortsAre}
 use Rattle.lexemes.specs.Lists.{Items, inside, item, nameOf}
-use Rattle.bodies.specs.Steps.{noSorts}
-use Rattle.gathering.specs.Terms.{Raw}
-use Rattle.naming.specs.Scopes.{Defined, View, formsOf, namesOf, namedSorts}
-use Rattle.naming.specs.Steps.{sourceOf}
-use Rattle.naming.specs.Table.{nonTerminalRow, sortIn, sortsFrom}
-use Rattle.naming.specs.Unknown.{unknownIn}
-use Rattle.declaring.specs.New.{namedBy, newPairs}
-use Rattle.declaring.specs.Steps.{AllNarrow}
-use Rattle.sorts.specs.Steps.{HeaderAt}
-use Rattle.sorts.specs.Written.{grammarSorts, headerPlace}
-use Rattle.sorts.specs.declared.Fault.the-variants.{Empty, Unknown}
-use Rattle.sorts.proofs.Commands.{header}
-use Rattle.faults.specs.Faults.{scopeOf}
-use Rattle.faults.specs.Steps.{RulesFound, RulesSought, Signed}
-use Rattle.heading.specs.Heads.{headerNames}
+use Rattle.bodies.specs.code.Bodies.{noSorts}
+use Rattle.term_nodes.specs.Terms.{Raw}
+use Rattle.names.specs.Scopes.{Defined, View, formsOf, namesOf, namedSorts}
+use Rattle.names.specs.code.Lookup.{sourceOf}
+use Rattle.names.specs.code.Table.{nonTerminalRow, sortIn, sortsFrom}
+use Rattle.names.specs.Unknown.{unknownIn}
+use Rattle.names.specs.New.{namedBy, newPairs}
+use Rattle.names.specs.code.NewNames.{AllNarrow}
+use Rattle.written_sorts.specs.code.Places.{HeaderAt}
+use Rattle.written_sorts.specs.Written.{grammarSorts, headerPlace}
+use Rattle.written_sorts.specs.declared.Fault.the-variants.{Empty, Unknown}
+use Rattle.written_sorts.proofs.Commands.{header}
+use Rattle.term_faults.specs.Faults.{scopeOf}
+use Rattle.term_faults.specs.code.Seeking.{RulesFound, RulesSought, Signed}
+use Rattle.headers.specs.Heads.{headerNames}
 use Rattle.grammars.specs.Grammars.{grammarNames}
-use Rattle.grammars.specs.Steps.{Declared, ListsTested, Sorted, Sorting}
-use Rattle.rules.specs.Rules.{sides, startTable}
-use Rattle.rules.specs.declared.Gathered.{Gathered}
-use Rattle.signatures.specs.Steps.{Listed, Listing}
-use Rattle.signatures.proofs.Sorted.{rows-before}
+use Rattle.grammars.specs.code.Reading.{Declared, ListsTested, Sorted, Sorting}
+use Rattle.term_nodes.specs.Rules.{sides, startTable}
+use Rattle.term_nodes.specs.declared.Gathered.{Gathered}
+use Rattle.script.specs.code.Signing.{Listed, Listing}
+use Rattle.script.proofs.Sorted.{rows-before}
 use Rattle.script.specs.Script.{Known, argumentsOf, grammarPlace, scope, sortingPlace, viewOf}
-use Rattle.script.specs.Tables.{definedSignatures}
+use Rattle.script.specs.code.Tables.{definedSignatures}
 use Rattle.script.specs.declared.Progress.{Progress}
-use Rattle.synthesizing.specs.Steps.{Unsorted, formsSaid, ownRules, ruledBy}
-use Rattle.synthesizing.specs.declared.Header.{Header}
-use Rattle.synthesizing.proofs.Within.{past-neither, past-none}
-use Rattle.synthesizing.proofs.Small.{Small, closes-within, grammar-is, name-is, nodes-rise, nodes-say, rules-trees, small, sorting-is, synth-at}
-use Rattle.synthesizing.proofs.Small.{synth-named, synth-shaped}
-use Rattle.synthesizing.proofs.After.{named-long}
-use Rattle.synthesizing.proofs.Grammars.{forms-size, length-forms}
+use Rattle.synth_fun.specs.code.Synthesizing.{Unsorted, formsSaid, ownRules, ruledBy}
+use Rattle.synth_fun.specs.declared.Header.{Header}
+use Rattle.script.proofs.Within.{past-neither, past-none}
+use Rattle.synth_fun.proofs.Small.{Small, closes-within, grammar-is, name-is, nodes-rise, nodes-say, rules-trees, small, sorting-is, synth-at}
+use Rattle.synth_fun.proofs.Small.{synth-named, synth-shaped}
+use Rattle.names.proofs.PairNames.{named-long}
+use Rattle.synth_fun.proofs.Grammars.{forms-size, length-forms}
 
 -- No place is past nowhere.
 unknown-most : (nowhere : ℕ) (view : View) (nodes : List (Node Raw)) → unknownIn nowhere view nodes ≤ nowhere

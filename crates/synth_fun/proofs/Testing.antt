@@ -8,27 +8,27 @@ use lib.Seq.{length-sets, length-take-le}
 use borrow.Author.Tests.{lt-ltb}
 use Rattle.forest.specs.Forest.{Forest, nodesOf}
 use Rattle.forest.proofs.Rows.{length-rows}
-use Rattle.gathering.specs.Table.{rawRow, rawTable, uncounted, uncountedTable}
-use Rattle.gathering.specs.Terms.{Raw}
-use Rattle.sorts.specs.Steps.{HeaderAt, SynthFunAt}
-use Rattle.sorts.proofs.Commands.{header}
-use Rattle.heading.specs.Heads.{allowed}
-use Rattle.heading.specs.Steps.{HeadLimited}
-use Rattle.grammars.specs.Steps.{GrammarAt, Limited}
-use Rattle.rules.specs.Rules.{sides, startTable}
-use Rattle.rules.specs.declared.Gathered.{Gathered}
+use Rattle.term_nodes.specs.code.Table.{rawRow, rawTable, uncounted, uncountedTable}
+use Rattle.term_nodes.specs.Terms.{Raw}
+use Rattle.written_sorts.specs.code.Places.{HeaderAt, SynthFunAt}
+use Rattle.written_sorts.proofs.Commands.{header}
+use Rattle.headers.specs.Heads.{allowed}
+use Rattle.headers.specs.code.Heading.{HeadLimited}
+use Rattle.grammars.specs.code.Reading.{GrammarAt, Limited}
+use Rattle.term_nodes.specs.Rules.{sides, startTable}
+use Rattle.term_nodes.specs.declared.Gathered.{Gathered}
 use Rattle.script.specs.Script.{limitPlace}
-use Rattle.script.specs.Tables.{After}
+use Rattle.script.specs.code.Tables.{After}
 use Rattle.script.specs.declared.Progress.{Progress}
 use Rattle.script.specs.declared.Verdict.{Verdict}
 use Rattle.script.proofs.Places.{command-word}
 use Rattle.script.proofs.Verdicts.{says-limit, says-name}
-use Rattle.synthesizing.specs.Steps.{Gathering, HeaderOf, NamesFound, Synthesized, Synthesizing, Unnamed, Unsorted, formsSaid, ownRules, ruledBy}
-use Rattle.synthesizing.specs.declared.Header.{Header}
-use Rattle.synthesizing.proofs.Small.{closes-next, closes-within, limit-is, nodes-within, small, synth-at}
-use Rattle.synthesizing.proofs.Ahead.{command-first}
-use Rattle.synthesizing.proofs.Ruling.{found-still, own-room, rules-stand, rulesPart, still, withRules}
-use Rattle.synthesizing.proofs.Passing.{refused-so}
+use Rattle.synth_fun.specs.code.Synthesizing.{Gathering, HeaderOf, NamesFound, Synthesized, Synthesizing, Unnamed, Unsorted, formsSaid, ownRules, ruledBy}
+use Rattle.synth_fun.specs.declared.Header.{Header}
+use Rattle.synth_fun.proofs.Small.{closes-next, closes-within, limit-is, nodes-within, small, synth-at}
+use Rattle.synth_fun.proofs.Ahead.{command-first}
+use Rattle.synth_fun.proofs.Ruling.{found-still, own-room, rules-stand, rulesPart, still, withRules}
+use Rattle.synth_fun.proofs.Passing.{refused-so}
 
 -- The table of nodes is as long before they are counted.
 tables-long : (F : Forest Raw) → length (rawTable F) ≡ length (uncountedTable F)

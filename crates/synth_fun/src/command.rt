@@ -2,11 +2,11 @@
 use crate::name_tests::names_tested;
 use crate::rows::RULES;
 use grammars::read::grammar_past;
-use heading::heads::head_past;
+use headers::heads::head_past;
 use script::Progress;
 use script::Verdict;
-use sorts::places::least;
-ghost use Rattle.synthesizing.specs.Steps.{Synthesized, Synthesizing};
+use written_sorts::places::least;
+ghost use Rattle.synth_fun.specs.code.Synthesizing.{Synthesized, Synthesizing};
 
 // The `synth-fun` at a word: its name, signature, arguments, rules and forms stand in the tables where it passes.
 pub fn synth_fun(

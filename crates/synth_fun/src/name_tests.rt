@@ -1,19 +1,19 @@
 //! The test of the names of the command, before those of its sorts.
 use crate::Header;
 use crate::sort_tests::sorts_tested;
-use declaring::Scope;
 use grammars::read::grammar_names;
-use heading::heads::head_names;
+use headers::heads::head_names;
 use lexemes::items::count_items;
 use lexemes::next_at;
-use naming::table::OWN_ARGUMENTS;
-use rules::Gathered;
+use names::Scope;
+use names::table::OWN_ARGUMENTS;
 use script::Progress;
 use script::Verdict;
-use sorts::places::least;
-use sorts::places::sort_of;
-ghost use Rattle.sorts.specs.Steps.{SynthFunAt};
-ghost use Rattle.synthesizing.specs.Steps.{Gathering, HeaderOf, NamesFound, Synthesized, Unnamed};
+use term_nodes::Gathered;
+use written_sorts::places::least;
+use written_sorts::places::sort_of;
+ghost use Rattle.written_sorts.specs.code.Places.{SynthFunAt};
+ghost use Rattle.synth_fun.specs.code.Synthesizing.{Gathering, HeaderOf, NamesFound, Synthesized, Unnamed};
 
 // How many arguments and non-terminals the `synth-fun` at a word declares, and the sort of its result.
 fn header_of(lexemes: &[u64], at: usize) -> Header

@@ -1,14 +1,14 @@
 //! What the table of places has of a synthesized function: its signature, its numbers and its rules.
 use crate::Header;
-use naming::table::OWN_ARGUMENTS;
-use rules::Gathered;
+use names::table::OWN_ARGUMENTS;
 use script::Progress;
-use signatures::rows::put_signature;
+use script::signatures::put_signature;
+use term_nodes::Gathered;
 ghost use mathlib.Core.Path.{_≡_};
 ghost use Prim.Native.Nat.{_+_, _*_, _≤_};
 ghost use lib.ListN.{length};
 ghost use lib.Seq.{sets};
-ghost use Rattle.synthesizing.specs.Steps.{Put, Putting, numbersOf};
+ghost use Rattle.synth_fun.specs.code.Synthesizing.{Put, Putting, numbersOf};
 
 // The row of the signature of the first synthesized function.
 const SIGNATURES: usize = 32;

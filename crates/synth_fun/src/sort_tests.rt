@@ -2,19 +2,19 @@
 use crate::Header;
 use crate::rows::RULES;
 use crate::rows::put_function;
-use faults::grammars::rules_misfit;
 use grammars::read::grammar_sorts;
 use grammars::read::lists_misfit;
-use rules::Gathered;
 use script::Progress;
 use script::Verdict;
-use signatures::rows::put_sorts;
-use sorts::Fault;
-use sorts::headers::header_place;
-use sorts::places::least;
+use script::signatures::put_sorts;
+use term_faults::grammars::rules_misfit;
+use term_nodes::Gathered;
+use written_sorts::Fault;
+use written_sorts::headers::header_place;
+use written_sorts::places::least;
 ghost use mathlib.Core.Path.{_≡_};
-ghost use Rattle.bodies.specs.Steps.{noSorts};
-ghost use Rattle.synthesizing.specs.Steps.{Synthesized, Unsorted};
+ghost use Rattle.bodies.specs.code.Bodies.{noSorts};
+ghost use Rattle.synth_fun.specs.code.Synthesizing.{Synthesized, Unsorted};
 
 // The column of sorts before it is filled.
 fn no_sorts() -> [u64; 4096]

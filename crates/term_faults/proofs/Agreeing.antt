@@ -12,13 +12,13 @@ use Rattle.forest.proofs.Laws.{from-one, from-over}
 use Rattle.forest.proofs.Nodes.{node-at}
 use Rattle.forest.proofs.Rows.{row-at}
 use Rattle.terms.specs.Sorts.{withSort}
-use Rattle.sorting.specs.Forms.{faultFrom, formSorts, sorted, treeSort}
-use Rattle.gathering.specs.Table.{firstAt, rawRow, rawTable}
-use Rattle.gathering.specs.Terms.{Raw, firstWord}
-use Rattle.naming.specs.Scopes.{View, formsOf, itemOr, means}
-use Rattle.faults.specs.Faults.{scopeOf, termFault}
-use Rattle.faults.specs.Steps.{Rising}
-use Rattle.faults.proofs.Forms.{size-form}
+use Rattle.term_sorts.specs.Forms.{faultFrom, formSorts, sorted, treeSort}
+use Rattle.term_nodes.specs.code.Table.{firstAt, rawRow, rawTable}
+use Rattle.term_nodes.specs.Terms.{Raw, firstWord}
+use Rattle.names.specs.Scopes.{View, formsOf, itemOr, means}
+use Rattle.term_faults.specs.Faults.{scopeOf, termFault}
+use Rattle.term_faults.specs.code.Seeking.{Rising}
+use Rattle.term_faults.proofs.Forms.{size-form}
 
 -- The first word of the node at a cursor.
 pub first-word : (F : Forest Raw) (rest : List ℕ) {raw : List ℕ} → raw ≡ rawTable F ++ rest → (node : ℕ) (r : Raw) (ops later : Forest Raw)

@@ -12,22 +12,22 @@ use lib.ListN.{drop, getD, length, drop-of-length-le}
 use lib.Pow.{pow-add, pow-mono}
 use Rattle.forest.proofs.Bools.{and-left, and-right}
 use Rattle.forest.proofs.Lists.{drop-next}
-use Rattle.bits.specs.Sorts.{Fit}
-use Rattle.spelling.specs.Bytes.{binaryDigit, digit, hexDigit, uncarried}
-use Rattle.spelling.specs.Kinds.{allIn, formed, hashed, inClass, kindOf, literal as literalOf, numeral as numeralOf, spelled, symbol as symbolOf}
-use Rattle.spelling.specs.Steps.{digitsBelow}
-use Rattle.spelling.specs.declared.Class.{Class}
-use Rattle.spelling.specs.declared.Class.the-variants.{BinaryDigits, Digits, HexDigits}
-use Rattle.spelling.specs.declared.Kind.{Kind}
-use Rattle.spelling.proofs.Digits.{all-below, below-goes, spell-more}
-use Rattle.scanning.specs.Table.{valueOf, widthOf}
-use Rattle.scanning.specs.Trees.{bytesOf}
-use Rattle.scanning.specs.Words.{Word, bytesAt, wordAt, wordsOf}
-use Rattle.lexemes.specs.Table.{kindCode, literalCode, numeralCode}
+use Rattle.operators.specs.Sorts.{Fit}
+use Rattle.word_kinds.specs.Bytes.{binaryDigit, digit, hexDigit, uncarried}
+use Rattle.word_kinds.specs.Kinds.{allIn, formed, hashed, inClass, kindOf, literal as literalOf, numeral as numeralOf, spelled, symbol as symbolOf}
+use Rattle.word_kinds.specs.code.Digits.{digitsBelow}
+use Rattle.word_kinds.specs.declared.Class.{Class}
+use Rattle.word_kinds.specs.declared.Class.the-variants.{BinaryDigits, Digits, HexDigits}
+use Rattle.word_kinds.specs.declared.Kind.{Kind}
+use Rattle.word_kinds.proofs.Digits.{all-below, below-goes, spell-more}
+use Rattle.words.specs.code.Table.{valueOf, widthOf}
+use Rattle.words.specs.Trees.{bytesOf}
+use Rattle.words.specs.Words.{Word, bytesAt, wordAt, wordsOf}
+use Rattle.lexemes.specs.code.Table.{kindCode, literalCode, numeralCode}
 use Rattle.lexemes.proofs.Said.{found}
-use Rattle.gathering.specs.Terms.{cases, writtenOf}
-use Rattle.naming.specs.Steps.{mostWritten}
-use Rattle.naming.specs.Table.{longest}
+use Rattle.term_nodes.specs.Terms.{cases, writtenOf}
+use Rattle.names.specs.code.Lookup.{mostWritten}
+use Rattle.names.specs.code.Table.{longest}
 
 -- ---- the number that digits spell
 

@@ -2,9 +2,9 @@
 use Prim.Native.Nat.{ℕ, zero, suc}
 use mathlib.Core.Path.{_≡_, refl, sym, ap, _∙_}
 use Rattle.forest.specs.Forest.{Forest, from, join, none, size, tree}
-use Rattle.grammar.specs.Derivation.{Item}
-use Rattle.gathering.specs.Terms.{Raw}
-use Rattle.naming.specs.Scopes.{View, formsOf, itemOr, means}
+use Rattle.derivation.specs.Derivation.{Item}
+use Rattle.term_nodes.specs.Terms.{Raw}
+use Rattle.names.specs.Scopes.{View, formsOf, itemOr, means}
 
 -- What stands from the first node on is all.
 pub from-first : (F : Forest Raw) → from F 0 ≡ F

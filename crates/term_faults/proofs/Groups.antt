@@ -7,13 +7,13 @@ use mathlib.Core.List.{List, [], _∷_, _++_}
 use lib.Dec.{eqb}
 use Rattle.forest.specs.Forest.{count, none, tree}
 use Rattle.forest.proofs.Bools.{and-left, and-right}
-use Rattle.scanning.specs.Trees.{Lexeme, list, wordOf}
+use Rattle.words.specs.Trees.{Lexeme, list, wordOf}
 use Rattle.lexemes.specs.Lists.{Items, inside, isList, isSymbol, item}
-use Rattle.lexemes.specs.Standing.{Source, Stands, bracketed, ends, word}
+use Rattle.lexemes.specs.code.Standing.{Source, Stands, bracketed, ends, word}
 use Rattle.lexemes.proofs.Standing.{by-itself, forward, here}
 use Rattle.shapes.specs.Shapes.{all, groupShape, ruleShape, sortShape}
-use Rattle.gathering.specs.Terms.{rawRule}
-use Rattle.rules.specs.Rules.{Ruled, rulesIn, rulesOf}
+use Rattle.term_nodes.specs.Terms.{rawRule}
+use Rattle.term_nodes.specs.Rules.{Ruled, rulesIn, rulesOf}
 
 -- The rule of the non-terminal A that an item is.
 abbrev pub ruleOf : (A : ℕ) → Lexeme → Items → Ruled

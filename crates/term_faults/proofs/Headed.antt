@@ -9,16 +9,16 @@ use lib.Dec.{leb}
 use Rattle.forest.specs.Forest.{Forest, count, join, none, tree}
 use Rattle.forest.specs.Lists.{sameBytes}
 use Rattle.forest.proofs.Bools.{and-left, and-right, or-right}
-use Rattle.scanning.specs.Trees.{Lexeme, list, literal, numeral, symbol}
-use Rattle.reserved.specs.Reserved.{isOneOf, isWord}
+use Rattle.words.specs.Trees.{Lexeme, list, literal, numeral, symbol}
+use Rattle.lexemes.specs.Reserved.{isOneOf, isWord}
 use Rattle.lexemes.specs.Lists.{Items, inside, is, isList, item}
-use Rattle.lexemes.specs.Standing.{Source, Stands, bracketed, ends, word}
+use Rattle.lexemes.specs.code.Standing.{Source, Stands, bracketed, ends, word}
 use Rattle.shapes.specs.Shapes.{all, applicationShape, groupShape, headShape, isPattern, ruleShape, termShapes}
-use Rattle.gathering.specs.Terms.{Raw, headedBy, operandsOf, rawOf, rawRule, rawTerms}
-use Rattle.gathering.proofs.TermWords.{listShape}
-use Rattle.rules.specs.Rules.{Ruled, rulesIn, sides}
-use Rattle.naming.specs.Steps.{AllHeaded, Headed}
-use Rattle.standing.proofs.Groups.{groups-keep}
+use Rattle.term_nodes.specs.Terms.{Raw, headedBy, operandsOf, rawOf, rawRule, rawTerms}
+use Rattle.term_nodes.proofs.TermWords.{listShape}
+use Rattle.term_nodes.specs.Rules.{Ruled, rulesIn, sides}
+use Rattle.names.specs.code.Lookup.{AllHeaded, Headed}
+use Rattle.term_faults.proofs.Groups.{groups-keep}
 
 -- what holds of the heads of two forests holds of those of both
 headed-join : (F G : Forest Raw) → AllHeaded F → AllHeaded G → AllHeaded (join F G)

@@ -5,9 +5,9 @@ use native.Mathlib.Omega.{arith}
 use mathlib.Core.Path.{_≡_, sym, _∙_}
 use mathlib.Core.List.{List, [], _∷_}
 use lib.ListN.{getD, length, List·getD-eq-default}
-use Rattle.forest.specs.Rows.{numberAt}
-use Rattle.sorting.specs.Tables.{RowIs, SortsAre}
-use Rattle.faults.specs.Steps.{HeadSort, Heads}
+use Rattle.forest.specs.code.Rows.{numberAt}
+use Rattle.term_sorts.specs.code.Signatures.{RowIs, SortsAre}
+use Rattle.term_faults.specs.code.Seeking.{HeadSort, Heads}
 
 -- The row of a non-terminal has its sort.
 row-of : (signatures : List ℕ) (r : ℕ) (sorts : List ℕ) (k : ℕ) → SortsAre signatures r sorts → k < length sorts

@@ -6,3 +6,9 @@ pub mod Rooted
 pub mod Parts
 pub mod Heading
 pub mod Passing
+pub mod Groups
+pub mod Rising
+pub mod Headed
+pub mod Said
+pub mod Bounds
+pub mod Texts

@@ -6,14 +6,14 @@ use mathlib.Core.List.{List}
 use borrow.Author.Tests.{le-ltb, lt-ltb}
 use lib.ListN.{drop, length}
 use Rattle.forest.specs.Forest.{none, tree}
-use Rattle.scanning.specs.Trees.{Lexeme, list, literal, numeral, symbol, wordOf}
+use Rattle.words.specs.Trees.{Lexeme, list, literal, numeral, symbol, wordOf}
 use Rattle.lexemes.specs.Lists.{Items, inside, is, item}
-use Rattle.sorting.specs.Forms.{sortColumn}
-use Rattle.gathering.specs.Terms.{cutBy, firstWord, headedBy, operandsOf, rawOf, rawTerm, rawTerms, word}
-use Rattle.naming.specs.Scopes.{formsOf}
-use Rattle.faults.specs.Faults.{scopeOf, termFault}
-use Rattle.faults.specs.Steps.{BodyFound, BodySought, Found, RootAt, RootFits, Sought}
-use Rattle.faults.proofs.Forms.{from-first}
+use Rattle.term_sorts.specs.Forms.{sortColumn}
+use Rattle.term_nodes.specs.Terms.{cutBy, firstWord, headedBy, operandsOf, rawOf, rawTerm, rawTerms, word}
+use Rattle.names.specs.Scopes.{formsOf}
+use Rattle.term_faults.specs.Faults.{scopeOf, termFault}
+use Rattle.term_faults.specs.code.Seeking.{BodyFound, BodySought, Found, RootAt, RootFits, Sought}
+use Rattle.term_faults.proofs.Forms.{from-first}
 
 -- A term headed by an item begins at its own first word.
 headed-first : (at : ℕ) (l : Lexeme) (held ops : Items) → firstWord (headedBy at l held ops) ≡ at

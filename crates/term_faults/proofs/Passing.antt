@@ -9,11 +9,11 @@ use lib.ListN.{drop, getD, length, length-append, length-map}
 use lib.Seq.{drop-drop, getD-drop}
 use Rattle.forest.specs.Forest.{Forest, from, join, none, size, tree}
 use Rattle.forest.proofs.Laws.{from-over}
-use Rattle.gathering.specs.Terms.{Raw, firstWord}
-use Rattle.naming.specs.Scopes.{Named, View, namedSorts}
-use Rattle.rules.specs.Rules.{Ruled, sides, startTable}
-use Rattle.faults.specs.Faults.{oneSort, rawSorts, ruleMisfit}
-use Rattle.faults.specs.Steps.{AllSingle, HeadSort, Heads, RootAt, RootFits, RulesFound, RulesSought}
+use Rattle.term_nodes.specs.Terms.{Raw, firstWord}
+use Rattle.names.specs.Scopes.{Named, View, namedSorts}
+use Rattle.term_nodes.specs.Rules.{Ruled, sides, startTable}
+use Rattle.term_faults.specs.Faults.{oneSort, rawSorts, ruleMisfit}
+use Rattle.term_faults.specs.code.Seeking.{AllSingle, HeadSort, Heads, RootAt, RootFits, RulesFound, RulesSought}
 
 -- Two numbers for each rule.
 starts-long : (start : ℕ) (rules : List Ruled) → length (startTable start rules) ≡ 2 * length rules

@@ -11,20 +11,20 @@ use lib.ListN.{getD, length, length-append, length-map}
 use Rattle.forest.specs.Forest.{Forest, none, tree}
 use Rattle.forest.specs.Lists.{sameBytes, spelling}
 use Rattle.forest.proofs.Bools.{and-left, and-right, apart}
-use Rattle.bits.specs.Operators.{operatorCount, operatorOf}
-use Rattle.bits.specs.Sorts.{Fit, maxWidth}
-use Rattle.grammar.specs.Derivation.{nonTerminal, the}
+use Rattle.operators.specs.Operators.{operatorCount, operatorOf}
+use Rattle.operators.specs.Sorts.{Fit, maxWidth}
+use Rattle.derivation.specs.Derivation.{nonTerminal, the}
 use Rattle.terms.specs.Labels.{defined, function, literal, name, operator}
-use Rattle.reserved.specs.Reserved.{isWord}
-use Rattle.sorting.specs.Tables.{AllReal, Real}
-use Rattle.lexemes.specs.Standing.{Source}
-use Rattle.lexemes.specs.Table.{codeAt, literalCode, valueAt, widthAt}
-use Rattle.gathering.specs.Steps.{AllSay, Says}
-use Rattle.gathering.specs.Terms.{Raw, constant, cut, number, pattern, word}
-use Rattle.lookup.specs.Search.{placeIn}
-use Rattle.naming.specs.Scopes.{Defined, Function, Named, View, definedNames, formsOf, functionNames, inOrder, isNamed, itemOr, means, namesOf}
-use Rattle.naming.specs.Scopes.{signatureOf, namedSorts, symbolMeans}
-use Rattle.faults.specs.Faults.{scopeOf}
+use Rattle.lexemes.specs.Reserved.{isWord}
+use Rattle.term_sorts.specs.code.Signatures.{AllReal, Real}
+use Rattle.lexemes.specs.code.Standing.{Source}
+use Rattle.lexemes.specs.code.Table.{codeAt, literalCode, valueAt, widthAt}
+use Rattle.term_nodes.specs.code.Gathering.{AllSay, Says}
+use Rattle.term_nodes.specs.Terms.{Raw, constant, cut, number, pattern, word}
+use Rattle.forest.specs.Search.{placeIn}
+use Rattle.names.specs.Scopes.{Defined, Function, Named, View, definedNames, formsOf, functionNames, inOrder, isNamed, itemOr, means, namesOf}
+use Rattle.names.specs.Scopes.{signatureOf, namedSorts, symbolMeans}
+use Rattle.term_faults.specs.Faults.{scopeOf}
 
 -- A name that is one of the names has a place among them.
 place-low : (names : List (List ℕ)) (k : ℕ) (n : List ℕ) → isNamed names n ≡ true → placeIn names k n < k + length names

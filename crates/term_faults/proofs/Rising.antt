@@ -7,16 +7,16 @@ use mathlib.Core.Bool.{Bool, true, false}
 use mathlib.Core.List.{List}
 use Rattle.forest.specs.Forest.{Forest, join, none, tree}
 use Rattle.forest.specs.Lists.{sameBytes}
-use Rattle.scanning.specs.Trees.{Lexeme, list, literal, numeral, symbol, wordOf}
+use Rattle.words.specs.Trees.{Lexeme, list, literal, numeral, symbol, wordOf}
 use Rattle.lexemes.specs.Lists.{Items, inside, is, item}
-use Rattle.lexemes.specs.Standing.{Source, Stands, bracketed, ends, word}
+use Rattle.lexemes.specs.code.Standing.{Source, Stands, bracketed, ends, word}
 use Rattle.lexemes.proofs.Standing.{forward}
 use Rattle.shapes.specs.Shapes.{all, groupShape, isPattern, ruleShape, termShapes}
-use Rattle.gathering.specs.Terms.{Raw, firstWord, headedBy, operandsOf, rawOf, rawRule, rawTerms}
-use Rattle.gathering.proofs.TermWords.{first-of}
-use Rattle.rules.specs.Rules.{Ruled, rulesIn, sides}
-use Rattle.faults.specs.Steps.{Rising}
-use Rattle.standing.proofs.Groups.{Gathers, groups-hold}
+use Rattle.term_nodes.specs.Terms.{Raw, firstWord, headedBy, operandsOf, rawOf, rawRule, rawTerms}
+use Rattle.term_nodes.proofs.TermWords.{first-of}
+use Rattle.term_nodes.specs.Rules.{Ruled, rulesIn, sides}
+use Rattle.term_faults.specs.code.Seeking.{Rising}
+use Rattle.term_faults.proofs.Groups.{Gathers, groups-hold}
 
 -- ---- nodes that rise
 

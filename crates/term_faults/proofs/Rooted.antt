@@ -10,17 +10,17 @@ use lib.Dec.{eqb}
 use lib.ListN.{getD, length, length-append}
 use lib.Seq.{drop-append-seam}
 use Rattle.forest.specs.Forest.{none, tree}
-use Rattle.forest.specs.Rows.{over}
+use Rattle.forest.specs.code.Rows.{over}
 use Rattle.forest.proofs.Laws.{inside}
 use Rattle.terms.specs.Sorts.{withSort}
-use Rattle.sorting.specs.Forms.{formSorts, sortColumn, sortNumber, treeSort}
-use Rattle.sorting.proofs.Columns.{column-at, column-length}
-use Rattle.gathering.specs.Table.{firstAt}
-use Rattle.naming.specs.Scopes.{formsOf, itemOr, means}
-use Rattle.faults.specs.Faults.{oneSort, rawSorts, scopeOf}
-use Rattle.faults.specs.Steps.{RootAt, RootFits}
-use Rattle.faults.proofs.Agreeing.{first-word}
-use Rattle.faults.proofs.Forms.{form-at, size-form}
+use Rattle.term_sorts.specs.Forms.{formSorts, sortColumn, sortNumber, treeSort}
+use Rattle.term_sorts.proofs.Columns.{column-at, column-length}
+use Rattle.term_nodes.specs.code.Table.{firstAt}
+use Rattle.names.specs.Scopes.{formsOf, itemOr, means}
+use Rattle.term_faults.specs.Faults.{oneSort, rawSorts, scopeOf}
+use Rattle.term_faults.specs.code.Seeking.{RootAt, RootFits}
+use Rattle.term_faults.proofs.Agreeing.{first-word}
+use Rattle.term_faults.proofs.Forms.{form-at, size-form}
 
 -- Two numbers are equal just when they are one further on.
 one-on : (a b : ℕ) → eqb a b ≡ eqb (a + 1) (b + 1)

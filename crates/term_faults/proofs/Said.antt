@@ -4,18 +4,18 @@ use mathlib.Core.Path.{_≡_, refl}
 use mathlib.Core.Bool.{Bool, true, false}
 use mathlib.Core.List.{List}
 use Rattle.forest.specs.Forest.{none}
-use Rattle.scanning.specs.Trees.{Lexeme, wordOf}
+use Rattle.words.specs.Trees.{Lexeme, wordOf}
 use Rattle.lexemes.specs.Lists.{Items, inside, is, item}
-use Rattle.lexemes.specs.Standing.{Source, Stands}
+use Rattle.lexemes.specs.code.Standing.{Source, Stands}
 use Rattle.shapes.specs.Shapes.{all, groupShape, isPattern}
-use Rattle.gathering.specs.Steps.{AllSay}
-use Rattle.gathering.specs.Terms.{operandsOf, pattern, rawOf, rawRule, rawTerms}
-use Rattle.gathering.proofs.PastLimit.{say-join}
-use Rattle.gathering.proofs.Saying.{say-rule}
-use Rattle.rules.specs.Rules.{Ruled, rulesIn, sides}
-use Rattle.faults.specs.Steps.{AllSingle, Single}
-use Rattle.standing.proofs.Groups.{groups-keep, ruleOf}
-use Rattle.standing.proofs.Rising.{first-raw}
+use Rattle.term_nodes.specs.code.Gathering.{AllSay}
+use Rattle.term_nodes.specs.Terms.{operandsOf, pattern, rawOf, rawRule, rawTerms}
+use Rattle.term_nodes.proofs.PastLimit.{say-join}
+use Rattle.term_nodes.proofs.Saying.{say-rule}
+use Rattle.term_nodes.specs.Rules.{Ruled, rulesIn, sides}
+use Rattle.term_faults.specs.code.Seeking.{AllSingle, Single}
+use Rattle.term_faults.proofs.Groups.{groups-keep, ruleOf}
+use Rattle.term_faults.proofs.Rising.{first-raw}
 
 -- a rule is one tree that begins at its first word
 rule-single : (A : ℕ) (l : Lexeme) (ops : Items) → Single (ruleOf A l ops)

@@ -6,14 +6,14 @@ use mathlib.Core.List.{List}
 use lib.ListN.{length-map}
 use Rattle.forest.specs.Forest.{none, size}
 use Rattle.forest.proofs.Laws.{join-none}
-use Rattle.sorting.specs.Steps.{SortsFilled, SortsFilling}
-use Rattle.gathering.specs.Table.{firstAt}
-use Rattle.naming.specs.Scopes.{formsOf}
-use Rattle.faults.specs.Faults.{scopeOf, termFault}
-use Rattle.faults.specs.Steps.{Found, Sought}
-use Rattle.faults.proofs.Agreeing.{Agree, clear, faulty, faults-agree}
-use Rattle.faults.proofs.Forms.{from-first, size-form}
-use Rattle.faults.proofs.Reals.{all-real}
+use Rattle.term_sorts.specs.code.Sorting.{SortsFilled, SortsFilling}
+use Rattle.term_nodes.specs.code.Table.{firstAt}
+use Rattle.names.specs.Scopes.{formsOf}
+use Rattle.term_faults.specs.Faults.{scopeOf, termFault}
+use Rattle.term_faults.specs.code.Seeking.{Found, Sought}
+use Rattle.term_faults.proofs.Agreeing.{Agree, clear, faulty, faults-agree}
+use Rattle.term_faults.proofs.Forms.{from-first, size-form}
+use Rattle.term_faults.proofs.Reals.{all-real}
 
 module _ {raw forms signatures column : List ℕ} {count nowhere : ℕ} where
   -- The forms can be asked for their sorts.

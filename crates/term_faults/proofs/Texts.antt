@@ -6,20 +6,20 @@ use mathlib.Core.List.{List}
 use lib.ListN.{drop, length}
 use Rattle.forest.proofs.Lists.{stands}
 use Rattle.forest.proofs.Rows.{length-rows}
-use Rattle.readings.specs.declared.Limits.{Limits}
-use Rattle.readings.specs.declared.Reading.the-variants.{Whole}
-use Rattle.scanning.specs.Reading.{readingOf}
-use Rattle.scanning.specs.Table.{entries}
-use Rattle.scanning.specs.Trees.{bytesOf}
-use Rattle.scanning.specs.Words.{Word, wordsOf}
-use Rattle.scanning.proofs.Chains.{entries-long}
-use Rattle.lexemes.specs.Standing.{Source, allOf}
-use Rattle.lexemes.specs.Table.{codeAt, lexemeRow, lexemeTable}
+use Rattle.words.specs.declared.Limits.{Limits}
+use Rattle.words.specs.declared.Reading.the-variants.{Whole}
+use Rattle.words.specs.Reading.{readingOf}
+use Rattle.words.specs.code.Table.{entries}
+use Rattle.words.specs.Trees.{bytesOf}
+use Rattle.words.specs.Words.{Word, wordsOf}
+use Rattle.words.proofs.Chains.{entries-long}
+use Rattle.lexemes.specs.code.Standing.{Source, allOf}
+use Rattle.lexemes.specs.code.Table.{codeAt, lexemeRow, lexemeTable}
 use Rattle.lexemes.proofs.Said.{Saying, say}
 use Rattle.lexemes.proofs.Standing.{coded}
 use Rattle.lexemes.proofs.Wholes.{whole-count}
-use Rattle.faults.specs.Steps.{Lawful}
-use Rattle.standing.proofs.Bounds.{Kept, word-kept}
+use Rattle.term_faults.specs.code.Seeking.{Lawful}
+use Rattle.term_faults.proofs.Bounds.{Kept, word-kept}
 
 -- What is known of a word that has a code.
 record Known (source : Source) (i : ℕ) : Type 0 where

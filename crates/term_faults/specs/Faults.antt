@@ -6,12 +6,12 @@ use mathlib.Core.Option.{Option, none as nothing, some}
 use lib.Dec.{eqb, ltb}
 use lib.ListN.{getD}
 use Rattle.forest.specs.Forest.{Forest, none, tree}
-use Rattle.sorting.specs.Forms.{FormScope, formSorts, sorted}
-use Rattle.scanning.specs.Trees.{Lexeme, wordOf}
+use Rattle.term_sorts.specs.Forms.{FormScope, formSorts, sorted}
+use Rattle.words.specs.Trees.{Lexeme, wordOf}
 use Rattle.lexemes.specs.Lists.{Items}
-use Rattle.naming.specs.Scopes.{Defined, View, formsOf, signatureOf, namedSorts}
-use Rattle.gathering.specs.Terms.{Raw, firstWord, rawTerm}
-use Rattle.rules.specs.Rules.{Ruled}
+use Rattle.names.specs.Scopes.{Defined, View, formsOf, signatureOf, namedSorts}
+use Rattle.term_nodes.specs.Terms.{Raw, firstWord, rawTerm}
+use Rattle.term_nodes.specs.Rules.{Ruled}
 
 -- The scope of a view.
 abbrev pub scopeOf : View → FormScope
@@ -28,7 +28,7 @@ scopeOf view = record {
 abbrev pub rawSorts : View → Forest Raw → Option (List ℕ)
 rawSorts view F = formSorts (scopeOf view) (formsOf view F)
 
--- "first word .. of a faulty term whose operands have none". The code finds the node by its number (`sorting/specs/Forms: faultFrom`, the same by nodes).
+-- "first word .. of a faulty term whose operands have none". The code finds the node by its number (`term_sorts/specs/Forms: faultFrom`, the same by nodes).
 unfoldable pub termFault : (nowhere : ℕ) → View → Forest Raw → ℕ
 termFault nowhere view none = nowhere
 termFault nowhere view (tree r ops more) =

@@ -1,8 +1,8 @@
 //! Sort faults of terms.
 use crate::roots::root_misfit;
-use gathering::first_at;
-use sorting::fill_sorts;
-ghost use Rattle.faults.specs.Steps.{BodyFound, BodySought, Found, Sought};
+use term_nodes::first_at;
+use term_sorts::fill_sorts;
+ghost use Rattle.term_faults.specs.code.Seeking.{BodyFound, BodySought, Found, Sought};
 
 // The least word at fault in the sorts of terms; fills in the sorts of their nodes.
 pub fn fault_word(

@@ -1,7 +1,7 @@
 //! Rules that are not of their non-terminal's sort.
 use crate::roots::root_misfit;
-use sorts::places::least;
-ghost use Rattle.faults.specs.Steps.{HeadSort, Heads, RulesFound, RulesSought};
+use written_sorts::places::least;
+ghost use Rattle.term_faults.specs.code.Seeking.{HeadSort, Heads, RulesFound, RulesSought};
 
 // How many numbers a signature has.
 const ROW: usize = 10;

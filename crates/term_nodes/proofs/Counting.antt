@@ -6,14 +6,14 @@ use mathlib.Core.Path.{_≡_, refl, ap, _∙_}
 use mathlib.Core.List.{List, [], _∷_, _++_}
 use lib.ListN.{length, drop, getD, set, length-append, length-set, List·getD-append}
 use Rattle.forest.specs.Forest.{Forest, Node, count, from, join, nodesOf, size, tree}
-use Rattle.forest.specs.Rows.{numberAt, rows}
+use Rattle.forest.specs.code.Rows.{numberAt, rows}
 use Rattle.forest.proofs.Laws.{count-tree, count-zero, from-one, from-over, size-from, size-tree, tree-at, tree-of-count}
 use Rattle.forest.proofs.Lists.{within}
 use Rattle.forest.proofs.Nodes.{length-nodes, node-at}
 use Rattle.forest.proofs.Rows.{length-rows, row-at}
-use Rattle.gathering.specs.Steps.{Counted, Counting, PastTree, TreeAt, partTable}
-use Rattle.gathering.specs.Table.{operandsAt, rawRow, rawTable, sizeAt, uncounted, uncountedTable}
-use Rattle.gathering.specs.Terms.{Raw, firstWord, headWord}
+use Rattle.term_nodes.specs.code.Gathering.{Counted, Counting, PastTree, TreeAt, partTable}
+use Rattle.term_nodes.specs.code.Table.{operandsAt, rawRow, rawTable, sizeAt, uncounted, uncountedTable}
+use Rattle.term_nodes.specs.Terms.{Raw, firstWord, headWord}
 
 pub wide : (n : Node Raw) → length (rawRow n) ≡ 4
 wide n = refl

@@ -6,22 +6,22 @@ use mathlib.Core.Bool.{true}
 use mathlib.Core.List.{List, []}
 use lib.ListN.{length}
 use Rattle.forest.specs.Forest.{nodesOf, size, tree}
-use Rattle.forest.specs.Rows.{rows}
+use Rattle.forest.specs.code.Rows.{rows}
 use Rattle.forest.proofs.Bools.{and-left, and-right}
 use Rattle.lexemes.specs.Lists.{Items, after, inside, isList, item}
-use Rattle.lexemes.specs.Standing.{Between, ItemAt, Source, Stands}
-use Rattle.lexemes.specs.Table.{nextAt}
+use Rattle.lexemes.specs.code.Standing.{Between, ItemAt, Source, Stands}
+use Rattle.lexemes.specs.code.Table.{nextAt}
 use Rattle.lexemes.proofs.Along.{Along, along-ahead, along-end, along-here, along-start, along-turn, item-of}
 use Rattle.lexemes.proofs.Listed.{at-item, from-item}
 use Rattle.lexemes.proofs.Standing.{forward, here-as}
 use Rattle.shapes.specs.Shapes.{all, groupShape, ruleShape}
-use Rattle.sorts.proofs.Parts.{group-parts}
-use Rattle.gathering.specs.Table.{uncountedTable}
-use Rattle.rules.specs.Rules.{Ruled, nodesPast, rulePast, rulesIn, rulesOf, sides, startTable}
-use Rattle.rules.specs.Steps.{GroupGathered, GroupsBetween, Holds, RulesBetween, RulesGathered}
-use Rattle.rules.specs.declared.Gathered.{Gathered}
-use Rattle.rules.proofs.Listing.{rules-fit}
-use Rattle.rules.proofs.Onward.{GatheredTo, gathered-all, gathered-on, lent-as, next-within}
+use Rattle.written_sorts.proofs.Parts.{group-parts}
+use Rattle.term_nodes.specs.code.Table.{uncountedTable}
+use Rattle.term_nodes.specs.Rules.{Ruled, nodesPast, rulePast, rulesIn, rulesOf, sides, startTable}
+use Rattle.term_nodes.specs.code.RuleGathering.{GroupGathered, GroupsBetween, Holds, RulesBetween, RulesGathered}
+use Rattle.term_nodes.specs.declared.Gathered.{Gathered}
+use Rattle.term_nodes.proofs.Listing.{rules-fit}
+use Rattle.term_nodes.proofs.Onward.{GatheredTo, gathered-all, gathered-on, lent-as, next-within}
 
 -- The rules of the group at word `at` are of their shape and stand in the list at word `list`, between the brackets of the group.
 record GroupRules (s : Source) (lexemes : List ℕ) (at : ℕ) (ops : Items) (list : ℕ) : Type 0 where

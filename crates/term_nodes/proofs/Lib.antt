@@ -6,3 +6,9 @@ pub mod TermsAt
 pub mod NodeRows
 pub mod Walk
 pub mod RuleNodes
+pub mod Past
+pub mod Listing
+pub mod OneRule
+pub mod Onward
+pub mod RuleLoop
+pub mod GroupLoop

@@ -9,13 +9,13 @@ use lib.ListN.{length}
 use borrow.Author.Tests.{le-leb}
 use Rattle.forest.specs.Forest.{join, nodesOf, none, size, tree}
 use Rattle.forest.proofs.Laws.{join-assoc, join-none, size-join}
-use Rattle.scanning.specs.Trees.{Lexeme}
+use Rattle.words.specs.Trees.{Lexeme}
 use Rattle.lexemes.specs.Lists.{Items, is, item}
-use Rattle.lexemes.specs.Standing.{Source, Stands, bracketed, ends, word}
+use Rattle.lexemes.specs.code.Standing.{Source, Stands, bracketed, ends, word}
 use Rattle.lexemes.proofs.Standing.{forward}
 use Rattle.shapes.specs.Shapes.{isPattern}
-use Rattle.gathering.specs.Terms.{nodeWord, operandsOf, rawRule, rawTerms}
-use Rattle.rules.specs.Rules.{Ruled, nodesPast, rulePast, rulesOf, sides, startTable}
+use Rattle.term_nodes.specs.Terms.{nodeWord, operandsOf, rawRule, rawTerms}
+use Rattle.term_nodes.specs.Rules.{Ruled, nodesPast, rulePast, rulesOf, sides, startTable}
 
 -- ---- their right sides
 

@@ -6,10 +6,10 @@ use mathlib.Core.List.{List, [], _∷_, _++_, append-assoc}
 use lib.ListN.{length, drop, set, length-append}
 use lib.Seq.{drop-append-add, sets, sets-eq, take-append-seam}
 use Rattle.forest.specs.Forest.{Node}
-use Rattle.forest.specs.Rows.{rows}
+use Rattle.forest.specs.code.Rows.{rows}
 use Rattle.forest.proofs.Rows.{length-rows, rows-append}
-use Rattle.gathering.specs.Table.{uncounted}
-use Rattle.gathering.specs.Terms.{Raw}
+use Rattle.term_nodes.specs.code.Table.{uncounted}
+use Rattle.term_nodes.specs.Terms.{Raw}
 
 -- four numbers written one after the other
 pub row-written : (l : List ℕ) (i a b c d : ℕ) → set (set (set (set l i a) (i + 1) b) (i + 2) c) (i + 3) d ≡ sets l i (a ∷ b ∷ c ∷ d ∷ [])

@@ -7,19 +7,19 @@ use mathlib.Core.List.{List, [], _∷_, _++_}
 use lib.ListN.{length, drop, set, length-append}
 use lib.Seq.{drop-append-seam, length-sets, sets}
 use Rattle.forest.specs.Forest.{size}
-use Rattle.forest.specs.Rows.{over}
+use Rattle.forest.specs.code.Rows.{over}
 use Rattle.forest.proofs.Laws.{size-join}
 use Rattle.forest.proofs.Rows.{over-more}
-use Rattle.scanning.specs.Trees.{Lexeme, wordOf}
+use Rattle.words.specs.Trees.{Lexeme, wordOf}
 use Rattle.lexemes.specs.Lists.{Items}
-use Rattle.gathering.specs.Steps.{GatheredRule, GatheringRule, TermNodes, WordPast}
-use Rattle.gathering.specs.Terms.{rawRule}
-use Rattle.gathering.proofs.Saying.{say-rule}
-use Rattle.sorts.proofs.Walked.{placed}
-use Rattle.rules.specs.Rules.{Ruled, nodesPast, rulePast, rulesOf, sides, startTable}
-use Rattle.rules.specs.Steps.{RuleAt, RuleGathered}
-use Rattle.rules.specs.declared.Gathered.{Gathered}
-use Rattle.rules.proofs.Listing.{first-past, length-starts, no-rule-past, nodes-more, nodes-within, sides-more, some-node, starts-append, still-past}
+use Rattle.term_nodes.specs.code.Gathering.{GatheredRule, GatheringRule, TermNodes, WordPast}
+use Rattle.term_nodes.specs.Terms.{rawRule}
+use Rattle.term_nodes.proofs.Saying.{say-rule}
+use Rattle.written_sorts.proofs.Walked.{placed}
+use Rattle.term_nodes.specs.Rules.{Ruled, nodesPast, rulePast, rulesOf, sides, startTable}
+use Rattle.term_nodes.specs.code.RuleGathering.{RuleAt, RuleGathered}
+use Rattle.term_nodes.specs.declared.Gathered.{Gathered}
+use Rattle.term_nodes.proofs.Listing.{first-past, length-starts, no-rule-past, nodes-more, nodes-within, sides-more, some-node, starts-append, still-past}
 
 -- two numbers written one after the other
 pub pair-written : (l : List ℕ) (i a b : ℕ) → set (set l i a) (i + 1) b ≡ sets l i (a ∷ b ∷ [])

@@ -7,18 +7,18 @@ use mathlib.Core.List.{List, [], _++_, append-assoc, append-nil}
 use lib.ListN.{length}
 use Rattle.forest.specs.Forest.{none, size, tree}
 use Rattle.forest.proofs.Bools.{and-right}
-use Rattle.scanning.specs.Trees.{Lexeme}
+use Rattle.words.specs.Trees.{Lexeme}
 use Rattle.lexemes.specs.Lists.{Items}
-use Rattle.lexemes.specs.Standing.{Between}
-use Rattle.lexemes.specs.Table.{nextAt}
+use Rattle.lexemes.specs.code.Standing.{Between}
+use Rattle.lexemes.specs.code.Table.{nextAt}
 use Rattle.lexemes.proofs.Along.{Along, item-of}
 use Rattle.lexemes.proofs.Listed.{at-item}
 use Rattle.lexemes.proofs.Standing.{forward}
 use Rattle.shapes.specs.Shapes.{all}
-use Rattle.rules.specs.Rules.{Ruled, sides}
-use Rattle.rules.specs.Steps.{Holds}
-use Rattle.rules.specs.declared.Gathered.{Gathered}
-use Rattle.rules.proofs.Listing.{size-sides}
+use Rattle.term_nodes.specs.Rules.{Ruled, sides}
+use Rattle.term_nodes.specs.code.RuleGathering.{Holds}
+use Rattle.term_nodes.specs.declared.Gathered.{Gathered}
+use Rattle.term_nodes.proofs.Listing.{size-sides}
 
 module _ {nowhere most nodes : ℕ} {raw rules : List ℕ} {done : List Ruled} {g : Gathered} where
   -- the same tables, lent as others that are as long

@@ -7,13 +7,13 @@ use mathlib.Core.List.{List}
 use lib.Dec.{leb}
 use borrow.Author.Tests.{leb-false, leb-true}
 use Rattle.forest.specs.Forest.{count, none, tree}
-use Rattle.scanning.specs.Trees.{wordOf}
+use Rattle.words.specs.Trees.{wordOf}
 use Rattle.lexemes.specs.Lists.{Items, after, item}
-use Rattle.lexemes.specs.Standing.{Between, Reached, Stands}
+use Rattle.lexemes.specs.code.Standing.{Between, Reached, Stands}
 use Rattle.lexemes.proofs.Standing.{none-left, some-left}
 use Rattle.lexemes.proofs.Listed.{from-item}
-use Rattle.sorts.proofs.Walked.{placed}
-use Rattle.rules.specs.Rules.{itemPast}
+use Rattle.written_sorts.proofs.Walked.{placed}
+use Rattle.term_nodes.specs.Rules.{itemPast}
 
 -- past the last item there is none
 none-past : (n : ℕ) (F : Items) → count F ≤ n → after n F ≡ none

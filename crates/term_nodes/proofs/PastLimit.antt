@@ -9,15 +9,15 @@ use borrow.Author.Tests.{eq-eqb, ne-eqb}
 use lib.Dec.{eqb}
 use lib.ListN.{getD}
 use Rattle.forest.specs.Forest.{Forest, Node, from, join, nodesOf, none, size, tree}
-use Rattle.forest.specs.Rows.{numberAt}
+use Rattle.forest.specs.code.Rows.{numberAt}
 use Rattle.forest.proofs.Laws.{from-one, from-past, size-from, size-join, size-zero, tree-at}
 use Rattle.forest.proofs.Nodes.{node-at, nodes-join}
 use Rattle.forest.proofs.Rows.{row-at}
-use Rattle.lexemes.specs.Standing.{Source}
-use Rattle.lexemes.specs.Table.{codeAt, numeralCode}
-use Rattle.gathering.specs.Steps.{AllSay, Says, TermNodes, WordPast}
-use Rattle.gathering.specs.Table.{firstAt, headAt, uncounted, uncountedTable}
-use Rattle.gathering.specs.Terms.{Raw, constant, cut, firstWord, headWord, isNode, nodeWord, number, pattern, word}
+use Rattle.lexemes.specs.code.Standing.{Source}
+use Rattle.lexemes.specs.code.Table.{codeAt, numeralCode}
+use Rattle.term_nodes.specs.code.Gathering.{AllSay, Says, TermNodes, WordPast}
+use Rattle.term_nodes.specs.code.Table.{firstAt, headAt, uncounted, uncountedTable}
+use Rattle.term_nodes.specs.Terms.{Raw, constant, cut, firstWord, headWord, isNode, nodeWord, number, pattern, word}
 
 -- what is said of every node of two forests is said of every node of both
 pub say-join : (s : Source) (a b : Forest Raw) → AllSay s a → AllSay s b → AllSay s (join a b)

@@ -5,16 +5,16 @@ use mathlib.Core.Path.{_≡_, refl}
 use mathlib.Core.List.{List, _++_}
 use Rattle.forest.specs.Forest.{none, tree}
 use Rattle.forest.proofs.Bools.{and-left}
-use Rattle.lexemes.specs.Standing.{Between, ItemAt}
-use Rattle.lexemes.specs.Table.{nextAt}
+use Rattle.lexemes.specs.code.Standing.{Between, ItemAt}
+use Rattle.lexemes.specs.code.Table.{nextAt}
 use Rattle.lexemes.proofs.Along.{Along, along-end, along-here, along-start, along-turn, item-of}
 use Rattle.lexemes.proofs.Standing.{by-itself}
 use Rattle.shapes.specs.Shapes.{all, ruleShape}
-use Rattle.rules.specs.Rules.{Ruled, rulesOf}
-use Rattle.rules.specs.Steps.{GroupGathered, RuleAt, RuleGathered, RulesBetween}
-use Rattle.rules.specs.declared.Gathered.{Gathered}
-use Rattle.rules.proofs.Listing.{rules-fit}
-use Rattle.rules.proofs.Onward.{GatheredTo, gathered-all, gathered-on, lent-as, next-within}
+use Rattle.term_nodes.specs.Rules.{Ruled, rulesOf}
+use Rattle.term_nodes.specs.code.RuleGathering.{GroupGathered, RuleAt, RuleGathered, RulesBetween}
+use Rattle.term_nodes.specs.declared.Gathered.{Gathered}
+use Rattle.term_nodes.proofs.Listing.{rules-fit}
+use Rattle.term_nodes.proofs.Onward.{GatheredTo, gathered-all, gathered-on, lent-as, next-within}
 
 -- where the rules stand
 abbrev pub rules-between : {lexemes : List ℕ} {first close nowhere most nodes : ℕ} {rawLent rulesLent : List ℕ} {already : Gathered}

@@ -8,20 +8,20 @@ use borrow.Author.Tests.{not-false, not-true}
 use lib.ListN.{length, drop}
 use lib.Seq.{length-sets, sets}
 use Rattle.forest.specs.Forest.{Node, count, nodesOf, none, size, tree}
-use Rattle.forest.specs.Rows.{rows}
+use Rattle.forest.specs.code.Rows.{rows}
 use Rattle.forest.proofs.Laws.{size-join}
 use Rattle.forest.proofs.Nodes.{length-nodes, nodes-join}
-use Rattle.scanning.specs.Trees.{wordOf}
+use Rattle.words.specs.Trees.{wordOf}
 use Rattle.lexemes.specs.Lists.{inside, is, item}
-use Rattle.lexemes.specs.Standing.{ItemAt, Source, Stands, ends, word}
-use Rattle.lexemes.specs.Table.{nextAt}
+use Rattle.lexemes.specs.code.Standing.{ItemAt, Source, Stands, ends, word}
+use Rattle.lexemes.specs.code.Table.{nextAt}
 use Rattle.lexemes.proofs.Standing.{by-itself, here}
 use Rattle.shapes.specs.Shapes.{isPattern}
-use Rattle.gathering.specs.Steps.{Gathered, GatheredRule, Gathering, GatheringRule}
-use Rattle.gathering.specs.Table.{uncounted, uncountedTable}
-use Rattle.gathering.specs.Terms.{Raw, pattern}
-use Rattle.gathering.proofs.NodeRows.{row-added}
-use Rattle.gathering.proofs.TermWords.{first-of}
+use Rattle.term_nodes.specs.code.Gathering.{Gathered, GatheredRule, Gathering, GatheringRule}
+use Rattle.term_nodes.specs.code.Table.{uncounted, uncountedTable}
+use Rattle.term_nodes.specs.Terms.{Raw, pattern}
+use Rattle.term_nodes.proofs.NodeRows.{row-added}
+use Rattle.term_nodes.proofs.TermWords.{first-of}
 
 none-ends : {s : Source} {i e : ℕ} → Stands s i none e → i ≡ e
 none-ends ends = refl

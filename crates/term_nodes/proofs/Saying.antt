@@ -10,17 +10,17 @@ use borrow.Author.Tests.{eqb-true}
 use Rattle.forest.specs.Forest.{count, none, tree}
 use Rattle.forest.specs.Lists.{sameBytes, spelling}
 use Rattle.forest.proofs.Bools.{and-left, and-right, apart}
-use Rattle.scanning.specs.Trees.{Lexeme, list, literal, numeral, symbol}
-use Rattle.reserved.specs.Reserved.{isOneOf, isWord, wordNumber}
-use Rattle.reserved.proofs.Numbers.{by-number, isKnown, numberOf}
+use Rattle.words.specs.Trees.{Lexeme, list, literal, numeral, symbol}
+use Rattle.lexemes.specs.Reserved.{isOneOf, isWord, wordNumber}
+use Rattle.lexemes.proofs.Numbers.{by-number, isKnown, numberOf}
 use Rattle.lexemes.specs.Lists.{Items, inside, is, isAmong, isList, item}
-use Rattle.lexemes.specs.Standing.{Source, Stands, WordIs, bracketed, ends, word}
-use Rattle.lexemes.specs.Table.{symbolCode}
+use Rattle.lexemes.specs.code.Standing.{Source, Stands, WordIs, bracketed, ends, word}
+use Rattle.lexemes.specs.code.Table.{symbolCode}
 use Rattle.lexemes.proofs.ByCode.{codeFor}
 use Rattle.shapes.specs.Shapes.{applicationShape, isPattern, ruleShape, sortShape, termShapes}
-use Rattle.gathering.specs.Steps.{AllSay, Says}
-use Rattle.gathering.specs.Terms.{cutBy, headedBy, operandsOf, pattern, rawOf, rawRule, rawTerms, writtenOf}
-use Rattle.gathering.proofs.TermWords.{CutAt, ListTerm, by-cut, by-symbol, cut-alone, list-term, listShape}
+use Rattle.term_nodes.specs.code.Gathering.{AllSay, Says}
+use Rattle.term_nodes.specs.Terms.{cutBy, headedBy, operandsOf, pattern, rawOf, rawRule, rawTerms, writtenOf}
+use Rattle.term_nodes.proofs.TermWords.{CutAt, ListTerm, by-cut, by-symbol, cut-alone, list-term, listShape}
 
 say-operands : (s : Source) (ops : Items) (b : Bool) → is "_" (item 0 ops) ≡ b → (termShapes true ops ≡ true → AllSay s (rawTerms true ops))
     → listShape ops ≡ true → AllSay s (operandsOf ops)

@@ -7,11 +7,11 @@ use mathlib.Core.List.{List}
 use lib.Dec.{eqb}
 use Rattle.forest.specs.Forest.{count, none, tree}
 use Rattle.forest.proofs.Bools.{and-left, and-right, apart}
-use Rattle.scanning.specs.Trees.{Lexeme, list, literal, numeral, symbol, wordOf}
+use Rattle.words.specs.Trees.{Lexeme, list, literal, numeral, symbol, wordOf}
 use Rattle.forest.specs.Lists.{sameBytes}
 use Rattle.lexemes.specs.Lists.{Items, after, allNumerals, indexed, inside, is, isNumeral, item, numeralOf}
-use Rattle.lexemes.specs.Standing.{ListIs, Source, Stands, WordIs, bracketed, ends, word}
-use Rattle.lexemes.specs.Table.{codeAt, numeralCode, valueAt}
+use Rattle.lexemes.specs.code.Standing.{ListIs, Source, Stands, WordIs, bracketed, ends, word}
+use Rattle.lexemes.specs.code.Table.{codeAt, numeralCode, valueAt}
 use Rattle.shapes.specs.Shapes.{applicationShape, headShape, termShapes}
 
 -- The items behind `_` and `extract`, which stand at word i, are two numerals.

@@ -10,18 +10,18 @@ use lib.ListN.{length}
 use Rattle.forest.specs.Forest.{count, none, tree}
 use Rattle.forest.proofs.Bools.{and-left, and-right, apart}
 use Rattle.forest.proofs.Laws.{Tree}
-use Rattle.scanning.specs.Trees.{Lexeme, list, literal, numeral, symbol, wordOf}
+use Rattle.words.specs.Trees.{Lexeme, list, literal, numeral, symbol, wordOf}
 use Rattle.forest.specs.Lists.{sameBytes}
 use Rattle.lexemes.specs.Lists.{Items, after, inside, is, isList, item}
-use Rattle.lexemes.specs.Standing.{Between, ItemAt, Source, Stands}
-use Rattle.lexemes.specs.Table.{closeCode, codeAt, codeOf, nextAt, openCode}
+use Rattle.lexemes.specs.code.Standing.{Between, ItemAt, Source, Stands}
+use Rattle.lexemes.specs.code.Table.{closeCode, codeAt, codeOf, nextAt, openCode}
 use Rattle.lexemes.proofs.ByCode.{codeFor, front-word, frontCode}
 use Rattle.lexemes.proofs.Listed.{at-item, is-list, item-room, no-list}
 use Rattle.lexemes.proofs.Standing.{front, here-as}
 use Rattle.shapes.specs.Shapes.{applicationShape, termShapes}
-use Rattle.gathering.specs.Steps.{Onward, TermAt}
-use Rattle.gathering.specs.Terms.{headWord, headedBy, operandsOf, rawOf, rawTerms}
-use Rattle.gathering.proofs.TermWords.{ListTerm, by-cut, by-symbol, cut-alone, first-of, list-term, listShape}
+use Rattle.term_nodes.specs.code.Gathering.{Onward, TermAt}
+use Rattle.term_nodes.specs.Terms.{headWord, headedBy, operandsOf, rawOf, rawTerms}
+use Rattle.term_nodes.proofs.TermWords.{ListTerm, by-cut, by-symbol, cut-alone, first-of, list-term, listShape}
 
 -- the code of `_`
 abbrev scored : ℕ

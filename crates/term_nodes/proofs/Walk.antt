@@ -8,26 +8,26 @@ use borrow.Author.Tests.{eq-eqb}
 use lib.ListN.{length, drop, length-append}
 use lib.Seq.{append-snoc, length-sets, sets}
 use Rattle.forest.specs.Forest.{Node, count, join, nodesOf, none, tree}
-use Rattle.forest.specs.Rows.{rows}
+use Rattle.forest.specs.code.Rows.{rows}
 use Rattle.forest.proofs.Bools.{and-left, apart}
 use Rattle.forest.proofs.Laws.{Tree}
 use Rattle.forest.proofs.Nodes.{length-nodes, nodes-join}
-use Rattle.scanning.specs.Trees.{Lexeme, list, literal, numeral, symbol, wordOf}
+use Rattle.words.specs.Trees.{Lexeme, list, literal, numeral, symbol, wordOf}
 use Rattle.forest.specs.Lists.{sameBytes}
 use Rattle.lexemes.specs.Lists.{Items, inside, is, isList, item}
-use Rattle.lexemes.specs.Standing.{Source, Stands}
-use Rattle.lexemes.specs.Table.{closeCode, codeAt, codeOf, nextAt}
+use Rattle.lexemes.specs.code.Standing.{Source, Stands}
+use Rattle.lexemes.specs.code.Table.{closeCode, codeAt, codeOf, nextAt}
 use Rattle.lexemes.proofs.ByCode.{not-close}
 use Rattle.lexemes.proofs.Pending.{Pending, Turn, at-close, at-list, at-word, inner, level, outermost, pending-forward, turn}
 use Rattle.lexemes.proofs.Standing.{forward, here, none-left}
 use Rattle.shapes.specs.Shapes.{termShapes}
 use Rattle.shapes.proofs.Walks.{outerTerms}
-use Rattle.gathering.specs.Steps.{Gathered, Gathering, Onward, TermAt}
-use Rattle.gathering.specs.Table.{uncounted, uncountedTable}
-use Rattle.gathering.specs.Terms.{Raw, cutBy, firstWord, headWord, headedBy, operandsOf, rawOf, rawTerms, word}
-use Rattle.gathering.proofs.NodeRows.{row-added}
-use Rattle.gathering.proofs.TermWords.{first-of, listShape}
-use Rattle.gathering.proofs.TermsAt.{Applied, applied}
+use Rattle.term_nodes.specs.code.Gathering.{Gathered, Gathering, Onward, TermAt}
+use Rattle.term_nodes.specs.code.Table.{uncounted, uncountedTable}
+use Rattle.term_nodes.specs.Terms.{Raw, cutBy, firstWord, headWord, headedBy, operandsOf, rawOf, rawTerms, word}
+use Rattle.term_nodes.proofs.NodeRows.{row-added}
+use Rattle.term_nodes.proofs.TermWords.{first-of, listShape}
+use Rattle.term_nodes.proofs.TermsAt.{Applied, applied}
 
 -- ---- the nodes of what is pending
 

@@ -1,3 +1,3 @@
 pub mod Terms
-pub mod Table
-pub mod Steps
+pub mod Rules
+pub mod code

@@ -4,9 +4,9 @@ use mathlib.Core.Bool.{cond}
 use mathlib.Core.List.{List, [], _∷_, _++_}
 use lib.Dec.{leb}
 use Rattle.forest.specs.Forest.{Forest, count, join, nodesOf, none, size, tree}
-use Rattle.scanning.specs.Trees.{wordOf}
+use Rattle.words.specs.Trees.{wordOf}
 use Rattle.lexemes.specs.Lists.{Items, inside, item}
-use Rattle.gathering.specs.Terms.{Raw, nodeWord, rawRule}
+use Rattle.term_nodes.specs.Terms.{Raw, nodeWord, rawRule}
 
 -- A rule: the place of its non-terminal among those that are listed, its first word, and its right side.
 pub record Ruled : Type 0 where

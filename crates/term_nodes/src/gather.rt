@@ -13,8 +13,8 @@ ghost use Prim.Native.Nat.{_+_, _*_, _≤_};
 ghost use lib.ListN.{length};
 ghost use lib.Seq.{sets};
 ghost use Rattle.forest.specs.Forest.{count};
-ghost use Rattle.gathering.specs.Steps.{Gathered, GatheredRule, Gathering, GatheringRule, Onward, TermAt};
-ghost use Rattle.gathering.specs.Terms.{headWord, operandsOf, rawOf};
+ghost use Rattle.term_nodes.specs.code.Gathering.{Gathered, GatheredRule, Gathering, GatheringRule, Onward, TermAt};
+ghost use Rattle.term_nodes.specs.Terms.{headWord, operandsOf, rawOf};
 
 // The word that says what the node at a word is.
 fn head_word(lexemes: &[u64], at: usize) -> usize

@@ -1,13 +1,16 @@
 //! The nodes of terms, gathered from the words before their names are looked up: four numbers for each node, its first word, the word that says what it is,
 //! how many operands it has, and how many nodes its tree has. A node past the end of a table has zeros.
+//! The rules that a grammar lists: their nodes, gathered one after the other, where each starts and its non-terminal; and the limits on them.
 pub mod gather;
 pub mod limits;
+pub mod rule_limits;
+pub mod rules;
 pub mod sizes;
 
 ghost use mathlib.Core.Path.{_≡_};
 ghost use Prim.Native.Nat.{_<_};
-ghost use Rattle.forest.specs.Rows.{numberAt};
-ghost use Rattle.gathering.specs.Table.{firstAt, headAt, operandsAt, sizeAt};
+ghost use Rattle.forest.specs.code.Rows.{numberAt};
+ghost use Rattle.term_nodes.specs.code.Table.{firstAt, headAt, operandsAt, sizeAt};
 
 // How many numbers a row has.
 pub const ROW: usize = 4;
@@ -53,4 +56,11 @@ pub fn size_at(raw: &[u64], node: usize) -> usize
     ensures { λ r. ⌜ r ≡ sizeAt (now (raw .entry)) node ⌝ }
 {
     number_at(raw, node, 3) as usize
+}
+
+// What is gathered so far: how many rows and rules, and the least word past a limit.
+pub struct Gathered {
+    pub row: usize,
+    pub rule: usize,
+    pub place: usize,
 }

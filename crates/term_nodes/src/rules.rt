@@ -1,15 +1,15 @@
 //! The rules of a grammar's groups, gathered one after the other.
 use crate::Gathered;
-use gathering::gather::gather_rule;
-use gathering::limits::node_past;
+use crate::gather::gather_rule;
+use crate::limits::node_past;
 use lexemes::next_at;
-use sorts::places::least;
+use written_sorts::places::least;
 ghost use mathlib.Core.List.{[], _∷_};
 ghost use mathlib.Core.Path.{_≡_};
 ghost use Prim.Native.Nat.{_+_, _*_, _≤_};
 ghost use lib.ListN.{length};
 ghost use lib.Seq.{sets};
-ghost use Rattle.rules.specs.Steps.{GroupGathered, GroupsBetween, RuleAt, RuleGathered, RulesBetween, RulesGathered};
+ghost use Rattle.term_nodes.specs.code.RuleGathering.{GroupGathered, GroupsBetween, RuleAt, RuleGathered, RulesBetween, RulesGathered};
 
 // Writes where a rule starts, and its non-terminal.
 fn put_rule(rules: &mut [u64], rule: usize, start: usize, head: usize)

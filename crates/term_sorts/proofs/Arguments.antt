@@ -8,13 +8,13 @@ use mathlib.Core.List.{List, [], _∷_}
 use borrow.Author.Tests.{eq-eqb, ne-eqb}
 use lib.ListN.{drop, drop-of-length-le, getD, length}
 use Rattle.forest.proofs.Lists.{drop-next}
-use Rattle.forest.specs.Rows.{numberAt}
-use Rattle.terms.specs.Nodes.{sizeAt}
+use Rattle.forest.specs.code.Rows.{numberAt}
+use Rattle.terms.specs.code.Nodes.{sizeAt}
 use Rattle.terms.specs.Sorts.{sameSorts}
-use Rattle.sorting.specs.Steps.{ArgumentsFit, Called, CalledFully, CalledGives}
-use Rattle.sorting.specs.Tables.{signatureWidth}
-use Rattle.sorting.proofs.RuleSorts.{number-of}
-use Rattle.sorting.proofs.Walks.{Left, all-left, none-left, rest-left, turn}
+use Rattle.term_sorts.specs.code.Sorting.{ArgumentsFit, Called, CalledFully, CalledGives}
+use Rattle.term_sorts.specs.code.Signatures.{signatureWidth}
+use Rattle.term_sorts.proofs.RuleSorts.{number-of}
+use Rattle.term_sorts.proofs.Walks.{Left, all-left, none-left, rest-left, turn}
 
 -- Sorts of which the first differs are not the same.
 first-differs : (s t : ℕ) (ss ts later : List ℕ) → ts ≡ t ∷ later → (s ≡ t → ⊥) → sameSorts (s ∷ ss) ts ≡ false

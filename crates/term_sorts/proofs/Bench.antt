@@ -6,17 +6,17 @@ use mathlib.Core.List.{List, [], _∷_, _++_, append-nil, map}
 use lib.ListN.{getD, length, replicate}
 use Rattle.forest.specs.Forest.{Forest, none, size, tree}
 use Rattle.forest.specs.Lists.{spelling}
-use Rattle.forest.specs.Rows.{numberAt}
+use Rattle.forest.specs.code.Rows.{numberAt}
 use Rattle.forest.specs.Lists.{sameBytes}
-use Rattle.bits.specs.Operators.{named, operatorAt, operatorOf, operatorSort, operators}
-use Rattle.bits.specs.Sorts.{sortBy}
-use Rattle.grammar.specs.Derivation.{Item, nonTerminal, the}
-use Rattle.grammar.specs.Tables.{formTable}
+use Rattle.operators.specs.Operators.{named, operatorAt, operatorOf, operatorSort, operators}
+use Rattle.operators.specs.Sorts.{sortBy}
+use Rattle.derivation.specs.Derivation.{Item, nonTerminal, the}
+use Rattle.derivation.specs.code.Tables.{formTable}
 use Rattle.terms.specs.Labels.{function, literal, operator}
 use Rattle.terms.specs.Sorts.{calledSort, labelSort, sameSorts, sortOver, withSort}
-use Rattle.sorting.specs.Forms.{FormScope, faultFrom, formSorts, itemSort, sortColumn}
-use Rattle.sorting.specs.Steps.{SortsFilling}
-use Rattle.sorting.specs.Tables.{AllReal, RowsAre, Sortable, SortsAre, functionSignature, signatureWidth}
+use Rattle.term_sorts.specs.Forms.{FormScope, faultFrom, formSorts, itemSort, sortColumn}
+use Rattle.term_sorts.specs.code.Sorting.{SortsFilling}
+use Rattle.term_sorts.specs.code.Signatures.{AllReal, RowsAre, Sortable, SortsAre, functionSignature, signatureWidth}
 
 -- A synthesized function from two bits to a Bool, and a non-terminal of one bit.
 abbrev scope : FormScope

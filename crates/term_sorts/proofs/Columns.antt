@@ -10,12 +10,12 @@ use Rattle.forest.proofs.Laws.{Tree, from-over, inside, size-from, size-tree}
 use Rattle.forest.proofs.Lists.{drop-map}
 use Rattle.forest.proofs.Nodes.{length-nodes, node-at}
 use Rattle.forest.specs.Forest.{Forest, Node, from, join, nodesOf, none, size, tree}
-use Rattle.forest.specs.Rows.{over}
-use Rattle.grammar.specs.Derivation.{Item}
-use Rattle.grammar.specs.Tables.{formTable}
-use Rattle.sorting.specs.Forms.{FormScope, formSorts, sortColumn, sortNumber, treeSort}
-use Rattle.sorting.specs.Steps.{Stand, treeSorts}
-use Rattle.sorting.proofs.NodeSorts.{form-says}
+use Rattle.forest.specs.code.Rows.{over}
+use Rattle.derivation.specs.Derivation.{Item}
+use Rattle.derivation.specs.code.Tables.{formTable}
+use Rattle.term_sorts.specs.Forms.{FormScope, formSorts, sortColumn, sortNumber, treeSort}
+use Rattle.term_sorts.specs.code.Sorting.{Stand, treeSorts}
+use Rattle.term_sorts.proofs.NodeSorts.{form-says}
 
 -- The number of the sort of a node's tree.
 abbrev nodeNumber : FormScope → Node Item → ℕ

@@ -5,10 +5,10 @@ use mathlib.Core.Path.{_≡_, refl, sym, ap, _∙_}
 use mathlib.Core.List.{List, _∷_}
 use borrow.Author.Tests.{eq-eqb, ne-eqb}
 use lib.ListN.{getD, length}
-use Rattle.bits.specs.Sorts.{allAre, when}
-use Rattle.terms.specs.Nodes.{sizeAt}
-use Rattle.sorting.specs.Steps.{Common, SomeTrees, commonSort}
-use Rattle.sorting.proofs.Walks.{Left, all-left, none-left, rest-left, turn}
+use Rattle.operators.specs.Sorts.{allAre, when}
+use Rattle.terms.specs.code.Nodes.{sizeAt}
+use Rattle.term_sorts.specs.code.Sorting.{Common, SomeTrees, commonSort}
+use Rattle.term_sorts.proofs.Walks.{Left, all-left, none-left, rest-left, turn}
 
 -- The sort in common is that of the number `sort`, where those of `rest` are.
 pub record Agrees (sort : ℕ) (all rest : List ℕ) : Type 0 where

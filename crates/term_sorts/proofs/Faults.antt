@@ -9,10 +9,10 @@ use mathlib.Core.Option.{Option, none as nothing, some}
 use borrow.Author.Tests.{le-ltb, lt-ltb, ltb-false, ltb-true, ne-eqb}
 use lib.Dec.{eqb, ltb}
 use Rattle.forest.specs.Forest.{Forest, join, none, size, tree}
-use Rattle.grammar.specs.Derivation.{Item}
+use Rattle.derivation.specs.Derivation.{Item}
 use Rattle.terms.specs.Sorts.{sortOver, withSort}
-use Rattle.sorting.specs.Forms.{FormScope, faultFrom, formSorts, itemSort, sortNumber, sorted, treeSort}
-use Rattle.sorting.proofs.Wholes.{sorted-with}
+use Rattle.term_sorts.specs.Forms.{FormScope, faultFrom, formSorts, itemSort, sortNumber, sorted, treeSort}
+use Rattle.term_sorts.proofs.Wholes.{sorted-with}
 
 -- A number between two others.
 record Between (least most n : ℕ) : Type 0 where

@@ -10,13 +10,13 @@ use lib.ListN.{getD, length, length-set, set}
 use lib.Seq.{ext-getD, getD-set-other, getD-set-same}
 use Rattle.forest.proofs.Laws.{Tree, from-one, size-from, size-zero, tree-at}
 use Rattle.forest.specs.Forest.{from, join, none, size, tree}
-use Rattle.forest.specs.Rows.{over}
-use Rattle.terms.specs.Nodes.{operandsAt}
-use Rattle.sorting.specs.Forms.{faultFrom, sortColumn, sortNumber, sorted}
-use Rattle.sorting.specs.Steps.{AllSorted, NodeAt, NodeGives, SortsFilled, SortsFilling, Trees, treeSorts}
-use Rattle.sorting.proofs.Columns.{column-at, column-length, over-length, over-past, trees-stand}
-use Rattle.sorting.proofs.Faults.{fault-none, fault-turn}
-use Rattle.sorting.proofs.NodeSorts.{form-says, sorts-count, sorts-together}
+use Rattle.forest.specs.code.Rows.{over}
+use Rattle.terms.specs.code.Nodes.{operandsAt}
+use Rattle.term_sorts.specs.Forms.{faultFrom, sortColumn, sortNumber, sorted}
+use Rattle.term_sorts.specs.code.Sorting.{AllSorted, NodeAt, NodeGives, SortsFilled, SortsFilling, Trees, treeSorts}
+use Rattle.term_sorts.proofs.Columns.{column-at, column-length, over-length, over-past, trees-stand}
+use Rattle.term_sorts.proofs.Faults.{fault-none, fault-turn}
+use Rattle.term_sorts.proofs.NodeSorts.{form-says, sorts-count, sorts-together}
 
 -- The column that is to be.
 abbrev pub whole-column : {forms signatures : List ℕ} {count : ℕ} {lent : List ℕ} → SortsFilling forms signatures count lent → List ℕ

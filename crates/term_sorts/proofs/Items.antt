@@ -9,16 +9,16 @@ use borrow.Author.Tests.{eq-eqb, eqb-false, eqb-true, le-leb, leb-true, lt-ltb, 
 use lib.Dec.{eqb, leb}
 use lib.ListN.{getD, length}
 use Rattle.forest.proofs.Bools.{and-left, and-right, apart}
-use Rattle.bits.specs.Operators.{operatorSort}
-use Rattle.bits.specs.Sorts.{maxWidth, valuesOf, when}
-use Rattle.grammar.specs.Derivation.{Item, anyArgument, anyLiteral, nonTerminal, the}
-use Rattle.grammar.specs.Tables.{itemCode, itemValue}
+use Rattle.operators.specs.Operators.{operatorSort}
+use Rattle.operators.specs.Sorts.{maxWidth, valuesOf, when}
+use Rattle.derivation.specs.Derivation.{Item, anyArgument, anyLiteral, nonTerminal, the}
+use Rattle.derivation.specs.code.Tables.{itemCode, itemValue}
 use Rattle.terms.specs.Labels.{defined, function, literal, name, operator}
-use Rattle.terms.specs.Nodes.{Plain}
+use Rattle.terms.specs.code.Nodes.{Plain}
 use Rattle.terms.specs.Sorts.{Signature, calledSort, labelSort, sameSorts}
-use Rattle.sorting.specs.Forms.{FormScope, itemSort}
-use Rattle.sorting.specs.Steps.{firstRow, leafSort}
-use Rattle.sorting.specs.Tables.{Real, RowIs, RowsAre, Sortable, SortsAre, allRows, functionSignature, nonTerminalSignature}
+use Rattle.term_sorts.specs.Forms.{FormScope, itemSort}
+use Rattle.term_sorts.specs.code.Sorting.{firstRow, leafSort}
+use Rattle.term_sorts.specs.code.Signatures.{Real, RowIs, RowsAre, Sortable, SortsAre, allRows, functionSignature, nonTerminalSignature}
 
 -- A label that its numbers tell; any other item is told by them anyway.
 abbrev pub Told : Item → Type 0

@@ -12,20 +12,20 @@ use Rattle.forest.proofs.Bools.{apart}
 use Rattle.forest.proofs.Nodes.{node-at}
 use Rattle.forest.proofs.Rows.{row-at}
 use Rattle.forest.specs.Forest.{Forest, count, from, join, nodesOf, none, size, tree}
-use Rattle.forest.specs.Rows.{numberAt, rows}
-use Rattle.grammar.proofs.Reading.{ItemSays}
-use Rattle.grammar.specs.Derivation.{Item, anyArgument, anyLiteral, nonTerminal, the}
-use Rattle.grammar.specs.Tables.{formTable, itemCode, itemRow, itemValue}
+use Rattle.forest.specs.code.Rows.{numberAt, rows}
+use Rattle.derivation.proofs.Reading.{ItemSays}
+use Rattle.derivation.specs.Derivation.{Item, anyArgument, anyLiteral, nonTerminal, the}
+use Rattle.derivation.specs.code.Tables.{formTable, itemCode, itemRow, itemValue}
 use Rattle.terms.specs.Labels.{defined, function, literal, name, operator}
-use Rattle.terms.specs.Nodes.{codeAt, operandsAt, rowWidth, valueAt}
+use Rattle.terms.specs.code.Nodes.{codeAt, operandsAt, rowWidth, valueAt}
 use Rattle.terms.specs.Sorts.{sortOver}
-use Rattle.bits.specs.Sorts.{when}
-use Rattle.sorting.specs.Forms.{FormScope, formSorts, itemSort, sortNumber, sorted, treeSort}
-use Rattle.sorting.specs.Steps.{Called, CalledGives, NodeAt, NodeGives, OperatorGives, SortedTrees, firstRow, leafSort, together, treeSorts}
-use Rattle.sorting.specs.Tables.{AllReal, Real}
-use Rattle.sorting.proofs.Items.{Callable, Told, callable, leaf-item, operator-item}
-use Rattle.sorting.proofs.RuleSorts.{number-of}
-use Rattle.sorting.proofs.Wholes.{all-present}
+use Rattle.operators.specs.Sorts.{when}
+use Rattle.term_sorts.specs.Forms.{FormScope, formSorts, itemSort, sortNumber, sorted, treeSort}
+use Rattle.term_sorts.specs.code.Sorting.{Called, CalledGives, NodeAt, NodeGives, OperatorGives, SortedTrees, firstRow, leafSort, together, treeSorts}
+use Rattle.term_sorts.specs.code.Signatures.{AllReal, Real}
+use Rattle.term_sorts.proofs.Items.{Callable, Told, callable, leaf-item, operator-item}
+use Rattle.term_sorts.proofs.RuleSorts.{number-of}
+use Rattle.term_sorts.proofs.Wholes.{all-present}
 
 -- The table of forms, whatever follows it, says of the node at a cursor what stands there.
 pub form-says : {forms : List ℕ} (all : Forest Item) (rest : List ℕ) → forms ≡ formTable all ++ rest → {p : ℕ} {i : Item} {ops more : Forest Item}

@@ -8,9 +8,9 @@ use borrow.Author.Tests.{eqb-true, leb-true, ltb-true}
 use lib.Dec.{eqb, leb, ltb}
 use lib.ListN.{length}
 use Rattle.forest.proofs.Bools.{and-left, and-right, each}
-use Rattle.bits.specs.Operators.{operatorAt, operatorCount, operatorSort, operators}
-use Rattle.bits.specs.Sorts.{ruleNumber}
-use Rattle.sorting.specs.Steps.{OperatorGives, RuleGives, Ruled, SortedTrees, least}
+use Rattle.operators.specs.Operators.{operatorAt, operatorCount, operatorSort, operators}
+use Rattle.operators.specs.Sorts.{ruleNumber}
+use Rattle.term_sorts.specs.code.Sorting.{OperatorGives, RuleGives, Ruled, SortedTrees, least}
 
 -- Each operator has as many operands as its rule asks for.
 enough-operands : {o : ℕ} → o < operatorCount → least (operatorAt o .rule) ≤ operatorAt o .operands

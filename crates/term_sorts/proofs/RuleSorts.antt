@@ -7,11 +7,11 @@ use mathlib.Core.List.{List, [], _∷_}
 use borrow.Author.Tests.{le-leb, lt-leb, lt-ltb, ne-eqb}
 use lib.Dec.{eqb, leb, ltb}
 use lib.ListN.{getD, length}
-use Rattle.bits.specs.Sorts.{SortRule, allAre, bool, choice, cutting, equality, joining, logic, maxWidth, order, ruleNumber, sortBy, vector, when, width}
-use Rattle.terms.specs.Nodes.{sizeAt}
-use Rattle.sorting.specs.Forms.{sortNumber}
-use Rattle.sorting.specs.Steps.{Common, RuleGives, Ruled, SomeTrees, commonSort, least}
-use Rattle.sorting.proofs.Walks.{Turn, all-left, turn}
+use Rattle.operators.specs.Sorts.{SortRule, allAre, bool, choice, cutting, equality, joining, logic, maxWidth, order, ruleNumber, sortBy, vector, when, width}
+use Rattle.terms.specs.code.Nodes.{sizeAt}
+use Rattle.term_sorts.specs.Forms.{sortNumber}
+use Rattle.term_sorts.specs.code.Sorting.{Common, RuleGives, Ruled, SomeTrees, commonSort, least}
+use Rattle.term_sorts.proofs.Walks.{Turn, all-left, turn}
 
 -- The number of a sort that a test gives.
 pub number-of : (test : Bool) (s : ℕ) → cond test (s + 1) 0 ≡ sortNumber (when test s)

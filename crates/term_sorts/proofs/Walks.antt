@@ -4,8 +4,8 @@ use native.Mathlib.Omega.{arith}
 use mathlib.Core.Path.{_≡_}
 use mathlib.Core.List.{List, [], _∷_}
 use lib.ListN.{getD, length}
-use Rattle.terms.specs.Nodes.{sizeAt}
-use Rattle.sorting.specs.Steps.{Stand, Trees}
+use Rattle.terms.specs.code.Nodes.{sizeAt}
+use Rattle.term_sorts.specs.code.Sorting.{Stand, Trees}
 
 -- So many trees are left from node `here` on, and what is owed of their sorts.
 pub record Left {A : Type 0} (number : A → ℕ) (forms column : List ℕ) (here left : ℕ) (Owed : List A → Type 0) : Type 0 where

@@ -7,11 +7,11 @@ use mathlib.Core.List.{List, [], _∷_}
 use mathlib.Core.Option.{Option, none as nothing, some}
 use lib.ListN.{getD, length}
 use Rattle.forest.proofs.Bools.{apart}
-use Rattle.terms.specs.Nodes.{sizeAt}
+use Rattle.terms.specs.code.Nodes.{sizeAt}
 use Rattle.terms.specs.Sorts.{withSort}
-use Rattle.sorting.specs.Forms.{sortNumber, sorted}
-use Rattle.sorting.specs.Steps.{AllSorted, Stand, Trees, together}
-use Rattle.sorting.proofs.Walks.{Left, all-left, none-left, rest-left, turn}
+use Rattle.term_sorts.specs.Forms.{sortNumber, sorted}
+use Rattle.term_sorts.specs.code.Sorting.{AllSorted, Stand, Trees, together}
+use Rattle.term_sorts.proofs.Walks.{Left, all-left, none-left, rest-left, turn}
 
 -- Whether one sort more is there with others.
 pub sorted-with : (s : Option ℕ) (more : Option (List ℕ)) → (sortNumber s ≡ 0 → ⊥) → sorted (withSort s more) ≡ sorted more

@@ -5,10 +5,10 @@ use mathlib.Core.List.{List, [], _∷_, _++_}
 use mathlib.Core.Option.{Option, none as nothing, some}
 use lib.Dec.{ltb}
 use Rattle.forest.specs.Forest.{Forest, none, size, tree}
-use Rattle.grammar.specs.Derivation.{Item}
+use Rattle.derivation.specs.Derivation.{Item}
 -- passed on: the sorts of forms
-pub use Rattle.grammar.specs.Sorts.{FormScope, treeSort}
-unfoldable pub use Rattle.grammar.specs.Sorts.{formSorts, itemSort}
+pub use Rattle.derivation.specs.Sorts.{FormScope, treeSort}
+unfoldable pub use Rattle.derivation.specs.Sorts.{formSorts, itemSort}
 
 -- Whether there is a sort.
 abbrev pub sorted : {A : Type 0} → Option A → Bool

@@ -1,3 +1,2 @@
 pub mod Forms
-pub mod Tables
-pub mod Steps
+pub mod code

@@ -4,9 +4,9 @@ use crate::rules::number_when;
 use terms::size_at;
 ghost use mathlib.Core.Path.{_≡_};
 ghost use Prim.Native.Nat.{_<_};
-ghost use Rattle.forest.specs.Rows.{numberAt};
-ghost use Rattle.sorting.specs.Steps.{ArgumentsFit, Called, CalledFully, CalledGives};
-ghost use Rattle.sorting.specs.Tables.{allRows, signatureWidth};
+ghost use Rattle.forest.specs.code.Rows.{numberAt};
+ghost use Rattle.term_sorts.specs.code.Sorting.{ArgumentsFit, Called, CalledFully, CalledGives};
+ghost use Rattle.term_sorts.specs.code.Signatures.{allRows, signatureWidth};
 
 // How many numbers a row has.
 const ROW: usize = 10;

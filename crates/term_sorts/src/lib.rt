@@ -13,7 +13,7 @@ use operands::operands_sorted;
 use terms::operands_at;
 ghost use mathlib.Core.Path.{_≡_};
 ghost use mathlib.Core.Bool.{cond};
-ghost use Rattle.sorting.specs.Steps.{SortsFilled, SortsFilling};
+ghost use Rattle.term_sorts.specs.code.Sorting.{SortsFilled, SortsFilling};
 
 // The one number where a test passes, the other where it fails.
 fn pick(test: bool, one: usize, other: usize) -> usize

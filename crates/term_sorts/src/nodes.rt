@@ -10,7 +10,7 @@ use terms::code_at;
 use terms::operands_at;
 use terms::value_at;
 ghost use mathlib.Core.Path.{_≡_};
-ghost use Rattle.sorting.specs.Steps.{NodeAt, NodeGives, firstRow, leafSort};
+ghost use Rattle.term_sorts.specs.code.Sorting.{NodeAt, NodeGives, firstRow, leafSort};
 
 // The kind of a non-terminal; the kinds before it are those of labels.
 const NON_TERMINAL: u64 = 5;

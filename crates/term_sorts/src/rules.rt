@@ -1,17 +1,17 @@
 //! The sort of an operator over operands of given sorts, by its rule.
 use crate::operands::common_sort;
 use crate::operands::sort_at;
-use bits::operators::OPERATORS;
-use bits::operators::operands_of;
-use bits::operators::rule_of;
+use operators::operators::OPERATORS;
+use operators::operators::operands_of;
+use operators::operators::rule_of;
 use terms::size_at;
 ghost use mathlib.Core.Path.{_≡_};
 ghost use Prim.Native.Nat.{_+_, _-_, _^_, _<_};
 ghost use mathlib.Core.Bool.{_&&_, cond};
 ghost use lib.Dec.{leb, ltb};
-ghost use Rattle.bits.specs.Sorts.{maxWidth, vector, when};
-ghost use Rattle.sorting.specs.Forms.{sortNumber};
-ghost use Rattle.sorting.specs.Steps.{OperatorGives, RuleGives, Ruled, SortedTrees};
+ghost use Rattle.operators.specs.Sorts.{maxWidth, vector, when};
+ghost use Rattle.term_sorts.specs.Forms.{sortNumber};
+ghost use Rattle.term_sorts.specs.code.Sorting.{OperatorGives, RuleGives, Ruled, SortedTrees};
 
 // The numbers of the sort rules.
 const LOGIC: u64 = 0;

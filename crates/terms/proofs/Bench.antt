@@ -4,8 +4,8 @@ use mathlib.Core.Path.{_≡_, refl}
 use mathlib.Core.List.{[], _∷_, map}
 use Rattle.forest.specs.Forest.{none, tree}
 use Rattle.forest.specs.Lists.{sameBytes, spelling}
-use Rattle.bits.specs.Operators.{named, operatorAt, operatorOf, operatorSort, operators}
-use Rattle.bits.specs.Sorts.{sortBy}
+use Rattle.operators.specs.Operators.{named, operatorAt, operatorOf, operatorSort, operators}
+use Rattle.operators.specs.Sorts.{sortBy}
 use Rattle.terms.specs.Costs.{costs, definedCost}
 use Rattle.terms.specs.Labels.{Terms, defined, name, operator}
 use Rattle.terms.specs.Sorts.{AllSorted, Definition, calledSort, labelSort, sameSorts, sortOver, sortsOf, withSort}

@@ -12,11 +12,11 @@ use Rattle.forest.proofs.Nodes.{node-at}
 use Rattle.forest.proofs.Options.{never}
 use Rattle.forest.proofs.Rows.{row-at}
 use Rattle.forest.specs.Forest.{count, from, join, nodesOf, none, size, tree}
-use Rattle.forest.specs.Rows.{numberAt, rows}
-use Rattle.bits.specs.Sorts.{when}
+use Rattle.forest.specs.code.Rows.{numberAt, rows}
+use Rattle.operators.specs.Sorts.{when}
 use Rattle.terms.specs.Labels.{Label, Terms, defined, function, literal, name, operator}
-use Rattle.terms.specs.Nodes.{AllPlain, Plain, codeAt, codeOf, definedKind, literalKind, nameKind, nodeRow, nodeTable, operandsAt, operatorKind, rowWidth}
-use Rattle.terms.specs.Nodes.{sizeAt, valueAt, valueOf}
+use Rattle.terms.specs.code.Nodes.{AllPlain, Plain, codeAt, codeOf, definedKind, literalKind, nameKind, nodeRow, nodeTable, operandsAt, operatorKind, rowWidth}
+use Rattle.terms.specs.code.Nodes.{sizeAt, valueAt, valueOf}
 use Rattle.terms.specs.Sorts.{Scope, Signature, calledSort, labelSort, sameSorts, sortsOf}
 use Rattle.terms.proofs.Sorted.{sorted, sorts-tree}
 

@@ -11,10 +11,10 @@ use lib.ListN.{getD, length, length-map}
 use Rattle.forest.proofs.Bools.{and-left, and-right, apart}
 use Rattle.forest.proofs.Options.{never, passed}
 use Rattle.forest.specs.Forest.{none, tree}
-use Rattle.bits.proofs.Closed.{closed}
-use Rattle.bits.specs.Operators.{operatorValue}
-use Rattle.bits.specs.Sorts.{AllFit, Fit, maxWidth, valuesOf}
-use Rattle.bits.specs.Sorts.AllFit.{nothing as no-more, also}
+use Rattle.operators.proofs.Closed.{closed}
+use Rattle.operators.specs.Operators.{operatorValue}
+use Rattle.operators.specs.Sorts.{AllFit, Fit, maxWidth, valuesOf}
+use Rattle.operators.specs.Sorts.AllFit.{nothing as no-more, also}
 use Rattle.terms.specs.Labels.{Label, Terms, defined, function, literal, name, operator}
 use Rattle.terms.specs.Sorts.{AllSorted, BodySorted, Definition, FunctionsSorted, Scope, Signature, calledSort, labelSort, sameSorts, signatures, sortsOf}
 use Rattle.terms.specs.Values.{Meaning, called, definedValue, functionValue, labelValue, meaningAt, numbersIn, operatorGives, resultOf, sortsIn, value}

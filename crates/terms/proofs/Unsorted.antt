@@ -9,8 +9,8 @@ use lib.Dec.{eqb, leb, ltb}
 use lib.ListN.{getD, length, length-map}
 use Rattle.forest.proofs.Options.{never, passed}
 use Rattle.forest.specs.Forest.{none, tree}
-use Rattle.bits.specs.Operators.{operatorSort}
-use Rattle.bits.specs.Sorts.{maxWidth, valuesOf, when}
+use Rattle.operators.specs.Operators.{operatorSort}
+use Rattle.operators.specs.Sorts.{maxWidth, valuesOf, when}
 use Rattle.terms.specs.Labels.{Label, Terms, defined, function, literal, name, operator}
 use Rattle.terms.specs.Sorts.{Definition, Scope, Signature, calledSort, labelSort, sameSorts, signatures, sortOver, sortsOf, withSort}
 use Rattle.terms.specs.Values.{Meaning, called, definedValue, functionValue, labelValue, numbersIn, operatorGives, resultOf, sortsIn, value, valueOver}

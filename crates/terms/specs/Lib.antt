@@ -2,4 +2,4 @@ pub mod Labels
 pub mod Sorts
 pub mod Costs
 pub mod Values
-pub mod Nodes
+pub mod code

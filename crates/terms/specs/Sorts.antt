@@ -7,8 +7,8 @@ use mathlib.Core.Path.{_≡_}
 use lib.Dec.{eqb, leb, ltb}
 use lib.ListN.{getD, length}
 use Rattle.forest.specs.Forest.{none, tree}
-use Rattle.bits.specs.Operators.{operatorSort}
-use Rattle.bits.specs.Sorts.{maxWidth, valuesOf, when}
+use Rattle.operators.specs.Operators.{operatorSort}
+use Rattle.operators.specs.Sorts.{maxWidth, valuesOf, when}
 use Rattle.terms.specs.Labels.{Label, Terms, defined, function, literal, name, operator}
 
 -- The sorts of a function's arguments and of its result.

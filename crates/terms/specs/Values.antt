@@ -6,8 +6,8 @@ use mathlib.Core.Option.{Option, none as nothing, some}
 use lib.Dec.{eqb, leb, ltb}
 use lib.ListN.{getD, length}
 use Rattle.forest.specs.Forest.{none, tree}
-use Rattle.bits.specs.Operators.{operatorSort, operatorValue}
-use Rattle.bits.specs.Sorts.{maxWidth, valuesOf}
+use Rattle.operators.specs.Operators.{operatorSort, operatorValue}
+use Rattle.operators.specs.Sorts.{maxWidth, valuesOf}
 use Rattle.terms.specs.Labels.{Label, Terms, defined, function, literal, name, operator}
 use Rattle.terms.specs.Sorts.{Definition, sameSorts}
 use Rattle.terms.specs.declared.Value.{Value}

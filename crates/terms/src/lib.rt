@@ -1,8 +1,8 @@
 //! Terms in node tables: four numbers for each node. A node past the end of a table has zeros.
 ghost use mathlib.Core.Path.{_≡_};
 ghost use Prim.Native.Nat.{_<_};
-ghost use Rattle.forest.specs.Rows.{numberAt};
-ghost use Rattle.terms.specs.Nodes.{codeAt, operandsAt, sizeAt, valueAt};
+ghost use Rattle.forest.specs.code.Rows.{numberAt};
+ghost use Rattle.terms.specs.code.Nodes.{codeAt, operandsAt, sizeAt, valueAt};
 
 // A value of a sort: 0 is Bool, else the width; and its number.
 pub struct Value {

@@ -4,34 +4,34 @@ use Prim.Native.String.{String}
 use mathlib.Core.List.{List, [], _∷_, map}
 use mathlib.Core.Path.{_≡_, refl}
 use Rattle.forest.specs.Lists.{spelling}
-use Rattle.bits.specs.Operators.{named, operatorAt, operatorOf, operators, operatorSort}
-use Rattle.bits.specs.Sorts.{sortBy}
-use Rattle.carrying.specs.Carried.{anyUncarried, notCarried}
-use Rattle.declaring.specs.New.{namedBy, newPairs}
-use Rattle.faults.specs.Faults.{ruleMisfit, termFault}
+use Rattle.derivation.specs.Sorts.{formSorts, itemSort}
 use Rattle.forest.specs.Forest.{count, join, nodesOf}
 use Rattle.forest.specs.Lists.{sameBytes}
-use Rattle.gathering.specs.Terms.{cases, nodeWord, rawTerms}
-use Rattle.grammar.specs.Sorts.{formSorts, itemSort}
+use Rattle.forest.specs.Search.{placeIn}
+use Rattle.grammars.specs.Listing.{listingMisfit}
+use Rattle.headers.specs.Heads.{allowed}
 use Rattle.headers.specs.Tokens.{argumentTokens, differing, wordsIn}
-use Rattle.heading.specs.Heads.{allowed}
 use Rattle.lexemes.specs.Lists.{after, allNumerals, inside, item}
-use Rattle.lexemes.specs.Standing.{itemsOf}
-use Rattle.listing.specs.Listing.{listingMisfit}
-use Rattle.lookup.specs.Search.{placeIn}
-use Rattle.naming.specs.Scopes.{formsOf, inOrder, isKnown, isNamed, symbolMeans}
-use Rattle.naming.specs.Unknown.{unknownIn}
-use Rattle.reserved.specs.Reserved.{isOneOf, isReserved, reservedWords}
-use Rattle.response.specs.Response.{Answered, answered, bodies, inScriptOrder, judgedAll, judgedBody, judgedExtra, refused as refusedBody}
-use Rattle.rules.specs.Rules.{nodesPast, rulePast, rulesIn, rulesOf, sides}
-use Rattle.scanning.specs.Spans.{runEnd, startsFrom, wordEnd, wordStarts}
-use Rattle.scanning.specs.Trees.{levelsAt, levelsBefore, treesFrom}
-use Rattle.scanning.specs.Words.{bytesAt, wordAt, wordsOf}
+use Rattle.lexemes.specs.Reserved.{isOneOf, isReserved, reservedWords}
+use Rattle.lexemes.specs.code.Standing.{itemsOf}
+use Rattle.names.specs.New.{namedBy, newPairs}
+use Rattle.names.specs.Scopes.{formsOf, inOrder, isKnown, isNamed, symbolMeans}
+use Rattle.names.specs.Unknown.{unknownIn}
+use Rattle.operators.specs.Operators.{named, operatorAt, operatorOf, operators, operatorSort}
+use Rattle.operators.specs.Sorts.{sortBy}
+use Rattle.script.specs.Response.{Answered, answered, bodies, inScriptOrder, judgedAll, judgedBody, judgedExtra, refused as refusedBody}
 use Rattle.script.specs.Script.{grammarPlace, judged, Known, knownAfter, limitPlace, namePlace, nothingKnown, passed, Read, readAll, refused, sortingPlace, termsIn, tested}
+use Rattle.shapes.specs.Carried.{anyUncarried, notCarried}
 use Rattle.shapes.specs.Shapes.{all, commandShape, termShapes}
-use Rattle.sorts.specs.Written.{leastIn}
-use Rattle.spelling.specs.Kinds.{allIn, formed, hashed, kindOf, literal as literalKind, numeral as numeralKind, spelled, symbol as symbolKind}
+use Rattle.term_faults.specs.Faults.{ruleMisfit, termFault}
+use Rattle.term_nodes.specs.Rules.{nodesPast, rulePast, rulesIn, rulesOf, sides}
+use Rattle.term_nodes.specs.Terms.{cases, nodeWord, rawTerms}
 use Rattle.terms.specs.Sorts.{calledSort, labelSort, sameSorts, sortOver, withSort}
+use Rattle.word_kinds.specs.Kinds.{allIn, formed, hashed, kindOf, literal as literalKind, numeral as numeralKind, spelled, symbol as symbolKind}
+use Rattle.words.specs.Spans.{runEnd, startsFrom, wordEnd, wordStarts}
+use Rattle.words.specs.Trees.{levelsAt, levelsBefore, treesFrom}
+use Rattle.words.specs.Words.{bytesAt, wordAt, wordsOf}
+use Rattle.written_sorts.specs.Written.{leastIn}
 
 -- A reading: a script of so many words, a response of so many, and the number and the word of the refusal; nothing where both pass.
 pub record Reading : Type 0 where

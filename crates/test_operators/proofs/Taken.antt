@@ -10,13 +10,13 @@ use lib.Bits.{bitAnd, mask-lt}
 use lib.Dec.{eqb, ltb}
 use lib.ListN.{getD, getD-replicate, length}
 use borrow.Author.Tests.{eq-eqb, eqb-true, le-leb, lt-ltb}
-use Rattle.bits.specs.Operators.{Operator, operatorAt, operatorCount, operatorSort, operators}
-use Rattle.bits.specs.Sorts.{AllFit, Fit, SortRule, allAre, bool, choice, cutting, equality, joining, logic, order, ruleNumber, sortBy, width}
-use Rattle.bits.specs.Sorts.AllFit.{nothing, also}
-use Rattle.bits.specs.Steps.{Operable, Width, Word}
-use Rattle.bits.proofs.Results.{rule-at, ruleAt}
-use Rattle.bits.proofs.Rules.{givesBool, word-fits}
-use Rattle.bits.proofs.Table.{column}
+use Rattle.operators.specs.Operators.{Operator, operatorAt, operatorCount, operatorSort, operators}
+use Rattle.operators.specs.Sorts.{AllFit, Fit, SortRule, allAre, bool, choice, cutting, equality, joining, logic, order, ruleNumber, sortBy, width}
+use Rattle.operators.specs.Sorts.AllFit.{nothing, also}
+use Rattle.operators.specs.code.Applying.{Operable, Width, Word}
+use Rattle.operators.proofs.Results.{rule-at, ruleAt}
+use Rattle.operators.proofs.Rules.{givesBool, word-fits}
+use Rattle.operators.proofs.Table.{column}
 
 -- The low bits of a number are a word.
 pub low-word : (x : ℕ) {n m : ℕ} → Width n → m ≡ 2 ^ n - 1 → Word n (bitAnd x m)

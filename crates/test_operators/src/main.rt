@@ -1,18 +1,18 @@
 //! Runs every operator at every width, on edge operands and on pseudo-random ones, and prints for each width a hash of the values of each operator.
 //! tests/operators.py computes the same lines from SMT-LIB's meaning of the operators.
-use bits::ones;
-use bits::operators::OPERATORS;
-use bits::operators::apply;
-use bits::operators::operands_of;
-use bits::operators::rule_of;
 use libc::STDOUT_FILENO;
+use operators::ones;
+use operators::operators::OPERATORS;
+use operators::operators::apply;
+use operators::operators::operands_of;
+use operators::operators::rule_of;
 ghost use mathlib.Core.Bool.{cond};
 ghost use mathlib.Core.Path.{_≡_};
 ghost use lib.Dec.{ltb};
 ghost use Prim.Native.Nat.{_<_};
-ghost use Rattle.bits.specs.Operators.{operatorAt, operatorCount};
-ghost use Rattle.bits.specs.Sorts.{cutting, joining};
-ghost use Rattle.bits.specs.Steps.{Width, Word};
+ghost use Rattle.operators.specs.Operators.{operatorAt, operatorCount};
+ghost use Rattle.operators.specs.Sorts.{cutting, joining};
+ghost use Rattle.operators.specs.code.Applying.{Width, Word};
 
 // How many pseudo-random pairs of operands each operator runs on at each width.
 const PAIRS: u64 = 10_000;

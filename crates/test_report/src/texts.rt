@@ -2,11 +2,11 @@
 use crate::digest::digest_of;
 use crate::hex::decode;
 use libc::STDOUT_FILENO;
-use readings::Limits;
-use readings::Reading;
-use readings::answers::number_of;
-use readings::answers::passed_of;
-use readings::answers::place_of;
+use words::Limits;
+use words::Reading;
+use words::answers::number_of;
+use words::answers::passed_of;
+use words::answers::place_of;
 use words::read_words;
 use words::word_at;
 ghost use mathlib.Core.Path.{_≡_};

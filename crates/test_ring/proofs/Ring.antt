@@ -5,12 +5,12 @@ use native.Mathlib.Omega.{arith}
 use mathlib.Core.List.{List, [], _∷_}
 use lib.ListN.{length}
 use Rattle.forest.specs.Forest.{count, size, join, nodesOf}
-use Rattle.forest.specs.Rows.{rows}
-use Rattle.terms.specs.Nodes.{AllPlain, nodeTable}
-use Rattle.grammar.specs.Derivation.{LeavesFit, Proper, formOf, headOf}
-use Rattle.grammar.specs.Tables.{formTable, rightSides, ruleTable}
-use Rattle.grammar.specs.Answer.{DerivePre, areaSize}
-use Rattle.grammar.proofs.Bench.{ring, ringBody}
+use Rattle.forest.specs.code.Rows.{rows}
+use Rattle.terms.specs.code.Nodes.{AllPlain, nodeTable}
+use Rattle.derivation.specs.Derivation.{LeavesFit, Proper, formOf, headOf}
+use Rattle.derivation.specs.code.Tables.{formTable, rightSides, ruleTable}
+use Rattle.derivation.specs.Answer.{DerivePre, areaSize}
+use Rattle.derivation.proofs.Bench.{ring, ringBody}
 
 low : (r : ℕ) → r < 3 → headOf (ring .rules) r < 16
 unfolding headOf

@@ -25,7 +25,7 @@ fn main() {
     let forms: [u64; 12] = [5, 1, 0, 1, 5, 0, 0, 1, 513, 0, 0, 1];
     let body: [u64; 4] = [513, 0, 0, 1];
     let mut area = unused_area();
-    if grammar::derive(&rules, &forms, &body, 1, &mut area) {
+    if derivation::derive(&rules, &forms, &body, 1, &mut area) {
         let line = [
             digit(area[PLACE]),
             b' ',

@@ -1,4 +1,4 @@
--- The case meets what the functions of `meaning` ask.
+-- The case meets what the functions of `evaluation` ask.
 use Prim.Native.Nat.{ℕ, zero, suc, _≤_, _<_}
 use native.Mathlib.Omega.{arith}
 use mathlib.Core.Path.{_≡_, refl, sym, _∙_}
@@ -7,22 +7,22 @@ use mathlib.Core.Option.{some}
 use lib.Dec.{lit<, lit≤}
 use lib.ListN.{length, replicate, set}
 use Rattle.forest.specs.Forest.{from, join}
-use Rattle.bits.specs.Operators.{operatorAt, operatorSort, operatorValue, operators}
-use Rattle.bits.specs.Sorts.{AllFit, sortBy}
-use Rattle.bits.specs.Sorts.AllFit.{nothing, also}
+use Rattle.operators.specs.Operators.{operatorAt, operatorSort, operatorValue, operators}
+use Rattle.operators.specs.Sorts.{AllFit, sortBy}
+use Rattle.operators.specs.Sorts.AllFit.{nothing, also}
 use Rattle.terms.specs.Costs.{costOf, costs, definedCost, functionCost}
-use Rattle.terms.specs.Nodes.{AllPlain, nodeTable}
+use Rattle.terms.specs.code.Nodes.{AllPlain, nodeTable}
 use Rattle.terms.specs.Sorts.{sameSorts}
 use Rattle.terms.specs.Values.{called, definedValue, functionValue, labelValue, numbersIn, operatorGives, resultOf, value, valueOver, valuesAt, valuesIn}
 use Rattle.terms.specs.Values.{withValue}
-use Rattle.meaning.specs.Budget.{Priced, held}
-use Rattle.meaning.specs.Steps.{Costing, Evaluable, Pricing}
-use Rattle.meaning.specs.Tables.{BodiesAt, CallsDefined, CallsEarlier, CallsKnown, FewArguments, BodiesHold, TermStands, mostDefined}
-use Rattle.meaning_run.specs.Case.{all, constraints, d0, defs, f0, funs, numbers, places, shifted, small, sorts}
-use Rattle.running.specs.Points.{pointAt, valuesBy}
-use Rattle.running.specs.Running.{isTrue, runPoints, runTerms}
-use Rattle.running.specs.declared.Ran.the-variants.{Ended, False}
-use Rattle.running.specs.Steps.{AllValued, PointsRunnable, TermsAt}
+use Rattle.evaluation.specs.code.Budget.{Priced, held}
+use Rattle.evaluation.specs.code.Evaluating.{Costing, Evaluable, Pricing}
+use Rattle.evaluation.specs.code.Tables.{BodiesAt, CallsDefined, CallsEarlier, CallsKnown, FewArguments, BodiesHold, TermStands, mostDefined}
+use Rattle.test_values.specs.Case.{all, constraints, d0, defs, f0, funs, numbers, places, shifted, small, sorts}
+use Rattle.evaluation.specs.Points.{pointAt, valuesBy}
+use Rattle.evaluation.specs.Running.{isTrue, runPoints, runTerms}
+use Rattle.evaluation.specs.declared.Ran.the-variants.{Ended, False}
+use Rattle.evaluation.specs.code.Runs.{AllValued, PointsRunnable, TermsAt}
 
 -- The labels are told by their numbers.
 pub all-plain : AllPlain all

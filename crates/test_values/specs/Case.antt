@@ -4,8 +4,8 @@ use mathlib.Core.List.{List, [], _∷_}
 use Rattle.forest.specs.Forest.{none, tree}
 use Rattle.terms.specs.Labels.{Terms, defined, function, literal, name, operator}
 use Rattle.terms.specs.Sorts.{Definition}
-use Rattle.running.specs.declared.Ran.{Ran}
-use Rattle.running.specs.declared.Ran.the-variants.{Ended, False, Passed}
+use Rattle.evaluation.specs.declared.Ran.{Ran}
+use Rattle.evaluation.specs.declared.Ran.the-variants.{Ended, False, Passed}
 
 -- The name x, and the terms that follow it.
 abbrev pub x : Terms → Terms

@@ -1,17 +1,17 @@
 //! Runs a small case: its costs, a value, and the run over its points with different budgets.
-use meaning::costs::body_costs;
-use meaning::costs::cost_at;
-use meaning::evaluator::eval_term;
-use running::Ran;
-use running::running::left_of;
-use running::running::run_points;
+use evaluation::Ran;
+use evaluation::costs::body_costs;
+use evaluation::costs::cost_at;
+use evaluation::evaluator::eval_term;
+use evaluation::running::left_of;
+use evaluation::running::run_points;
 ghost use mathlib.Core.Path.{_≡_};
 ghost use lib.ListN.{getD, replicate, set};
 ghost use Rattle.terms.specs.Costs.{costOf};
-ghost use Rattle.terms.specs.Nodes.{nodeTable};
-ghost use Rattle.meaning.specs.Budget.{Priced, held};
-ghost use Rattle.running.specs.Running.{runPoints};
-ghost use Rattle.meaning_run.specs.Case.{all, answerOf, constraints, defs, funs, numbers, shifted, sorts};
+ghost use Rattle.terms.specs.code.Nodes.{nodeTable};
+ghost use Rattle.evaluation.specs.code.Budget.{Priced, held};
+ghost use Rattle.evaluation.specs.Running.{runPoints};
+ghost use Rattle.test_values.specs.Case.{all, answerOf, constraints, defs, funs, numbers, shifted, sorts};
 
 // The node table of the case, four numbers a node: the bodies of d0 and f0, and the two constraints.
 const NODES: [u64; 64] = [

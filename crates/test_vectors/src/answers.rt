@@ -1,13 +1,13 @@
 //! What is written of the checker's answer.
 use checker::check;
 use outcome::Outcome;
-use reporting::area::area_room;
-use reporting::area::report_area;
-use reporting::hex::decode;
-use reporting::hex::decode_numbers;
-use reporting::hex::number_of;
-use reporting::texts::text_room;
-use reporting::texts::write_number;
+use test_report::area::area_room;
+use test_report::area::report_area;
+use test_report::hex::decode;
+use test_report::hex::decode_numbers;
+use test_report::hex::number_of;
+use test_report::texts::text_room;
+use test_report::texts::write_number;
 ghost use mathlib.Core.Path.{_≡_};
 ghost use Prim.Native.Nat.{_≤_};
 ghost use lib.ListN.{length, take};

@@ -1,11 +1,11 @@
 //! Records, one a line.
 use crate::answers::report_answer;
 use libc::STDOUT_FILENO;
-use readings::response_limits;
-use readings::script_limits;
-use reporting::fields::field_end;
-use reporting::fields::next_field;
-use reporting::texts::report_text;
+use test_report::fields::field_end;
+use test_report::fields::next_field;
+use test_report::texts::report_text;
+use words::response_limits;
+use words::script_limits;
 ghost use Prim.Native.Nat.{_≤_};
 ghost use lib.ListN.{length};
 

@@ -6,21 +6,21 @@ use mathlib.Core.Bool.{cond, _||_}
 use mathlib.Core.List.{List}
 use lib.Dec.{eqb}
 use lib.ListN.{take}
-use Rattle.scanning.specs.Reading.{readingOf}
-use Rattle.readings.specs.Answers.{numberOf, placeOf}
-use Rattle.readings.specs.Limits.{responseLimits}
-use Rattle.readings.specs.declared.Reading.{Reading}
-use Rattle.readings.specs.declared.Reading.the-variants.{Whole, Refused}
-use Rattle.lexemes.specs.Standing.{itemsOf}
+use Rattle.words.specs.Reading.{readingOf}
+use Rattle.words.specs.Answers.{numberOf, placeOf}
+use Rattle.words.specs.Limits.{responseLimits}
+use Rattle.words.specs.declared.Reading.{Reading}
+use Rattle.words.specs.declared.Reading.the-variants.{Whole, Refused}
+use Rattle.lexemes.specs.code.Standing.{itemsOf}
 use Rattle.lexemes.proofs.Wholes.{text-stands}
-use Rattle.standing.proofs.Texts.{text-lawful}
-use Rattle.heading.specs.Heads.{allowed}
+use Rattle.term_faults.proofs.Texts.{text-lawful}
+use Rattle.headers.specs.Heads.{allowed}
 use Rattle.script.specs.declared.Progress.{Progress}
 use Rattle.script.specs.declared.Verdict.{Verdict}
-use Rattle.response.specs.Response.{Answered, answered, bodies, inScriptOrder, refused}
-use Rattle.response.specs.Steps.{Answers, Responded, Responding}
-use Rattle.texts.specs.Outcome.{byAnswers, offsetOf, responseOutcome}
-use Rattle.texts.specs.Steps.{Ready, ResponseRead, ResponseTold, Worded}
+use Rattle.script.specs.Response.{Answered, answered, bodies, inScriptOrder, refused}
+use Rattle.response.specs.code.Responding.{Answers, Responded, Responding}
+use Rattle.script.specs.Outcome.{byAnswers, offsetOf, responseOutcome}
+use Rattle.texts.specs.code.Texts.{Ready, ResponseRead, ResponseTold, Worded}
 use Rattle.texts.proofs.Wording.{only-lexemes}
 
 -- a word is refused

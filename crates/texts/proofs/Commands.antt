@@ -4,20 +4,20 @@ use native.Mathlib.Omega.{arith}
 use mathlib.Core.Path.{_≡_, refl, ap, _∙_}
 use mathlib.Core.List.{List}
 use lib.ListN.{take}
-use Rattle.scanning.specs.Reading.{readingOf}
-use Rattle.readings.specs.Answers.{numberOf, placeOf}
-use Rattle.readings.specs.Limits.{scriptLimits}
-use Rattle.readings.specs.declared.Reading.{Reading}
-use Rattle.readings.specs.declared.Reading.the-variants.{Whole, Refused}
-use Rattle.lexemes.specs.Standing.{itemsOf}
+use Rattle.words.specs.Reading.{readingOf}
+use Rattle.words.specs.Answers.{numberOf, placeOf}
+use Rattle.words.specs.Limits.{scriptLimits}
+use Rattle.words.specs.declared.Reading.{Reading}
+use Rattle.words.specs.declared.Reading.the-variants.{Whole, Refused}
+use Rattle.lexemes.specs.code.Standing.{itemsOf}
 use Rattle.lexemes.proofs.Wholes.{text-stands}
-use Rattle.standing.proofs.Texts.{text-lawful}
-use Rattle.heading.specs.Heads.{allowed}
+use Rattle.term_faults.proofs.Texts.{text-lawful}
+use Rattle.headers.specs.Heads.{allowed}
 use Rattle.script.specs.Script.{Read, passed, readAll, refused, nothingKnown}
-use Rattle.reader.specs.Steps.{Reads, ScriptAt, ScriptRead as CommandsRead}
-use Rattle.reader.specs.declared.Step.{Step}
-use Rattle.texts.specs.Outcome.{byCommands, offsetOf, scriptOutcome}
-use Rattle.texts.specs.Steps.{Lent, ScriptRead, ScriptTold, Worded}
+use Rattle.script_reader.specs.code.Commands.{Reads, ScriptAt, ScriptRead as CommandsRead}
+use Rattle.script_reader.specs.declared.Step.{Step}
+use Rattle.script.specs.Outcome.{byCommands, offsetOf, scriptOutcome}
+use Rattle.texts.specs.code.Texts.{Lent, ScriptRead, ScriptTold, Worded}
 use Rattle.texts.proofs.Wording.{only-lexemes}
 
 -- a word is refused

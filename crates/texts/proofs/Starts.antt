@@ -5,11 +5,11 @@ use mathlib.Core.Path.{_≡_, refl, sym, _∙_}
 use mathlib.Core.List.{List, [], _∷_}
 use lib.ListN.{drop, length}
 use Rattle.forest.proofs.Lists.{stands}
-use Rattle.scanning.specs.Words.{Word, wordsOf}
-use Rattle.lexemes.specs.Table.{startAt}
+use Rattle.words.specs.Words.{Word, wordsOf}
+use Rattle.lexemes.specs.code.Table.{startAt}
 use Rattle.lexemes.proofs.Said.{lexeme-says}
-use Rattle.texts.specs.Outcome.{offsetOf, startOf}
-use Rattle.texts.specs.Steps.{Placed}
+use Rattle.script.specs.Outcome.{offsetOf, startOf}
+use Rattle.texts.specs.code.Texts.{Placed}
 
 -- the offset of a word that is there
 start-there : (past : ℕ) (ws : List Word) (i : ℕ) (w : Word) (later : List Word) → drop i ws ≡ w ∷ later → startOf past ws i ≡ w .start

@@ -6,22 +6,22 @@ use mathlib.Core.Path.{_≡_, refl, sym, ap, _∙_}
 use mathlib.Core.List.{List}
 use lib.ListN.{length, take}
 use lib.Seq.{take-at}
-use Rattle.forest.specs.Rows.{over}
+use Rattle.forest.specs.code.Rows.{over}
 use Rattle.forest.proofs.Rows.{length-rows}
-use Rattle.scanning.specs.Reading.{ReadWords, readingOf, roomFor, wordsRead}
-use Rattle.scanning.specs.Table.{entries, wordTable, wordValues}
-use Rattle.scanning.specs.Words.{Word, wordsOf}
-use Rattle.scanning.proofs.Chains.{entries-long}
-use Rattle.readings.specs.Answers.{numberOf, passed}
-use Rattle.readings.specs.Limits.{responseLimits}
-use Rattle.readings.specs.declared.Limits.{Limits}
-use Rattle.readings.specs.declared.Reading.{Reading}
-use Rattle.readings.specs.declared.Reading.the-variants.{Whole}
-use Rattle.lexemes.specs.Standing.{Numbering}
-use Rattle.lexemes.specs.Table.{lexemeRow, lexemeTable}
+use Rattle.words.specs.Reading.{ReadWords, readingOf, roomFor, wordsRead}
+use Rattle.words.specs.code.Table.{entries, wordTable, wordValues}
+use Rattle.words.specs.Words.{Word, wordsOf}
+use Rattle.words.proofs.Chains.{entries-long}
+use Rattle.words.specs.Answers.{numberOf, passed}
+use Rattle.words.specs.Limits.{responseLimits}
+use Rattle.words.specs.declared.Limits.{Limits}
+use Rattle.words.specs.declared.Reading.{Reading}
+use Rattle.words.specs.declared.Reading.the-variants.{Whole}
+use Rattle.lexemes.specs.code.Standing.{Numbering}
+use Rattle.lexemes.specs.code.Table.{lexemeRow, lexemeTable}
 use Rattle.lexemes.proofs.Wholes.{whole-count, whole-few, whole-words}
-use Rattle.texts.specs.Steps.{Lexed, Placed, ReadWhole, Room, Worded}
-use Rattle.texts.proofs.Numbers.{read-whole}
+use Rattle.texts.specs.code.Texts.{Lexed, Placed, ReadWhole, Room, Worded}
+use Rattle.script.proofs.Numbers.{read-whole}
 
 -- a table of the size that the limits ask for
 pub room-of : {limits asked : Limits} {lexemes : List ℕ} → limits ≡ asked → asked .words ≤ 4096 → length lexemes ≡ 6 * asked .words → Room limits lexemes

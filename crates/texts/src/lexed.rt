@@ -1,15 +1,15 @@
 //! The words and lexemes of one text, and the offsets of its words.
 use lexemes::numbering::number_words;
 use lexemes::start_at;
-use readings::Limits;
-use readings::Reading;
-use readings::answers::number_of;
-use readings::answers::passed_of;
+use words::Limits;
+use words::Reading;
+use words::answers::number_of;
+use words::answers::passed_of;
 use words::read_words;
 ghost use mathlib.Core.Path.{_≡_};
 ghost use lib.ListN.{length};
-ghost use Rattle.texts.specs.Outcome.{offsetOf};
-ghost use Rattle.texts.specs.Steps.{Lexed, Placed, Room};
+ghost use Rattle.script.specs.Outcome.{offsetOf};
+ghost use Rattle.texts.specs.code.Texts.{Lexed, Placed, Room};
 
 // Room for the rows of a text's words.
 fn word_rows() -> [u32; 20480]

@@ -1,19 +1,19 @@
 //! A response, from its bytes.
 use crate::lexed::offset_of;
 use crate::lexed::read_lexemes;
-use readings::answers::number_of;
-use readings::answers::passed_of;
-use readings::answers::place_of;
-use readings::response_limits;
 use response::answers::read_response;
 use script::Progress;
 use script::Verdict;
+use words::answers::number_of;
+use words::answers::passed_of;
+use words::answers::place_of;
+use words::response_limits;
 ghost use mathlib.Core.Path.{_≡_};
 ghost use lib.ListN.{length};
 ghost use mathlib.Core.Bool.{_||_, cond};
 ghost use lib.Dec.{eqb};
-ghost use Rattle.texts.specs.Outcome.{offsetOf};
-ghost use Rattle.texts.specs.Steps.{Placed, ReadWhole, Ready, ResponseRead};
+ghost use Rattle.script.specs.Outcome.{offsetOf};
+ghost use Rattle.texts.specs.code.Texts.{Placed, ReadWhole, Ready, ResponseRead};
 
 // The number of a response that is `fail`.
 const FAIL: usize = 10;

@@ -1,16 +1,16 @@
 //! A script, from its bytes.
 use crate::lexed::offset_of;
 use crate::lexed::read_lexemes;
-use reader::Step;
-use reader::scripts::read_script;
-use readings::answers::number_of;
-use readings::answers::passed_of;
-use readings::answers::place_of;
-use readings::script_limits;
 use script::Progress;
+use script_reader::Step;
+use script_reader::scripts::read_script;
+use words::answers::number_of;
+use words::answers::passed_of;
+use words::answers::place_of;
+use words::script_limits;
 ghost use mathlib.Core.Path.{_≡_};
 ghost use lib.ListN.{length};
-ghost use Rattle.texts.specs.Steps.{Lent, ScriptRead};
+ghost use Rattle.texts.specs.code.Texts.{Lent, ScriptRead};
 
 // Room for the lexemes of a script.
 fn lexeme_rows() -> [u64; 24576]

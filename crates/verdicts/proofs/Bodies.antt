@@ -6,14 +6,14 @@ use mathlib.Core.List.{List, _++_, append-assoc}
 use lib.ListN.{drop, length, length-append, take, take-append-drop}
 use lib.Seq.{drop-at, length-take-le, take-at}
 use Rattle.forest.specs.Forest.{count, join, nodesOf, none, size, tree}
-use Rattle.forest.specs.Rows.{rows}
+use Rattle.forest.specs.code.Rows.{rows}
 use Rattle.forest.proofs.Laws.{size-from}
 use Rattle.forest.proofs.Nodes.{length-nodes, nodes-from, nodes-join}
 use Rattle.forest.proofs.Rows.{length-rows, rows-append}
 use Rattle.terms.specs.Labels.{Label, Terms}
-use Rattle.terms.specs.Nodes.{AllPlain, nodeRow, nodeTable, sizeAt}
+use Rattle.terms.specs.code.Nodes.{AllPlain, nodeRow, nodeTable, sizeAt}
 use Rattle.terms.proofs.Bodies.{plain-from, says}
-use Rattle.meaning.specs.Tables.{TermStands}
+use Rattle.evaluation.specs.code.Tables.{TermStands}
 use Rattle.script.proofs.Nodes.{length-table}
 
 -- A table past its first i rows.

@@ -6,29 +6,29 @@ use mathlib.Core.List.{List, [], _∷_}
 use lib.ListN.{drop, length, length-drop, length-take, take}
 use lib.Seq.{take-all}
 use Rattle.forest.proofs.Lists.{drop-next}
-use Rattle.bits.specs.Sorts.{AllFit}
+use Rattle.operators.specs.Sorts.{AllFit}
 use Rattle.terms.specs.Labels.{Terms}
 use Rattle.terms.specs.Sorts.{AllSorted, Definition, FunctionsSorted}
 use Rattle.terms.specs.Values.{numbersIn}
 use Rattle.terms.specs.declared.Value.{Value}
 use Rattle.terms.proofs.Sound.{Fits, one-value, pointScope}
-use Rattle.meaning.specs.Budget.{Priced}
-use Rattle.meaning.specs.Steps.{Pricing}
-use Rattle.running.specs.Points.{pointAt, pointCount}
-use Rattle.running.specs.Steps.{AllValued, PointsRan, PointsRunnable, TermsAt, mostConstraints}
-use Rattle.running.specs.declared.Ran.{Ran}
-use Rattle.script.specs.Tables.{ConstraintsAt, bodiesPlace, constraintsPlace, definitionsOf}
+use Rattle.evaluation.specs.code.Budget.{Priced}
+use Rattle.evaluation.specs.code.Evaluating.{Pricing}
+use Rattle.evaluation.specs.Points.{pointAt, pointCount}
+use Rattle.evaluation.specs.code.Runs.{AllValued, PointsRan, PointsRunnable, TermsAt, mostConstraints}
+use Rattle.evaluation.specs.declared.Ran.{Ran}
+use Rattle.script.specs.code.Tables.{ConstraintsAt, bodiesPlace, constraintsPlace, definitionsOf}
 use Rattle.script.specs.declared.Progress.{Progress}
-use Rattle.promises.specs.Sorted.{AllBool}
-use Rattle.response.specs.Response.{inScriptOrder}
+use Rattle.outcome.specs.Sorted.{AllBool}
+use Rattle.script.specs.Response.{inScriptOrder}
 use Rattle.outcome.specs.Derived.{termsOf}
 use Rattle.outcome.specs.Evaluated.{functionsWith, ranWith}
-use Rattle.assured.proofs.Bodies.{bodies-sorted, functions-sorted}
+use Rattle.outcome.proofs.BodiesAssured.{bodies-sorted, functions-sorted}
 use Rattle.outcome.proofs.Sorts.{terms-point-scope}
-use Rattle.evaluation.specs.Steps.{Constrained}
-use Rattle.running.proofs.GoodPoints.{GoodList, good-list, point-fits, whole}
-use Rattle.running.proofs.PointRuns.{sorts-by}
-use Rattle.evaluation.proofs.Tables.{defined-are, functions-are, tables-hold}
+use Rattle.verdicts.specs.code.Evaluating.{Constrained}
+use Rattle.evaluation.proofs.GoodPoints.{GoodList, good-list, point-fits, whole}
+use Rattle.evaluation.proofs.PointRuns.{sorts-by}
+use Rattle.verdicts.proofs.Tables.{defined-are, functions-are, tables-hold}
 
 -- What stands in a list from an index on, by its length.
 pub tail-whole : (n : ℕ) (l : List ℕ) → take (length l - n) (drop n l) ≡ drop n l

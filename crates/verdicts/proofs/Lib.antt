@@ -1,4 +1,10 @@
+pub mod Bodies
+pub mod Areas
+pub mod Numbered
+pub mod Singles
+pub mod Turns
 pub mod Variables
 pub mod Tables
 pub mod Constraints
 pub mod Outcomes
+pub mod ResponseFits

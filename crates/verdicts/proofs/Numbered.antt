@@ -8,10 +8,10 @@ use mathlib.Core.Option.{some}
 use lib.ListN.{drop, length}
 use Rattle.forest.specs.Forest.{size}
 use Rattle.terms.specs.Sorts.{sortsOf as termSorts}
-use Rattle.naming.specs.Scopes.{Defined, Function}
-use Rattle.faults.specs.Faults.{scopeOf}
-use Rattle.response.specs.Response.{Body, responseView}
-use Rattle.assured.specs.Assured.{BodiesFit}
+use Rattle.names.specs.Scopes.{Defined, Function}
+use Rattle.term_faults.specs.Faults.{scopeOf}
+use Rattle.script.specs.Response.{Body, responseView}
+use Rattle.outcome.specs.code.Assured.{BodiesFit}
 
 -- Function j and its body, of the function's sort and with at most 256 nodes.
 pub record Both (defs : List Defined) (fs : List Function) (bs : List Body) (j : ℕ) : Type 0 where

@@ -3,23 +3,23 @@ use Prim.Native.Nat.{ℕ, _-_, _≤_}
 use mathlib.Core.Path.{_≡_, ap, sym, _∙_}
 use mathlib.Core.List.{List}
 use lib.ListN.{length}
-use Rattle.running.specs.Points.{pointsOf}
-use Rattle.running.specs.Running.{leftOf}
-use Rattle.running.specs.Steps.{SortsSmall}
-use Rattle.running.specs.declared.PointList.{PointList}
-use Rattle.running.specs.declared.PointList.the-variants.{Good}
-use Rattle.running.specs.declared.Ran.{Ran}
-use Rattle.running.specs.declared.Ran.the-variants.{Passed, False, Ended}
-use Rattle.naming.specs.Scopes.{namedSorts}
-use Rattle.naming.specs.Table.{sortsFrom, variableRow}
+use Rattle.evaluation.specs.Points.{pointsOf}
+use Rattle.evaluation.specs.Running.{leftOf}
+use Rattle.evaluation.specs.code.Runs.{SortsSmall}
+use Rattle.evaluation.specs.declared.PointList.{PointList}
+use Rattle.evaluation.specs.declared.PointList.the-variants.{Good}
+use Rattle.evaluation.specs.declared.Ran.{Ran}
+use Rattle.evaluation.specs.declared.Ran.the-variants.{Passed, False, Ended}
+use Rattle.names.specs.Scopes.{namedSorts}
+use Rattle.names.specs.code.Table.{sortsFrom, variableRow}
 use Rattle.script.specs.declared.Progress.{Progress}
-use Rattle.script.specs.Tables.{definitionsOf}
-use Rattle.signatures.proofs.Signed.{length-sorts}
+use Rattle.script.specs.code.Tables.{definitionsOf}
+use Rattle.script.proofs.Signed.{length-sorts}
 use Rattle.outcome.specs.Derived.{termsOf}
 use Rattle.outcome.specs.Evaluated.{functionsWith, ranOutcome}
 use Rattle.outcome.specs.declared.Outcome.{Outcome}
-use Rattle.evaluation.specs.Steps.{Constrained, ConstraintsRan, Evaluable, pointsGive, pointsOutcome}
-use Rattle.running.proofs.Left.{points-left}
+use Rattle.verdicts.specs.code.Evaluating.{Constrained, ConstraintsRan, Evaluable, pointsGive, pointsOutcome}
+use Rattle.evaluation.proofs.Left.{points-left}
 
 -- An answer with so many units.
 abbrev pub withUnits : (units : ℕ) → Outcome → Outcome

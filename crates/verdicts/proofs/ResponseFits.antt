@@ -7,31 +7,31 @@ use mathlib.Core.Path.{_≡_, refl, subst}
 use lib.Dec.{ltb}
 use borrow.Author.Tests.{ltb-false}
 use Rattle.forest.specs.Forest.{none, tree}
-use Rattle.scanning.specs.Reading.{readingOf}
-use Rattle.scanning.specs.Trees.{wordOf}
-use Rattle.readings.specs.Limits.{responseLimits}
-use Rattle.readings.specs.declared.Reading.{Reading}
-use Rattle.readings.specs.declared.Reading.the-variants.{Whole, Refused}
+use Rattle.words.specs.Reading.{readingOf}
+use Rattle.words.specs.Trees.{wordOf}
+use Rattle.words.specs.Limits.{responseLimits}
+use Rattle.words.specs.declared.Reading.{Reading}
+use Rattle.words.specs.declared.Reading.the-variants.{Whole, Refused}
 use Rattle.lexemes.specs.Lists.{Items, closeOf, inside, is, isList, item}
-use Rattle.lexemes.specs.Standing.{itemsOf}
+use Rattle.lexemes.specs.code.Standing.{itemsOf}
 use Rattle.lexemes.proofs.Wholes.{text-stands}
-use Rattle.carrying.specs.Carried.{anyUncarried}
+use Rattle.shapes.specs.Carried.{anyUncarried}
 use Rattle.shapes.specs.Shapes.{defineFunShape}
-use Rattle.naming.specs.Scopes.{Defined, Function}
-use Rattle.heading.specs.Heads.{allowed, headerPast}
+use Rattle.names.specs.Scopes.{Defined, Function}
+use Rattle.headers.specs.Heads.{allowed, headerPast}
 use Rattle.headers.specs.Tokens.{differing, headerOf, headerTokens, wordsIn}
-use Rattle.faults.specs.Faults.{bodyFault, scopeOf}
+use Rattle.term_faults.specs.Faults.{bodyFault, scopeOf}
 use Rattle.script.specs.Limits.{nodePast}
 use Rattle.script.specs.Naming.{termNames}
 use Rattle.script.specs.Script.{Known}
 use Rattle.script.proofs.Places.{Below, inside-below, item-below, stands-below}
-use Rattle.promises.proofs.Bodies.{body-sorted}
-use Rattle.response.specs.Response.{Answered, Body, answered, bodies, nothingBehind, inScriptOrder, isAlone, judgedAll, judgedBody, judgedExtra, refused}
-use Rattle.response.specs.Response.{responseView, withBody}
-use Rattle.response.specs.Steps.{bodyOf}
-use Rattle.texts.specs.Outcome.{ResponseOutcome, byAnswers, byResponse, given, responseOutcome}
-use Rattle.assured.specs.Assured.{BodiesFit}
-use Rattle.assured.proofs.Nodes.{few-nodes}
+use Rattle.outcome.proofs.BodiesPromised.{body-sorted}
+use Rattle.script.specs.Response.{Answered, Body, answered, bodies, nothingBehind, inScriptOrder, isAlone, judgedAll, judgedBody, judgedExtra, refused}
+use Rattle.script.specs.Response.{responseView, withBody}
+use Rattle.response.specs.code.Responding.{bodyOf}
+use Rattle.script.specs.Outcome.{ResponseOutcome, byAnswers, byResponse, given, responseOutcome}
+use Rattle.outcome.specs.code.Assured.{BodiesFit}
+use Rattle.outcome.proofs.Nodes.{few-nodes}
 
 -- A refusal gives no bodies.
 never-bodies : {A : Type 0} (number place : ℕ) {bs : List Body} → refused number place ≡ bodies bs → A

@@ -7,12 +7,12 @@ use mathlib.Core.List.{List}
 use lib.ListN.{drop, getD, length, take}
 use lib.Seq.{drop-drop, getD-drop}
 use Rattle.forest.specs.Forest.{size}
-use Rattle.terms.specs.Nodes.{nodeTable, sizeAt}
-use Rattle.grammar.specs.Answer.{Decides, DerivePre}
-use Rattle.grammar.specs.Tables.{formTable, rightSides, ruleTable}
-use Rattle.script.specs.Tables.{functionsPlace, rulesPlace}
-use Rattle.derivations.specs.Steps.{OneDerivable, OneJudged}
-use Rattle.derivations.proofs.Bodies.{body-one, body-plain, body-rows, body-size, body-within}
+use Rattle.terms.specs.code.Nodes.{nodeTable, sizeAt}
+use Rattle.derivation.specs.Answer.{Decides, DerivePre}
+use Rattle.derivation.specs.code.Tables.{formTable, rightSides, ruleTable}
+use Rattle.script.specs.code.Tables.{functionsPlace, rulesPlace}
+use Rattle.verdicts.specs.code.Deriving.{OneDerivable, OneJudged}
+use Rattle.verdicts.proofs.Bodies.{body-one, body-plain, body-rows, body-size, body-within}
 
 -- The part of a list from a to before e.
 abbrev pub part : (a e : ℕ) → List ℕ → List ℕ

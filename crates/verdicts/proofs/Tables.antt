@@ -8,19 +8,19 @@ use lib.ListN.{drop, getD, length, length-map}
 use lib.Seq.{getD-drop}
 use Rattle.terms.specs.Labels.{Terms}
 use Rattle.terms.specs.Sorts.{Definition, signatures}
-use Rattle.meaning.specs.Tables.{BodiesAt, CallsDefined, CallsEarlier, FewArguments, TermStands, BodiesHold, mostDefined, mostFunctions}
-use Rattle.sorting.specs.Tables.{RowsAre, functionSignature}
-use Rattle.naming.specs.Scopes.{Defined, Function, signatureOf}
+use Rattle.evaluation.specs.code.Tables.{BodiesAt, CallsDefined, CallsEarlier, FewArguments, TermStands, BodiesHold, mostDefined, mostFunctions}
+use Rattle.term_sorts.specs.code.Signatures.{RowsAre, functionSignature}
+use Rattle.names.specs.Scopes.{Defined, Function, signatureOf}
 use Rattle.script.specs.Script.{Known}
-use Rattle.script.specs.Tables.{bodiesPlace, definitionsOf}
+use Rattle.script.specs.code.Tables.{bodiesPlace, definitionsOf}
 use Rattle.script.specs.declared.Progress.{Progress}
-use Rattle.response.specs.Response.{Body, inScriptOrder}
-use Rattle.response.specs.Steps.{ResponseAt}
+use Rattle.script.specs.Response.{Body, inScriptOrder}
+use Rattle.response.specs.code.Responding.{ResponseAt}
 use Rattle.outcome.specs.Derived.{termsOf}
 use Rattle.outcome.specs.Evaluated.{completed, functionsWith}
-use Rattle.assured.specs.Held.{Held}
-use Rattle.assured.proofs.Bodies.{functions-sorted, signatures-same}
-use Rattle.meaning.proofs.Calls.{defined-calls, function-calls}
+use Rattle.verdicts.specs.code.Held.{Held}
+use Rattle.outcome.proofs.BodiesAssured.{functions-sorted, signatures-same}
+use Rattle.evaluation.proofs.Calls.{defined-calls, function-calls}
 
 -- Functions whose signatures have rows have few arguments.
 few-arguments : (rows : List ℕ) (base : ℕ) (ds : List Definition) → RowsAre rows base (signatures ds) → FewArguments ds

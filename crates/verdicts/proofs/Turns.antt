@@ -7,24 +7,24 @@ use mathlib.Core.Bool.{Bool, true, false}
 use mathlib.Core.List.{List, [], _∷_, _++_, append-assoc, append-nil}
 use lib.ListN.{drop, drop-of-length-le, length}
 use lib.Seq.{length-sets, sets}
-use Rattle.grammar.specs.Answer.{listOf, listSize}
-use Rattle.grammar.specs.Derivation.{Admitted, LeavesFit}
-use Rattle.grammar.proofs.Leaves.{sorted-fit}
-use Rattle.grammar.proofs.Simple.{simple-derives}
-use Rattle.naming.specs.Scopes.{Function}
-use Rattle.faults.specs.Faults.{scopeOf}
-use Rattle.promises.specs.Sorted.{AllRulesSorted, RulesSorted}
+use Rattle.derivation.specs.Answer.{listOf, listSize}
+use Rattle.derivation.specs.Derivation.{Admitted, LeavesFit}
+use Rattle.derivation.proofs.Leaves.{sorted-fit}
+use Rattle.derivation.proofs.Simple.{simple-derives}
+use Rattle.names.specs.Scopes.{Function}
+use Rattle.term_faults.specs.Faults.{scopeOf}
+use Rattle.outcome.specs.Sorted.{AllRulesSorted, RulesSorted}
 use Rattle.script.specs.declared.Progress.{Progress}
-use Rattle.response.specs.Response.{Body, inScriptOrder, responseView}
+use Rattle.script.specs.Response.{Body, inScriptOrder, responseView}
 use Rattle.response.proofs.Picked.{At, BodyAt, body-at, each, grammar-at, order-length, place}
-use Rattle.assured.specs.Assured.{AllAdmitted}
+use Rattle.outcome.specs.code.Assured.{AllAdmitted}
 use Rattle.outcome.specs.Derived.{FirstUnderived, ListsShown, listsOf, shownArea, termsOf}
 use Rattle.outcome.specs.Derived.FirstUnderived.{here, later}
 use Rattle.outcome.specs.Derived.ListsShown.{also, no-more}
 use Rattle.outcome.proofs.Areas.{blank-long}
-use Rattle.derivations.specs.Steps.{Derivable, Judged, OneDerivable, OneJudged}
-use Rattle.derivations.proofs.Areas.{area-blank, area-more, lists-more}
-use Rattle.derivations.proofs.Numbered.{Both, as-many, both}
+use Rattle.verdicts.specs.code.Deriving.{Derivable, Judged, OneDerivable, OneJudged}
+use Rattle.verdicts.proofs.Areas.{area-blank, area-more, lists-more}
+use Rattle.verdicts.proofs.Numbered.{Both, as-many, both}
 
 module _ {places nodes forms area₀ : List ℕ} {p : Progress} (q : Derivable places nodes forms p area₀) where
   -- The functions, in script order.

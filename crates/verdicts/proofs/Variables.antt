@@ -6,8 +6,8 @@ use mathlib.Core.Path.{_≡_, refl}
 use mathlib.Core.List.{List, [], _∷_}
 use lib.ListN.{getD, length, length-set, set, take}
 use lib.Seq.{take-suc-set}
-use Rattle.naming.specs.Table.{sortIn, sortsFrom, variableRow}
-use Rattle.naming.proofs.Putting.{last-row}
+use Rattle.names.specs.code.Table.{sortIn, sortsFrom, variableRow}
+use Rattle.names.proofs.Putting.{last-row}
 
 -- The sorts of the first k variables are read.
 pub record SortsRead (names sorts : List ℕ) (k : ℕ) : Type 0 where

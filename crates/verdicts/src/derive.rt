@@ -1,9 +1,9 @@
 //! Derivations of the bodies of all functions, in script order.
-use grammar::derive;
+use derivation::derive;
 use script::Progress;
 use terms::ROW;
 use terms::size_at;
-ghost use Rattle.derivations.specs.Steps.{Derivable, Judged, OneDerivable, OneJudged};
+ghost use Rattle.verdicts.specs.code.Deriving.{Derivable, Judged, OneDerivable, OneJudged};
 
 // Where the nodes at which the bodies of functions begin stand.
 const BODIES: usize = 592;

@@ -1,22 +1,22 @@
 //! The points and the run, of a script and a response whose tables are given.
-use meaning::costs::body_costs;
-use naming::table::VARIABLES;
-use naming::table::sort_in;
+use evaluation::PointList;
+use evaluation::Ran;
+use evaluation::costs::body_costs;
+use evaluation::points::points_of;
+use evaluation::running::left_of;
+use evaluation::running::run_points;
+use names::table::VARIABLES;
+use names::table::sort_in;
 use outcome::Outcome;
-use running::PointList;
-use running::Ran;
-use running::points::points_of;
-use running::running::left_of;
-use running::running::run_points;
 use script::Progress;
 ghost use mathlib.Core.Path.{_≡_};
 ghost use Prim.Native.Nat.{_≤_};
 ghost use lib.ListN.{take};
-ghost use Rattle.running.specs.Running.{leftOf};
-ghost use Rattle.naming.specs.Steps.{Names};
-ghost use Rattle.naming.specs.Table.{sortsFrom, variableRow};
+ghost use Rattle.evaluation.specs.Running.{leftOf};
+ghost use Rattle.names.specs.code.Lookup.{Names};
+ghost use Rattle.names.specs.code.Table.{sortsFrom, variableRow};
 ghost use Rattle.outcome.specs.Evaluated.{ranOutcome};
-ghost use Rattle.evaluation.specs.Steps.{Constrained, ConstraintsRan, Evaluable, Evaluates};
+ghost use Rattle.verdicts.specs.code.Evaluating.{Constrained, ConstraintsRan, Evaluable, Evaluates};
 
 // Where the numbers of bodies begin in the table of places.
 const BODIES: usize = 560;

@@ -11,9 +11,9 @@ use lib.Dec.{T, ltb}
 use lib.ListN.{length, getD, drop, drop-of-length-le}
 use Rattle.forest.proofs.Bools.{and-left, and-right, each, every}
 use Rattle.forest.proofs.Lists.{drop-next}
-use Rattle.spelling.specs.Kinds.{inClass, allIn, digitValue, spelled}
-use Rattle.spelling.specs.Steps.{digitsBelow}
-use Rattle.spelling.specs.declared.Class.{Class}
+use Rattle.word_kinds.specs.Kinds.{inClass, allIn, digitValue, spelled}
+use Rattle.word_kinds.specs.code.Digits.{digitsBelow}
+use Rattle.word_kinds.specs.declared.Class.{Class}
 
 module _ (class : Class) (w : List ℕ) (i : ℕ) (inv : allIn class (drop i w) ≡ allIn class w) where
   pub all-ends : length w ≤ i → true ≡ allIn class w

@@ -12,15 +12,15 @@ use lib.ListN.{length, getD, drop, take, length-drop}
 use lib.Seq.{take-all}
 use Rattle.forest.proofs.Bools.{and-left}
 use Rattle.forest.proofs.Lists.{drop-next}
-use Rattle.spelling.specs.Bytes.{digit, uncarried}
-use Rattle.spelling.specs.Kinds.{allIn, formed, hashed, kindOf, literal, numeral, spelled, symbol}
-use Rattle.spelling.specs.Steps.{Radix, binary, digitsBelow, hex}
-use Rattle.spelling.specs.declared.Class.{Class}
-use Rattle.spelling.specs.declared.Class.the-variants.{Digits, HexDigits, BinaryDigits, SymbolBytes}
-use Rattle.spelling.specs.declared.Fault.the-variants.{BadWord, PastLimit, NotCarried}
-use Rattle.spelling.specs.declared.Kind.{Kind}
-use Rattle.spelling.specs.declared.Kind.the-variants.{Open, Close, Numeral, Literal, Symbol, Faulty}
-use Rattle.spelling.proofs.Digits.{all-below}
+use Rattle.word_kinds.specs.Bytes.{digit, uncarried}
+use Rattle.word_kinds.specs.Kinds.{allIn, formed, hashed, kindOf, literal, numeral, spelled, symbol}
+use Rattle.word_kinds.specs.code.Digits.{Radix, binary, digitsBelow, hex}
+use Rattle.word_kinds.specs.declared.Class.{Class}
+use Rattle.word_kinds.specs.declared.Class.the-variants.{Digits, HexDigits, BinaryDigits, SymbolBytes}
+use Rattle.word_kinds.specs.declared.Fault.the-variants.{BadWord, PastLimit, NotCarried}
+use Rattle.word_kinds.specs.declared.Kind.{Kind}
+use Rattle.word_kinds.specs.declared.Kind.the-variants.{Open, Close, Numeral, Literal, Symbol, Faulty}
+use Rattle.word_kinds.proofs.Digits.{all-below}
 
 -- ---- form, then size
 

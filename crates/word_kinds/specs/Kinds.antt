@@ -5,13 +5,13 @@ use mathlib.Core.Bool.{Bool, true, cond, _&&_, _||_, not}
 use mathlib.Core.List.{List, [], _∷_}
 use lib.ListN.{length, getD}
 use lib.Dec.{eqb, leb}
-use Rattle.spelling.specs.Bytes.{binaryDigit, digit, hexDigit, symbolByte, uncarried}
-use Rattle.spelling.specs.Limits.{literalBits, numeralDigits, symbolBytes}
-use Rattle.spelling.specs.declared.Class.{Class}
-use Rattle.spelling.specs.declared.Class.the-variants.{Digits, HexDigits, BinaryDigits, SymbolBytes}
-use Rattle.spelling.specs.declared.Kind.{Kind}
-use Rattle.spelling.specs.declared.Kind.the-variants.{Open, Close, Numeral, Literal, Symbol, Faulty}
-use Rattle.spelling.specs.declared.Fault.the-variants.{BadWord, PastLimit, NotCarried}
+use Rattle.word_kinds.specs.Bytes.{binaryDigit, digit, hexDigit, symbolByte, uncarried}
+use Rattle.word_kinds.specs.Limits.{literalBits, numeralDigits, symbolBytes}
+use Rattle.word_kinds.specs.declared.Class.{Class}
+use Rattle.word_kinds.specs.declared.Class.the-variants.{Digits, HexDigits, BinaryDigits, SymbolBytes}
+use Rattle.word_kinds.specs.declared.Kind.{Kind}
+use Rattle.word_kinds.specs.declared.Kind.the-variants.{Open, Close, Numeral, Literal, Symbol, Faulty}
+use Rattle.word_kinds.specs.declared.Fault.the-variants.{BadWord, PastLimit, NotCarried}
 
 -- Whether the byte b belongs to the class.
 abbrev pub inClass : Class → ℕ → Bool

@@ -1,4 +1,4 @@
 pub mod Bytes
 pub mod Limits
 pub mod Kinds
-pub mod Steps
+pub mod code

@@ -1,6 +1,6 @@
 //! Kinds of bytes of which words are made.
 ghost use mathlib.Core.Path.{_≡_};
-ghost use Rattle.spelling.specs.Bytes.{binaryDigit, digit, hexDigit, letter, mark, symbolByte, uncarried};
+ghost use Rattle.word_kinds.specs.Bytes.{binaryDigit, digit, hexDigit, letter, mark, symbolByte, uncarried};
 
 // What begins a word that is not carried: `"`, `|`, `:`.
 pub fn is_uncarried(byte: u8) -> bool

@@ -11,8 +11,8 @@ ghost use mathlib.Core.Path.{_≡_};
 ghost use mathlib.Core.Bool.{true};
 ghost use Prim.Native.Nat.{_-_, _^_, _<_, _≤_};
 ghost use lib.ListN.{length};
-ghost use Rattle.spelling.specs.Kinds.{allIn, digitValue, hashed, inClass, kindOf, literal, numeral, spelled, symbol};
-ghost use Rattle.spelling.specs.Steps.{Radix, digitsBelow};
+ghost use Rattle.word_kinds.specs.Kinds.{allIn, digitValue, hashed, inClass, kindOf, literal, numeral, spelled, symbol};
+ghost use Rattle.word_kinds.specs.code.Digits.{Radix, digitsBelow};
 
 // A numeral's digits, a literal's bits and a symbol's bytes at the most.
 const NUMERAL_DIGITS: usize = 9;

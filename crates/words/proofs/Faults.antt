@@ -6,14 +6,14 @@ use mathlib.Core.Bool.{Bool, true, false, _&&_, _||_, cond}
 use borrow.Author.Tests.{eq-eqb, ne-eqb, ltb-true, ltb-false}
 use lib.Dec.{eqb, leb, ltb}
 use Rattle.forest.proofs.Bools.{and-left, and-right}
-use Rattle.scanning.specs.Table.{kindNumber}
-use Rattle.scanning.specs.Reading.{closeFault, depthAfter, foundAtEnd, faultAt, lesser, limitFault, ownFault}
-use Rattle.readings.specs.Answers.{faultNumber}
-use Rattle.spelling.specs.declared.Fault.{Fault}
-use Rattle.spelling.specs.declared.Fault.the-variants.{NoFault, Bracket, PastLimit}
-use Rattle.spelling.specs.declared.Kind.{Kind}
-use Rattle.readings.specs.declared.Limits.{Limits}
-use Rattle.readings.specs.declared.Reading.the-variants.{Whole, Refused}
+use Rattle.words.specs.code.Table.{kindNumber}
+use Rattle.words.specs.Reading.{closeFault, depthAfter, foundAtEnd, faultAt, lesser, limitFault, ownFault}
+use Rattle.words.specs.Answers.{faultNumber}
+use Rattle.word_kinds.specs.declared.Fault.{Fault}
+use Rattle.word_kinds.specs.declared.Fault.the-variants.{NoFault, Bracket, PastLimit}
+use Rattle.word_kinds.specs.declared.Kind.{Kind}
+use Rattle.words.specs.declared.Limits.{Limits}
+use Rattle.words.specs.declared.Reading.the-variants.{Whole, Refused}
 
 module _ (a b : Fault) (x y : ℕ) (ex : x ≡ faultNumber a) (ey : y ≡ faultNumber b) where
   pub lesser-first : ltb 0 x && (eqb y 0 || leb x y) ≡ true → a ≡ lesser a b

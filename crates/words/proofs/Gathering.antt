@@ -11,13 +11,13 @@ use lib.Dec.{eqb}
 use lib.ListN.{length, drop, drop-of-length-le}
 use lib.Seq.{drop-drop}
 use Rattle.forest.specs.Forest.{Forest, none, tree}
-use Rattle.scanning.specs.Table.{closes, opens, pastClose, nextOf}
-use Rattle.spelling.specs.declared.Kind.{Kind}
-use Rattle.spelling.specs.declared.Kind.the-variants.{Open, Close, Numeral, Literal, Symbol, Faulty}
-use Rattle.scanning.specs.Trees.{Level, Lexeme, bytesOf, inner, levelsAt, levelsBefore, list, literal, numeral, outer, symbol, treesFrom}
-use Rattle.scanning.specs.Words.{Word}
-use Rattle.scanning.proofs.Chains.{close-bounds}
-use Rattle.scanning.proofs.Offsets.{drop-past}
+use Rattle.words.specs.code.Table.{closes, opens, pastClose, nextOf}
+use Rattle.word_kinds.specs.declared.Kind.{Kind}
+use Rattle.word_kinds.specs.declared.Kind.the-variants.{Open, Close, Numeral, Literal, Symbol, Faulty}
+use Rattle.words.specs.Trees.{Level, Lexeme, bytesOf, inner, levelsAt, levelsBefore, list, literal, numeral, outer, symbol, treesFrom}
+use Rattle.words.specs.Words.{Word}
+use Rattle.words.proofs.Chains.{close-bounds}
+use Rattle.words.proofs.Offsets.{drop-past}
 
 -- the open lists without the n innermost and one more
 abbrev beyond : ℕ → List Level → List Level

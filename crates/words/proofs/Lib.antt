@@ -1,1 +1,6 @@
+pub mod Chains
+pub mod Faults
+pub mod Gathering
+pub mod Offsets
+pub mod Turns
 pub mod Whole

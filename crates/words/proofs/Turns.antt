@@ -8,25 +8,25 @@ use borrow.Author.Tests.{eqb-false, leb-false, ltb-true, ltb-false, ne-eqb}
 use lib.Dec.{eqb, leb, ltb}
 use lib.ListN.{length, drop, set, take, drop-of-length-le, length-map, length-set}
 use lib.Seq.{length-sets, length-take-le, sets}
-use Rattle.forest.specs.Rows.{over, rows}
+use Rattle.forest.specs.code.Rows.{over, rows}
 use Rattle.forest.proofs.Bools.{or-left}
 use Rattle.forest.proofs.Lists.{drop-more, take-more, within}
 use Rattle.forest.proofs.Rows.{length-rows, over-more, rows-append}
-use Rattle.scanning.specs.Table.{closes, opens, kindNumber, row, valueOf, widthOf, wordValues}
-use Rattle.spelling.specs.Kinds.{kindOf}
-use Rattle.scanning.specs.Reading.{closeFault, depthAfter, foundAtEnd, faultAt, foundFrom, lesser, limitFault, ownFault, wordsRead}
-use Rattle.readings.specs.Answers.{faultNumber, passed}
-use Rattle.scanning.specs.Spans.{startsFrom, wordEnd, wordStarts}
-use Rattle.scanning.specs.Steps.{Room, Scanned, Written, firstStart, unlinked}
-use Rattle.scanning.specs.Words.{Word, bytesAt, wordAt, wordsOf}
-use Rattle.spelling.specs.declared.Fault.{Fault}
-use Rattle.spelling.specs.declared.Fault.the-variants.{Bracket}
-use Rattle.spelling.specs.declared.Kind.{Kind}
-use Rattle.readings.specs.declared.Limits.{Limits}
-use Rattle.readings.specs.declared.Reading.{Reading}
-use Rattle.readings.specs.declared.Reading.the-variants.{Whole, Refused}
-use Rattle.scanning.proofs.Chains.{wide}
-use Rattle.scanning.proofs.Offsets.{Front, end-within, first-front, first-same, startsAt, word-first}
+use Rattle.words.specs.code.Table.{closes, opens, kindNumber, row, valueOf, widthOf, wordValues}
+use Rattle.word_kinds.specs.Kinds.{kindOf}
+use Rattle.words.specs.Reading.{closeFault, depthAfter, foundAtEnd, faultAt, foundFrom, lesser, limitFault, ownFault, wordsRead}
+use Rattle.words.specs.Answers.{faultNumber, passed}
+use Rattle.words.specs.Spans.{startsFrom, wordEnd, wordStarts}
+use Rattle.words.specs.code.Scanning.{Room, Scanned, Written, firstStart, unlinked}
+use Rattle.words.specs.Words.{Word, bytesAt, wordAt, wordsOf}
+use Rattle.word_kinds.specs.declared.Fault.{Fault}
+use Rattle.word_kinds.specs.declared.Fault.the-variants.{Bracket}
+use Rattle.word_kinds.specs.declared.Kind.{Kind}
+use Rattle.words.specs.declared.Limits.{Limits}
+use Rattle.words.specs.declared.Reading.{Reading}
+use Rattle.words.specs.declared.Reading.the-variants.{Whole, Refused}
+use Rattle.words.proofs.Chains.{wide}
+use Rattle.words.proofs.Offsets.{Front, end-within, first-front, first-same, startsAt, word-first}
 
 -- ---- where there is no fault
 

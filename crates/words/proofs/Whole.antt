@@ -7,17 +7,17 @@ use mathlib.Core.List.{List, append-nil, map}
 use borrow.Author.Tests.{le-leb, lt-leb}
 use lib.ListN.{length, drop, length-map}
 use lib.Seq.{drop-length, take-length}
-use Rattle.forest.specs.Rows.{rows}
+use Rattle.forest.specs.code.Rows.{rows}
 use Rattle.forest.proofs.Rows.{length-rows}
-use Rattle.scanning.specs.Reading.{ReadWords, readingOf, roomFor, wordsRead}
-use Rattle.readings.specs.Answers.{passed}
-use Rattle.scanning.specs.Steps.{Linked, Linking, Scanned, linkedFrom, unlinked}
-use Rattle.scanning.specs.Table.{entries, row, wordTable, wordValues}
-use Rattle.spelling.specs.declared.Fault.the-variants.{TooLong}
-use Rattle.readings.specs.declared.Limits.{Limits}
-use Rattle.readings.specs.declared.Reading.{Reading}
-use Rattle.readings.specs.declared.Reading.the-variants.{Refused}
-use Rattle.scanning.proofs.Chains.{entries-long, wide}
+use Rattle.words.specs.Reading.{ReadWords, readingOf, roomFor, wordsRead}
+use Rattle.words.specs.Answers.{passed}
+use Rattle.words.specs.code.Scanning.{Linked, Linking, Scanned, linkedFrom, unlinked}
+use Rattle.words.specs.code.Table.{entries, row, wordTable, wordValues}
+use Rattle.word_kinds.specs.declared.Fault.the-variants.{TooLong}
+use Rattle.words.specs.declared.Limits.{Limits}
+use Rattle.words.specs.declared.Reading.{Reading}
+use Rattle.words.specs.declared.Reading.the-variants.{Refused}
+use Rattle.words.proofs.Chains.{entries-long, wide}
 
 pub too-long : (limits : Limits) (text table values : List ℕ) → limits .bytes < length text
     → ReadWords limits text table values (Refused TooLong (length text) 0) table values

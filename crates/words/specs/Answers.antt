@@ -1,9 +1,9 @@
 -- What is found in a text, by the numbers of the table of answers.
 use Prim.Native.Nat.{ℕ}
-use Rattle.spelling.specs.declared.Fault.{Fault}
-use Rattle.spelling.specs.declared.Fault.the-variants.{NoFault, TooLong, BadWord, Bracket, PastLimit, NotCarried}
-use Rattle.readings.specs.declared.Reading.{Reading}
-use Rattle.readings.specs.declared.Reading.the-variants.{Whole, Refused}
+use Rattle.word_kinds.specs.declared.Fault.{Fault}
+use Rattle.word_kinds.specs.declared.Fault.the-variants.{NoFault, TooLong, BadWord, Bracket, PastLimit, NotCarried}
+use Rattle.words.specs.declared.Reading.{Reading}
+use Rattle.words.specs.declared.Reading.the-variants.{Whole, Refused}
 
 -- The number of a fault in the table of answers: 1 "script, response or point list too long ..", 2 "bad word", 3 "bracket closed too often / never closed",
 -- 4 "past a limit", 6 "not carried"; 0 where there is none.

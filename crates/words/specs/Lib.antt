@@ -1,3 +1,7 @@
 pub mod Limits
 pub mod Answers
-pub mod Table
+pub mod Spans
+pub mod Words
+pub mod Reading
+pub mod Trees
+pub mod code

@@ -1,5 +1,5 @@
 -- What a text may hold. "The limit itself passes; one more is refused."
-use Rattle.readings.specs.declared.Limits.{Limits}
+use Rattle.words.specs.declared.Limits.{Limits}
 
 -- "Script 32,768 bytes and 4,096 words, brackets counted; .. nesting 64"
 abbrev pub scriptLimits : Limits

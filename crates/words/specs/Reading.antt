@@ -5,18 +5,18 @@ use mathlib.Core.List.{List, [], _∷_}
 use mathlib.Core.Path.{_≡_}
 use lib.ListN.{length, take}
 use lib.Dec.{eqb, leb, ltb}
-use Rattle.forest.specs.Rows.{over}
-use Rattle.scanning.specs.Words.{Word, wordsOf}
-use Rattle.scanning.specs.Table.{closes, opens, wordTable, wordValues}
-use Rattle.readings.specs.Table.{rowWidth}
-use Rattle.readings.specs.Answers.{faultNumber, numberOf, passed, placeOf}
-use Rattle.readings.specs.declared.Limits.{Limits}
-use Rattle.spelling.specs.declared.Kind.{Kind}
-use Rattle.spelling.specs.declared.Kind.the-variants.{Open, Close, Numeral, Literal, Symbol, Faulty}
-use Rattle.spelling.specs.declared.Fault.{Fault}
-use Rattle.spelling.specs.declared.Fault.the-variants.{NoFault, TooLong, Bracket, PastLimit}
-use Rattle.readings.specs.declared.Reading.{Reading}
-use Rattle.readings.specs.declared.Reading.the-variants.{Whole, Refused}
+use Rattle.forest.specs.code.Rows.{over}
+use Rattle.words.specs.Words.{Word, wordsOf}
+use Rattle.words.specs.code.Table.{closes, opens, wordTable, wordValues}
+use Rattle.words.specs.code.Columns.{rowWidth}
+use Rattle.words.specs.Answers.{faultNumber, numberOf, passed, placeOf}
+use Rattle.words.specs.declared.Limits.{Limits}
+use Rattle.word_kinds.specs.declared.Kind.{Kind}
+use Rattle.word_kinds.specs.declared.Kind.the-variants.{Open, Close, Numeral, Literal, Symbol, Faulty}
+use Rattle.word_kinds.specs.declared.Fault.{Fault}
+use Rattle.word_kinds.specs.declared.Fault.the-variants.{NoFault, TooLong, Bracket, PastLimit}
+use Rattle.words.specs.declared.Reading.{Reading}
+use Rattle.words.specs.declared.Reading.the-variants.{Whole, Refused}
 
 -- A word's fault by its own bytes.
 abbrev pub ownFault : Kind → Fault

@@ -4,9 +4,9 @@ use mathlib.Core.Bool.{cond}
 use mathlib.Core.List.{List, [], map}
 use lib.ListN.{take, drop}
 use Rattle.forest.specs.Lists.{among}
-use Rattle.scanning.specs.Spans.{wordEnd, wordStarts}
-use Rattle.spelling.specs.Kinds.{kindOf}
-use Rattle.spelling.specs.declared.Kind.{Kind}
+use Rattle.words.specs.Spans.{wordEnd, wordStarts}
+use Rattle.word_kinds.specs.Kinds.{kindOf}
+use Rattle.word_kinds.specs.declared.Kind.{Kind}
 
 -- A word: what it is, its offset, and the offset past it.
 pub record Word : Type 0 where

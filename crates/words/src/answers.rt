@@ -1,8 +1,8 @@
 //! What is found in a text, by the numbers of the table of answers.
 use crate::Reading;
-use spelling::Fault;
+use word_kinds::Fault;
 ghost use mathlib.Core.Path.{_≡_};
-ghost use Rattle.readings.specs.Answers.{faultNumber, numberOf, passed, placeOf};
+ghost use Rattle.words.specs.Answers.{faultNumber, numberOf, passed, placeOf};
 
 // The number of a fault in the table of answers; 0 where there is none.
 pub fn fault_number(fault: Fault) -> u8

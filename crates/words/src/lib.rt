@@ -1,20 +1,63 @@
 //! The reader of words: from the bytes of a text to its words, or to the refusal at the least offset.
-use readings::Limits;
-use readings::Reading;
-use readings::answers::number_of;
-use readings::answers::passed_of;
-use readings::answers::place_of;
-use readings::table::ROW;
-use scanning::links::link;
-use scanning::scan::scan_text;
-use scanning::spans::first_start;
-use scanning::spans::word_end;
-use spelling::Fault;
+//! What the reader of words takes and gives: the limits of a text, what is found in it, and the word table.
+//! The words of a text: where they start and end, what is wrong with them, and the rows of the word table.
+pub mod answers;
+pub mod links;
+mod rows;
+pub mod scan;
+pub mod spans;
+pub mod table;
+
+use crate::answers::number_of;
+use crate::answers::passed_of;
+use crate::answers::place_of;
+use crate::links::link;
+use crate::scan::scan_text;
+use crate::spans::first_start;
+use crate::spans::word_end;
+use crate::table::ROW;
+use word_kinds::Fault;
 ghost use mathlib.Core.Path.{_≡_};
 ghost use lib.ListN.{length};
 ghost use Prim.Native.Nat.{min};
-ghost use Rattle.scanning.specs.Reading.{ReadWords, WordsForC, roomFor};
-ghost use Rattle.scanning.specs.Words.{enquired};
+ghost use Rattle.words.specs.Limits.{responseLimits, scriptLimits};
+ghost use Rattle.words.specs.Reading.{ReadWords, WordsForC, roomFor};
+ghost use Rattle.words.specs.Words.{enquired};
+
+// What a text may hold at the most: its bytes, its words with brackets counted, and how many lists may stand within one another.
+pub struct Limits {
+    pub bytes: u32,
+    pub words: u32,
+    pub nesting: u32,
+}
+
+// What reading a text finds: how many words there are, or the refusal, its place, and how many words were passed before it.
+pub enum Reading {
+    Whole(usize),
+    Refused(Fault, usize, usize),
+}
+
+// The limits of a script.
+pub fn script_limits() -> Limits
+    ensures { λ r. ⌜ r ≡ scriptLimits ⌝ }
+{
+    Limits {
+        bytes: 32768,
+        words: 4096,
+        nesting: 64,
+    }
+}
+
+// The limits of a response.
+pub fn response_limits() -> Limits
+    ensures { λ r. ⌜ r ≡ responseLimits ⌝ }
+{
+    Limits {
+        bytes: 8192,
+        words: 2048,
+        nesting: 64,
+    }
+}
 
 // The lesser of two numbers.
 fn least(first: usize, second: usize) -> usize

@@ -1,12 +1,12 @@
 //! The column `next` of the word table, from the last word to the first.
-use readings::table::CLOSE;
-use readings::table::OPEN;
-use readings::table::ROW;
-use readings::table::kind_at;
-use readings::table::next_at;
+use crate::table::CLOSE;
+use crate::table::OPEN;
+use crate::table::ROW;
+use crate::table::kind_at;
+use crate::table::next_at;
 ghost use mathlib.Core.Path.{_≡_};
 ghost use Prim.Native.Nat.{_+_};
-ghost use Rattle.scanning.specs.Steps.{Closing, Linked, Linking, Next};
+ghost use Rattle.words.specs.code.Scanning.{Closing, Linked, Linking, Next};
 
 // The index past the bracket that closes the list in which word `at` stands.
 fn close_of(table: &[u32], count: usize, at: usize) -> usize

@@ -1,14 +1,14 @@
 //! The row of a word and its value.
-use readings::table::CLOSE;
-use readings::table::LITERAL;
-use readings::table::NUMERAL;
-use readings::table::OPEN;
-use readings::table::ROW;
-use readings::table::SYMBOL;
-use spelling::Kind;
+use crate::table::CLOSE;
+use crate::table::LITERAL;
+use crate::table::NUMERAL;
+use crate::table::OPEN;
+use crate::table::ROW;
+use crate::table::SYMBOL;
+use word_kinds::Kind;
 ghost use mathlib.Core.Path.{_≡_};
-ghost use Rattle.scanning.specs.Steps.{Room, Written};
-ghost use Rattle.scanning.specs.Table.{kindNumber, valueOf, widthOf};
+ghost use Rattle.words.specs.code.Scanning.{Room, Written};
+ghost use Rattle.words.specs.code.Table.{kindNumber, valueOf, widthOf};
 
 // The number of a kind in the table; 0 for a faulty word, which has no row.
 pub fn kind_number(kind: Kind) -> u32

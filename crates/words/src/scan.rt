@@ -1,21 +1,21 @@
 //! The scan of a text: its words one after the other, and the first that is refused.
+use crate::Limits;
+use crate::Reading;
+use crate::answers::fault_number;
 use crate::rows::kind_number;
 use crate::rows::put_word;
 use crate::spans::first_start;
 use crate::spans::word_end;
-use readings::Limits;
-use readings::Reading;
-use readings::answers::fault_number;
-use readings::table::CLOSE;
-use readings::table::OPEN;
-use spelling::Fault;
-use spelling::Kind;
-use spelling::kinds::kind_of;
+use crate::table::CLOSE;
+use crate::table::OPEN;
+use word_kinds::Fault;
+use word_kinds::Kind;
+use word_kinds::kinds::kind_of;
 ghost use mathlib.Core.Path.{_≡_};
 ghost use Prim.Native.Nat.{_*_, _≤_, _<_, _^_};
 ghost use lib.ListN.{length};
-ghost use Rattle.scanning.specs.Reading.{closeFault, depthAfter, foundAtEnd, faultAt, lesser, limitFault, ownFault};
-ghost use Rattle.scanning.specs.Steps.{Scanned};
+ghost use Rattle.words.specs.Reading.{closeFault, depthAfter, foundAtEnd, faultAt, lesser, limitFault, ownFault};
+ghost use Rattle.words.specs.code.Scanning.{Scanned};
 
 // A word's fault by its own bytes.
 fn own_fault(kind: Kind) -> Fault

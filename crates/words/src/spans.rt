@@ -3,8 +3,8 @@ ghost use mathlib.Core.Path.{_≡_};
 ghost use mathlib.Core.Bool.{false};
 ghost use Prim.Native.Nat.{_<_};
 ghost use lib.ListN.{length};
-ghost use Rattle.scanning.specs.Spans.{bracket, commentAfter, commentEnd, commentStart, delimiter, starts, white, wordEnd};
-ghost use Rattle.scanning.specs.Steps.{firstStart};
+ghost use Rattle.words.specs.Spans.{bracket, commentAfter, commentEnd, commentStart, delimiter, starts, white, wordEnd};
+ghost use Rattle.words.specs.code.Scanning.{firstStart};
 
 // White space: 9, 10, 13, 32.
 fn is_white(byte: u8) -> bool

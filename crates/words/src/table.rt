@@ -1,8 +1,8 @@
 //! The word table: for each word five numbers, its kind, start, end, width and next. A word past the end of a table has zeros.
 ghost use mathlib.Core.Path.{_≡_};
 ghost use Prim.Native.Nat.{_<_};
-ghost use Rattle.forest.specs.Rows.{numberAt};
-ghost use Rattle.readings.specs.Table.{endAt, kindAt, nextAt, startAt, widthAt};
+ghost use Rattle.forest.specs.code.Rows.{numberAt};
+ghost use Rattle.words.specs.code.Columns.{endAt, kindAt, nextAt, startAt, widthAt};
 
 // How many numbers a row has.
 pub const ROW: usize = 5;

@@ -9,13 +9,13 @@ use borrow.Author.Tests.{eqb-true}
 use Rattle.forest.specs.Forest.{count}
 use Rattle.forest.proofs.Bools.{and-left, and-right}
 use Rattle.lexemes.specs.Lists.{Items, inside, isSymbol, item}
-use Rattle.lexemes.specs.Table.{nextAt}
+use Rattle.lexemes.specs.code.Table.{nextAt}
 use Rattle.shapes.specs.Shapes.{groupShape, headerShape, isListOf, pairShape, sortShape, synthFunShape}
-use Rattle.sorts.specs.Steps.{HeaderAt, ShapedAt, SortAt, SynthFunAt}
-use Rattle.sorts.specs.Written.{grammarSorts, groupPlace, headerPlace, leastIn, pairPlace, sortPlace}
-use Rattle.sorts.specs.declared.Fault.{Fault}
-use Rattle.sorts.proofs.Walked.{Come, come-behind, come-first, come-next, symbol-word}
-use Rattle.sorts.proofs.Parts.{shaped-come}
+use Rattle.written_sorts.specs.code.Places.{HeaderAt, ShapedAt, SortAt, SynthFunAt}
+use Rattle.written_sorts.specs.Written.{grammarSorts, groupPlace, headerPlace, leastIn, pairPlace, sortPlace}
+use Rattle.written_sorts.specs.declared.Fault.{Fault}
+use Rattle.written_sorts.proofs.Walked.{Come, come-behind, come-first, come-next, symbol-word}
+use Rattle.written_sorts.proofs.Parts.{shaped-come}
 
 -- A function's arguments and sort.
 pub record HeaderParts (c : Items) : Type 0 where

@@ -6,13 +6,13 @@ use mathlib.Core.Bool.{Bool, true}
 use mathlib.Core.List.{List}
 use Rattle.forest.specs.Forest.{none, tree}
 use Rattle.forest.proofs.Bools.{and-left, and-right}
-use Rattle.scanning.specs.Trees.{Lexeme}
+use Rattle.words.specs.Trees.{Lexeme}
 use Rattle.lexemes.specs.Lists.{Items}
-use Rattle.lexemes.specs.Table.{nextAt}
+use Rattle.lexemes.specs.code.Table.{nextAt}
 use Rattle.lexemes.proofs.Along.{Along, along-end, along-here, along-start, along-turn, item-of}
 use Rattle.shapes.specs.Shapes.{all}
-use Rattle.sorts.specs.Steps.{AllBetween, ShapedAt}
-use Rattle.sorts.specs.Written.{leastIn}
+use Rattle.written_sorts.specs.code.Places.{AllBetween, ShapedAt}
+use Rattle.written_sorts.specs.Written.{leastIn}
 
 module _ {shape : Lexeme → Items → Bool} {lexemes : List ℕ} {first close : ℕ} where
   -- All of the items that are left have the shape, and the least place of all is the lesser of one that is found and the least of theirs.

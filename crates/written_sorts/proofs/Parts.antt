@@ -9,17 +9,17 @@ use borrow.Author.Tests.{eqb-true}
 use Rattle.forest.specs.Forest.{count}
 use Rattle.forest.proofs.Bools.{and-left, and-right}
 use Rattle.forest.specs.Lists.{sameBytes}
-use Rattle.reserved.specs.Reserved.{isOneOf}
-use Rattle.scanning.specs.Trees.{Lexeme, list}
+use Rattle.lexemes.specs.Reserved.{isOneOf}
+use Rattle.words.specs.Trees.{Lexeme, list}
 use Rattle.lexemes.specs.Lists.{Items, inside, isAmong, isList, isSymbol, item}
-use Rattle.lexemes.specs.Table.{nextAt}
-use Rattle.lexemes.specs.Standing.{ItemAt, ListAt}
+use Rattle.lexemes.specs.code.Table.{nextAt}
+use Rattle.lexemes.specs.code.Standing.{ItemAt, ListAt}
 use Rattle.lexemes.proofs.Listed.{between, list-from}
 use Rattle.shapes.specs.Shapes.{all, groupShape, isPattern, isListOf, pairShape, ruleShape, sortShape}
-use Rattle.sorts.specs.Steps.{AllBetween, ShapedAt, SortAt}
-use Rattle.sorts.specs.Written.{groupPlace, leastIn, pairPlace, rulePlace, sortPlace}
-use Rattle.sorts.specs.declared.Fault.{Fault}
-use Rattle.sorts.proofs.Walked.{Come, come-behind, come-first, come-next, item-come, named-word, symbol-word}
+use Rattle.written_sorts.specs.code.Places.{AllBetween, ShapedAt, SortAt}
+use Rattle.written_sorts.specs.Written.{groupPlace, leastIn, pairPlace, rulePlace, sortPlace}
+use Rattle.written_sorts.specs.declared.Fault.{Fault}
+use Rattle.written_sorts.proofs.Walked.{Come, come-behind, come-first, come-next, item-come, named-word, symbol-word}
 
 -- A list of so many items or more, the first a word and the second a sort.
 pub record Sorted (l : Lexeme) (ops : Items) (n : ℕ) : Type 0 where

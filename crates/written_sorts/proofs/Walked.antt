@@ -5,10 +5,10 @@ use mathlib.Core.Bool.{Bool, true, false}
 use mathlib.Core.List.{List, []}
 use Rattle.forest.specs.Forest.{count, tree}
 use Rattle.forest.proofs.Bools.{apart}
-use Rattle.scanning.specs.Trees.{Lexeme, list, literal, numeral, symbol, wordOf}
+use Rattle.words.specs.Trees.{Lexeme, list, literal, numeral, symbol, wordOf}
 use Rattle.lexemes.specs.Lists.{Items, after, inside, isList, isSymbol, item, nameOf}
-use Rattle.lexemes.specs.Table.{nextAt}
-use Rattle.lexemes.specs.Standing.{ItemAt, ListAt, Source, Stands, WordIs, bracketed, word}
+use Rattle.lexemes.specs.code.Table.{nextAt}
+use Rattle.lexemes.specs.code.Standing.{ItemAt, ListAt, Source, Stands, WordIs, bracketed, word}
 use Rattle.lexemes.proofs.Listed.{at-item, from-item, held}
 
 -- a symbol is no list

@@ -9,18 +9,18 @@ use borrow.Author.Tests.{eqb-true}
 use Rattle.forest.specs.Forest.{count, none, tree}
 use Rattle.forest.proofs.Bools.{and-left, and-right, apart}
 use Rattle.forest.specs.Lists.{sameBytes}
-use Rattle.reserved.specs.Reserved.{isWord}
-use Rattle.scanning.specs.Trees.{Lexeme, list, literal, numeral, symbol, wordOf}
+use Rattle.lexemes.specs.Reserved.{isWord}
+use Rattle.words.specs.Trees.{Lexeme, list, literal, numeral, symbol, wordOf}
 use Rattle.lexemes.specs.Lists.{Items, after, allNumerals, indexed, is, isList, isNumeral, item, numeralOf}
-use Rattle.lexemes.specs.Table.{codeAt, openCode, valueAt}
-use Rattle.lexemes.specs.Standing.{ListAt, valueOf}
+use Rattle.lexemes.specs.code.Table.{codeAt, openCode, valueAt}
+use Rattle.lexemes.specs.code.Standing.{ListAt, valueOf}
 use Rattle.lexemes.proofs.ByCode.{codeFor, list-code, symbol-code, word-code}
 use Rattle.lexemes.proofs.Listed.{at-item, from-item, is-list, list-from, no-list}
 use Rattle.shapes.specs.Shapes.{sortShape}
-use Rattle.sorts.specs.Steps.{SortAt}
-use Rattle.sorts.specs.Written.{sortOf, sortPlace}
-use Rattle.sorts.specs.declared.Fault.the-variants.{TooWide, Unknown, Empty}
-use Rattle.sorts.proofs.Walked.{Come, come-behind, come-first, item-come, named-word, placed, word-is}
+use Rattle.written_sorts.specs.code.Places.{SortAt}
+use Rattle.written_sorts.specs.Written.{sortOf, sortPlace}
+use Rattle.written_sorts.specs.declared.Fault.the-variants.{TooWide, Unknown, Empty}
+use Rattle.written_sorts.proofs.Walked.{Come, come-behind, come-first, item-come, named-word, placed, word-is}
 
 -- What is known of a numeral.
 record NumeralWord (l : Lexeme) : Type 0 where

@@ -3,11 +3,11 @@ use Prim.Native.Nat.{ℕ, min}
 use mathlib.Core.Bool.{cond, _&&_, not}
 use lib.Dec.{eqb, ltb}
 use Rattle.forest.specs.Forest.{none, tree}
-use Rattle.scanning.specs.Trees.{Lexeme, wordOf}
+use Rattle.words.specs.Trees.{Lexeme, wordOf}
 use Rattle.lexemes.specs.Lists.{Items, inside, is, isList, isSymbol, item, numeralOf}
 use Rattle.shapes.specs.Shapes.{isPattern}
-use Rattle.sorts.specs.declared.Fault.{Fault}
-use Rattle.sorts.specs.declared.Fault.the-variants.{TooWide, Unknown, Empty}
+use Rattle.written_sorts.specs.declared.Fault.{Fault}
+use Rattle.written_sorts.specs.declared.Fault.the-variants.{TooWide, Unknown, Empty}
 
 -- The sort that an item says: 0 for `Bool`, n for `(_ BitVec n)`. Another symbol is answer 7 before the sort is used. A width of 0 is answer 8 at its own
 -- word, which stands before every word whose sort is told by it, so that what it would make of these is never the least.

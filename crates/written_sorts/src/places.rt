@@ -10,8 +10,8 @@ ghost use mathlib.Core.Bool.{cond};
 ghost use mathlib.Core.Path.{_≡_};
 ghost use Prim.Native.Nat.{min};
 ghost use Rattle.shapes.specs.Shapes.{pairShape};
-ghost use Rattle.sorts.specs.Steps.{AllBetween, SortAt};
-ghost use Rattle.sorts.specs.Written.{leastIn, pairPlace, sortOf, sortPlace};
+ghost use Rattle.written_sorts.specs.code.Places.{AllBetween, SortAt};
+ghost use Rattle.written_sorts.specs.Written.{leastIn, pairPlace, sortOf, sortPlace};
 
 // The lesser of two words.
 pub fn least(one: usize, other: usize) -> usize

@@ -6,19 +6,19 @@ use mathlib.Core.Path.{_≡_}
 use lib.ListN.{length, replicate}
 use lib.Seq.{sets}
 use Rattle.forest.specs.Forest.{nodesOf, size, tree}
-use Rattle.scanning.specs.Trees.{Lexeme}
-use Rattle.grammar.specs.Tables.{formTable}
+use Rattle.words.specs.Trees.{Lexeme}
+use Rattle.derivation.specs.code.Tables.{formTable}
 use Rattle.lexemes.specs.Lists.{Items}
-use Rattle.lexemes.specs.Standing.{Source, Stands}
-use Rattle.lexemes.specs.Table.{nextAt}
+use Rattle.lexemes.specs.code.Standing.{Source, Stands}
+use Rattle.lexemes.specs.code.Table.{nextAt}
 use Rattle.shapes.specs.Shapes.{termShape}
-use Rattle.gathering.specs.Table.{rawTable, uncountedTable}
-use Rattle.gathering.specs.Terms.{nodeWord, rawTerm}
-use Rattle.naming.specs.Scopes.{View, formsOf}
-use Rattle.naming.specs.Steps.{Sees, sourceOf}
-use Rattle.naming.specs.Unknown.{unknownIn}
-use Rattle.naming.specs.declared.Seen.{Seen}
-use Rattle.faults.specs.Steps.{BodySought, Lawful}
+use Rattle.term_nodes.specs.code.Table.{rawTable, uncountedTable}
+use Rattle.term_nodes.specs.Terms.{nodeWord, rawTerm}
+use Rattle.names.specs.Scopes.{View, formsOf}
+use Rattle.names.specs.code.Lookup.{Sees, sourceOf}
+use Rattle.names.specs.Unknown.{unknownIn}
+use Rattle.names.specs.declared.Seen.{Seen}
+use Rattle.term_faults.specs.code.Seeking.{BodySought, Lawful}
 use Rattle.bodies.specs.declared.Body.{Body}
 
 -- A term stands at word i, and the table has a row for each of its words.

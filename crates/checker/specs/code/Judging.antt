@@ -5,18 +5,18 @@ use mathlib.Core.Option.{none as nothing}
 use mathlib.Core.Path.{_≡_}
 use lib.ListN.{drop, length, take}
 use Rattle.script.specs.Script.{Known}
-use Rattle.script.specs.Tables.{formsPlace}
+use Rattle.script.specs.code.Tables.{formsPlace}
 use Rattle.script.specs.declared.Progress.{Progress}
-use Rattle.response.specs.Response.{Body, inScriptOrder}
-use Rattle.texts.specs.Outcome.{given, offsetOf, responseOutcome, said, scriptOutcome}
-use Rattle.texts.specs.Steps.{ReadWhole}
-use Rattle.assured.specs.Held.{Held}
+use Rattle.script.specs.Response.{Body, inScriptOrder}
+use Rattle.script.specs.Outcome.{given, offsetOf, responseOutcome, said, scriptOutcome}
+use Rattle.texts.specs.code.Texts.{ReadWhole}
+use Rattle.verdicts.specs.code.Held.{Held}
 use Rattle.outcome.specs.Checked.{Checked, sizeAnswer, unshown}
 use Rattle.outcome.specs.Derived.{FirstUnderived, blankArea}
 use Rattle.outcome.specs.declared.Outcome.{Outcome}
-use Rattle.derivations.specs.Steps.{AllShown, Derivable}
-use Rattle.evaluation.specs.Steps.{Evaluates}
-use Rattle.judging.specs.declared.verdicts.Told.{Told}
+use Rattle.verdicts.specs.code.Deriving.{AllShown, Derivable}
+use Rattle.verdicts.specs.code.Evaluating.{Evaluates}
+use Rattle.checker.specs.declared.judge.Told.{Told}
 
 -- Every size is right, and the area shows nothing.
 pub record Judging (script response points area : List ℕ) : Type 0 where

@@ -5,21 +5,21 @@ use mathlib.Core.List.{List}
 use mathlib.Core.Path.{_≡_}
 use lib.Seq.{sets}
 use Rattle.forest.specs.Forest.{tree}
-use Rattle.bits.specs.Sorts.{maxWidth}
-use Rattle.scanning.specs.Trees.{list}
+use Rattle.operators.specs.Sorts.{maxWidth}
+use Rattle.words.specs.Trees.{list}
 use Rattle.lexemes.specs.Lists.{Items, inside, isList, item, nameOf}
-use Rattle.lexemes.specs.Standing.{Stands}
+use Rattle.lexemes.specs.code.Standing.{Stands}
 use Rattle.shapes.specs.Shapes.{declareVarShape}
-use Rattle.sorts.specs.Steps.{SortAt}
-use Rattle.sorts.specs.Written.{sortOf, sortPlace}
-use Rattle.sorts.specs.declared.Fault.the-variants.{TooWide, Unknown}
-use Rattle.heading.specs.Heads.{allowed}
-use Rattle.naming.specs.Steps.{Names, ShortNames, sourceOf}
-use Rattle.naming.specs.Table.{nameRow, rowCount, rowWidth}
-use Rattle.declaring.specs.New.{newName}
+use Rattle.written_sorts.specs.code.Places.{SortAt}
+use Rattle.written_sorts.specs.Written.{sortOf, sortPlace}
+use Rattle.written_sorts.specs.declared.Fault.the-variants.{TooWide, Unknown}
+use Rattle.headers.specs.Heads.{allowed}
+use Rattle.names.specs.code.Lookup.{Names, ShortNames, sourceOf}
+use Rattle.names.specs.code.Table.{nameRow, rowCount, rowWidth}
+use Rattle.names.specs.New.{newName}
 use Rattle.script.specs.Limits.{commandPast}
 use Rattle.script.specs.Script.{scope}
-use Rattle.script.specs.Tables.{After, CommandOf, NamesHold, Tested}
+use Rattle.script.specs.code.Tables.{After, CommandOf, NamesHold, Tested}
 use Rattle.script.specs.declared.Progress.{Progress}
 use Rattle.script.specs.declared.Verdict.{Verdict}
 

@@ -7,23 +7,23 @@ use lib.Dec.{ltb}
 use lib.ListN.{drop, length, set}
 use lib.Seq.{sets}
 use Rattle.forest.specs.Forest.{nodesOf, size}
-use Rattle.bits.specs.Sorts.{maxWidth}
-use Rattle.grammar.specs.Tables.{formTable}
+use Rattle.operators.specs.Sorts.{maxWidth}
+use Rattle.derivation.specs.code.Tables.{formTable}
 use Rattle.lexemes.specs.Lists.{inside, item}
-use Rattle.gathering.specs.Table.{uncountedTable}
-use Rattle.gathering.specs.Terms.{rawTerm}
-use Rattle.naming.specs.Scopes.{formsOf}
-use Rattle.naming.specs.Table.{argumentRow}
-use Rattle.naming.specs.Unknown.{unknownIn}
-use Rattle.naming.specs.declared.Seen.{Seen}
-use Rattle.declaring.specs.declared.Scope.{Scope}
-use Rattle.signatures.specs.Steps.{SignedIn, Signing}
-use Rattle.heading.specs.Heads.{allowed}
-use Rattle.faults.specs.Faults.{bodyFault}
-use Rattle.faults.specs.Steps.{Signed}
-use Rattle.bodies.specs.Steps.{Naming}
+use Rattle.term_nodes.specs.code.Table.{uncountedTable}
+use Rattle.term_nodes.specs.Terms.{rawTerm}
+use Rattle.names.specs.Scopes.{formsOf}
+use Rattle.names.specs.code.Table.{argumentRow}
+use Rattle.names.specs.Unknown.{unknownIn}
+use Rattle.names.specs.declared.Seen.{Seen}
+use Rattle.names.specs.declared.Scope.{Scope}
+use Rattle.script.specs.code.Signing.{SignedIn, Signing}
+use Rattle.headers.specs.Heads.{allowed}
+use Rattle.term_faults.specs.Faults.{bodyFault}
+use Rattle.term_faults.specs.code.Seeking.{Signed}
+use Rattle.bodies.specs.code.Bodies.{Naming}
 use Rattle.script.specs.Script.{limitPlace}
-use Rattle.script.specs.Tables.{After, CommandOf, NamesHold, PlacesHold, Tested, bodiesPlace, functionsPlace}
+use Rattle.script.specs.code.Tables.{After, CommandOf, NamesHold, PlacesHold, Tested, bodiesPlace, functionsPlace}
 use Rattle.script.specs.declared.Progress.{Progress}
 use Rattle.script.specs.declared.Verdict.{Verdict}
 

@@ -1,9 +1,9 @@
-use Rattle.grammar.proofs.Copying.{Copied, copied-start, copied-step, copied-end}
+use Rattle.derivation.proofs.Copying.{Copied, copied-start, copied-step, copied-end}
 use lib.ListN.{length}
 use Prim.Native.Nat.{_-_}
 use native.Mathlib.Omega.{arith}
-use Rattle.grammar.proofs.copy.Statement.{statement}
-use Rattle.grammar.proofs.copy.Tie as tie
+use Rattle.derivation.proofs.copy.Statement.{statement}
+use Rattle.derivation.proofs.copy.Tie as tie
 
 abbrev Inv-loop : tie.InvT-loop
 Inv-loop list area₀ at i₀ area i = Copied list area₀ at area i

@@ -1,12 +1,12 @@
 use borrow.Author.Needs.{needs}
-use Rattle.grammar.proofs.Top.{masks-fit, show-pre, derive-no, derive-yes}
-use Rattle.grammar.specs.Answer.{listSize, unused}
+use Rattle.derivation.proofs.Top.{masks-fit, show-pre, derive-no, derive-yes}
+use Rattle.derivation.specs.Answer.{listSize, unused}
 use lib.ListN.{length, length-take, length-replicate}
 use mathlib.Core.Path.{refl, sym, ap, _∙_}
 use Prim.Native.Nat.{ℕ, _/_}
 use native.Mathlib.Omega.{arith}
-use Rattle.grammar.proofs.derive.Statement.{statement}
-use Rattle.grammar.proofs.derive.Tie as tie
+use Rattle.derivation.proofs.derive.Statement.{statement}
+use Rattle.derivation.proofs.derive.Tie as tie
 
 no-masks-requires : tie.Need-no-masks-requires
 no-masks-requires c κs = search needs

@@ -3,9 +3,9 @@ use mathlib.Core.Bool.{Bool, _&&_, _||_}
 use Prim.Native.Nat.{ℕ, _/_, _%_, _^_}
 use mathlib.Core.List.{List}
 use lib.Dec.{eqb}
-use Rattle.forest.specs.Rows.{numberAt}
-use Rattle.terms.specs.Nodes.{codeAt, literalKind, nameKind, operandsAt, valueAt}
-use Rattle.grammar.specs.Tables.{anyArgumentKind, anyLiteralKind}
+use Rattle.forest.specs.code.Rows.{numberAt}
+use Rattle.terms.specs.code.Nodes.{codeAt, literalKind, nameKind, operandsAt, valueAt}
+use Rattle.derivation.specs.code.Tables.{anyArgumentKind, anyLiteralKind}
 
 -- How many numbers a rule has in the table of rules.
 abbrev pub ruleWidth : ℕ

@@ -7,10 +7,10 @@ use lib.ListN.{length, getD}
 use lib.Seq.{sets}
 use Rattle.forest.specs.Forest.{Forest, none, tree, count, size, from, first}
 use Rattle.terms.specs.Labels.{Terms}
-use Rattle.grammar.specs.Derivation.{Item, nonTerminal, Grammar, headOf, formOf, Derives, Simple}
-use Rattle.grammar.specs.Tables.{Given}
-use Rattle.grammar.specs.Columns.{has}
-use Rattle.grammar.specs.Answer.{start}
+use Rattle.derivation.specs.Derivation.{Item, nonTerminal, Grammar, headOf, formOf, Derives, Simple}
+use Rattle.derivation.specs.code.Tables.{Given}
+use Rattle.derivation.specs.code.Columns.{has}
+use Rattle.derivation.specs.Answer.{start}
 
 -- A derives the first tree of F.
 unfoldable pub DerivesAt : Grammar → ℕ → Terms → Type 0

@@ -3,10 +3,10 @@ use mathlib.Core.Path.{_≡_}
 use Prim.Native.Nat.{ℕ, suc, _+_, _*_}
 use mathlib.Core.List.{List, [], _∷_}
 use Rattle.forest.specs.Forest.{Forest, Node, count, join, nodesOf, none, size}
-use Rattle.forest.specs.Rows.{rows}
+use Rattle.forest.specs.code.Rows.{rows}
 use Rattle.terms.specs.Labels.{Terms}
-use Rattle.terms.specs.Nodes.{AllPlain, codeOf, nodeTable, valueOf}
-use Rattle.grammar.specs.Derivation.{Admitted, Grammar, Item, LeavesFit, Rule, anyArgument, anyLiteral, nonTerminal, rule, the}
+use Rattle.terms.specs.code.Nodes.{AllPlain, codeOf, nodeTable, valueOf}
+use Rattle.derivation.specs.Derivation.{Admitted, Grammar, Item, LeavesFit, Rule, anyArgument, anyLiteral, nonTerminal, rule, the}
 
 -- The kind of a non-terminal in the table; the kinds before it are those of labels.
 abbrev pub nonTerminalKind : ℕ

@@ -6,15 +6,15 @@ use mathlib.Core.Path.{_≡_}
 use lib.ListN.{getD, length, take}
 use lib.Seq.{sets}
 use Rattle.forest.specs.Forest.{count, from, join, size}
-use Rattle.bits.specs.Operators.{operatorSort, operatorValue}
-use Rattle.bits.specs.Sorts.{AllFit}
+use Rattle.operators.specs.Operators.{operatorSort, operatorValue}
+use Rattle.operators.specs.Sorts.{AllFit}
 use Rattle.terms.specs.Costs.{costOf}
 use Rattle.terms.specs.Labels.{Terms}
 use Rattle.terms.specs.Sorts.{Definition}
 use Rattle.terms.specs.Values.{numbersIn, sortsIn, value, valuesAt}
 use Rattle.terms.specs.declared.Value.{Value}
-use Rattle.meaning.specs.Budget.{Priced, held}
-use Rattle.meaning.specs.Tables.{CallsKnown, BodiesHold, TermStands, mostArguments, mostDefined, mostFunctions}
+use Rattle.evaluation.specs.code.Budget.{Priced, held}
+use Rattle.evaluation.specs.code.Tables.{CallsKnown, BodiesHold, TermStands, mostArguments, mostDefined, mostFunctions}
 
 -- The numbers at the front of `env` are those of the point.
 abbrev pub Names : (env : List ℕ) (point : List Value) → Type 0

@@ -4,18 +4,18 @@ use mathlib.Core.List.{List, [], _∷_}
 use mathlib.Core.Option.{some}
 use mathlib.Core.Path.{_≡_}
 use lib.ListN.{getD, length}
-use Rattle.bits.specs.Sorts.{AllFit, bool}
+use Rattle.operators.specs.Sorts.{AllFit, bool}
 use Rattle.terms.specs.Costs.{costOf}
 use Rattle.terms.specs.Labels.{Terms}
 use Rattle.terms.specs.Sorts.{Definition}
 use Rattle.terms.specs.Values.{numbersIn, sortsIn, valuesAt}
 use Rattle.terms.specs.declared.Value.{Value}
-use Rattle.meaning.specs.Budget.{Priced, held}
-use Rattle.meaning.specs.Tables.{CallsKnown, BodiesHold, TermStands}
-use Rattle.meaning.specs.Steps.{Cost, Costing, Names}
-use Rattle.running.specs.Points.{pointAt, pointCount}
-use Rattle.running.specs.Running.{runPoints, runTerms}
-use Rattle.running.specs.declared.Ran.{Ran}
+use Rattle.evaluation.specs.code.Budget.{Priced, held}
+use Rattle.evaluation.specs.code.Tables.{CallsKnown, BodiesHold, TermStands}
+use Rattle.evaluation.specs.code.Evaluating.{Cost, Costing, Names}
+use Rattle.evaluation.specs.Points.{pointAt, pointCount}
+use Rattle.evaluation.specs.Running.{runPoints, runTerms}
+use Rattle.evaluation.specs.declared.Ran.{Ran}
 
 -- Each of the sorts is `Bool` or a width to 64.
 pub record SortsSmall (sorts : List ℕ) : Type 0 where

@@ -7,7 +7,7 @@ use lib.Dec.{eqb, ltb}
 use lib.ListN.{getD, length}
 use Rattle.forest.specs.Forest.{from, none, tree}
 use Rattle.terms.specs.Labels.{Label, Terms, defined, function, literal, name, operator}
-use Rattle.terms.specs.Nodes.{AllPlain, definedKind, functionKind, nodeTable}
+use Rattle.terms.specs.code.Nodes.{AllPlain, definedKind, functionKind, nodeTable}
 use Rattle.terms.specs.Sorts.{Definition}
 
 -- "32 `define-fun`s": the bodies of the synthesized functions have their places behind these.

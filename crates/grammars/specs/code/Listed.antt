@@ -6,15 +6,15 @@ use mathlib.Core.Path.{_≡_}
 use lib.Dec.{eqb}
 use Rattle.forest.specs.Forest.{count, tree}
 use Rattle.forest.specs.Lists.{sameBytes}
-use Rattle.scanning.specs.Trees.{list, wordOf}
+use Rattle.words.specs.Trees.{list, wordOf}
 use Rattle.lexemes.specs.Lists.{Items, closeOf, inside, item, nameOf}
-use Rattle.lexemes.specs.Standing.{ItemAt, ListAt, Stands}
+use Rattle.lexemes.specs.code.Standing.{ItemAt, ListAt, Stands}
 use Rattle.shapes.specs.Shapes.{all, groupShape, pairShape}
-use Rattle.sorts.specs.Written.{sortOf}
-use Rattle.naming.specs.Scopes.{Named, namesOf, namedSorts}
-use Rattle.naming.specs.Steps.{Names, sourceOf}
-use Rattle.naming.specs.Table.{nameIn, namesFrom, nonTerminalRow, rowCount, sortIn, sortsFrom}
-use Rattle.listing.specs.Listing.{listingMisfit, startMisfit}
+use Rattle.written_sorts.specs.Written.{sortOf}
+use Rattle.names.specs.Scopes.{Named, namesOf, namedSorts}
+use Rattle.names.specs.code.Lookup.{Names, sourceOf}
+use Rattle.names.specs.code.Table.{nameIn, namesFrom, nonTerminalRow, rowCount, sortIn, sortsFrom}
+use Rattle.grammars.specs.Listing.{listingMisfit, startMisfit}
 
 -- A list of pairs stands at word i.
 pub record PairsAt (lexemes : List ℕ) (i : ℕ) : Type 0 where

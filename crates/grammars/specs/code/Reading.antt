@@ -6,27 +6,27 @@ use mathlib.Core.Path.{_≡_}
 use lib.ListN.{length}
 use lib.Seq.{sets}
 use Rattle.forest.specs.Forest.{count, size, tree}
-use Rattle.forest.specs.Rows.{over}
-use Rattle.scanning.specs.Trees.{list}
-use Rattle.grammar.specs.Tables.{formTable}
-use Rattle.sorting.specs.Forms.{sortColumn}
+use Rattle.forest.specs.code.Rows.{over}
+use Rattle.words.specs.Trees.{list}
+use Rattle.derivation.specs.code.Tables.{formTable}
+use Rattle.term_sorts.specs.Forms.{sortColumn}
 use Rattle.lexemes.specs.Lists.{Items, inside, isSymbol, item}
-use Rattle.lexemes.specs.Standing.{Stands}
-use Rattle.lexemes.specs.Table.{nextAt}
+use Rattle.lexemes.specs.code.Standing.{Stands}
+use Rattle.lexemes.specs.code.Table.{nextAt}
 use Rattle.shapes.specs.Shapes.{synthFunShape}
-use Rattle.sorts.specs.Steps.{SynthFunAt}
-use Rattle.gathering.specs.Table.{rawTable, uncountedTable}
-use Rattle.naming.specs.Scopes.{Defined, Named, View, definedNames, formsOf, inOrder, namesOf, namedSorts}
-use Rattle.naming.specs.Steps.{Kept, Names, sourceOf}
-use Rattle.naming.specs.Table.{definedRow, namesFrom, nonTerminalRow, ownArgumentRow, sortsFrom}
-use Rattle.declaring.specs.New.{namedBy}
-use Rattle.declaring.specs.Steps.{AllNarrow, Few, namesIn}
-use Rattle.declaring.specs.declared.Scope.{Scope}
-use Rattle.faults.specs.Faults.{scopeOf}
-use Rattle.faults.specs.Steps.{Lawful, Sought}
-use Rattle.heading.specs.Heads.{allowed}
-use Rattle.rules.specs.Rules.{rulesIn, sides, startTable}
-use Rattle.rules.specs.declared.Gathered.{Gathered}
+use Rattle.written_sorts.specs.code.Places.{SynthFunAt}
+use Rattle.term_nodes.specs.code.Table.{rawTable, uncountedTable}
+use Rattle.names.specs.Scopes.{Defined, Named, View, definedNames, formsOf, inOrder, namesOf, namedSorts}
+use Rattle.names.specs.code.Lookup.{Kept, Names, sourceOf}
+use Rattle.names.specs.code.Table.{definedRow, namesFrom, nonTerminalRow, ownArgumentRow, sortsFrom}
+use Rattle.names.specs.New.{namedBy}
+use Rattle.names.specs.code.NewNames.{AllNarrow, Few, namesIn}
+use Rattle.names.specs.declared.Scope.{Scope}
+use Rattle.term_faults.specs.Faults.{scopeOf}
+use Rattle.term_faults.specs.code.Seeking.{Lawful, Sought}
+use Rattle.headers.specs.Heads.{allowed}
+use Rattle.term_nodes.specs.Rules.{rulesIn, sides, startTable}
+use Rattle.term_nodes.specs.declared.Gathered.{Gathered}
 use Rattle.grammars.specs.Grammars.{grammarFault, grammarNames, grammarPast, listMisfit}
 
 -- The word of the function's sort, in the `synth-fun` at word i.

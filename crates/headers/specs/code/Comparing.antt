@@ -4,13 +4,13 @@ use mathlib.Core.Bool.{true, false}
 use mathlib.Core.List.{List, [], _∷_, _++_}
 use mathlib.Core.Path.{_≡_}
 use Rattle.forest.specs.Forest.{none, tree}
-use Rattle.scanning.specs.Trees.{Lexeme, list}
+use Rattle.words.specs.Trees.{Lexeme, list}
 use Rattle.lexemes.specs.Lists.{Items, isSymbol, item}
-use Rattle.lexemes.specs.Standing.{Stands}
+use Rattle.lexemes.specs.code.Standing.{Stands}
 use Rattle.shapes.specs.Shapes.{all, defineFunShape, pairShape}
-use Rattle.naming.specs.Scopes.{Function, Named, namesOf, namedSorts}
-use Rattle.naming.specs.Steps.{Names, sourceOf}
-use Rattle.naming.specs.Table.{functionRow, nameIn, namesFrom, ownArgumentRow, rowCount, sortIn, sortsFrom}
+use Rattle.names.specs.Scopes.{Function, Named, namesOf, namedSorts}
+use Rattle.names.specs.code.Lookup.{Names, sourceOf}
+use Rattle.names.specs.code.Table.{functionRow, nameIn, namesFrom, ownArgumentRow, rowCount, sortIn, sortsFrom}
 use Rattle.headers.specs.Tokens.{Placed, Token, argumentTokens, closing, differing, headerOf, headerTokens, sameToken, wordsIn}
 
 -- A `define-fun` stands at word i, and the table has the name and the arguments of synthesized function j, so many of these.

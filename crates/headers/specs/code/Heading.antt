@@ -5,20 +5,20 @@ use mathlib.Core.List.{List}
 use mathlib.Core.Path.{_≡_}
 use lib.Seq.{sets}
 use Rattle.forest.specs.Forest.{count, tree}
-use Rattle.bits.specs.Sorts.{maxWidth}
-use Rattle.scanning.specs.Trees.{list}
+use Rattle.operators.specs.Sorts.{maxWidth}
+use Rattle.words.specs.Trees.{list}
 use Rattle.lexemes.specs.Lists.{Items, inside, isSymbol, item, nameOf}
-use Rattle.lexemes.specs.Standing.{Stands}
+use Rattle.lexemes.specs.code.Standing.{Stands}
 use Rattle.shapes.specs.Shapes.{headerShape}
-use Rattle.sorts.specs.Steps.{HeaderAt}
-use Rattle.sorts.specs.Written.{sortOf}
-use Rattle.naming.specs.Scopes.{namesOf, namedSorts}
-use Rattle.naming.specs.Steps.{Kept, Names, ShortNames, sourceOf}
-use Rattle.naming.specs.Table.{argumentRow, definedRow, functionRow, nameIn, nameRow, namesFrom, ownArgumentRow, rowWidth, sortsFrom}
-use Rattle.declaring.specs.New.{namedBy, newName}
-use Rattle.declaring.specs.Steps.{AllNarrow, Few, namesIn}
-use Rattle.declaring.specs.declared.Scope.{Scope}
-use Rattle.heading.specs.Heads.{Counts, headerNames, headerPast}
+use Rattle.written_sorts.specs.code.Places.{HeaderAt}
+use Rattle.written_sorts.specs.Written.{sortOf}
+use Rattle.names.specs.Scopes.{namesOf, namedSorts}
+use Rattle.names.specs.code.Lookup.{Kept, Names, ShortNames, sourceOf}
+use Rattle.names.specs.code.Table.{argumentRow, definedRow, functionRow, nameIn, nameRow, namesFrom, ownArgumentRow, rowWidth, sortsFrom}
+use Rattle.names.specs.New.{namedBy, newName}
+use Rattle.names.specs.code.NewNames.{AllNarrow, Few, namesIn}
+use Rattle.names.specs.declared.Scope.{Scope}
+use Rattle.headers.specs.Heads.{Counts, headerNames, headerPast}
 
 -- The word past a limit in the head of the command at a word is found.
 abbrev pub HeadLimited : {lexemes : List ℕ} {i : ℕ} → HeaderAt lexemes i → (counts : Counts) → (nowhere r : ℕ) → Type 0

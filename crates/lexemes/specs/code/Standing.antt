@@ -5,11 +5,11 @@ use mathlib.Core.List.{List, [], _∷_, _++_}
 use mathlib.Core.Path.{_≡_}
 use lib.ListN.{drop, length, take}
 use Rattle.forest.specs.Forest.{none, tree}
-use Rattle.scanning.specs.Table.{wordTable, wordValues}
-use Rattle.scanning.specs.Trees.{Lexeme, bytesOf, list, literal, numeral, symbol, treesFrom, wordOf}
-use Rattle.scanning.specs.Words.{Word, wordsOf}
+use Rattle.words.specs.code.Table.{wordTable, wordValues}
+use Rattle.words.specs.Trees.{Lexeme, bytesOf, list, literal, numeral, symbol, treesFrom, wordOf}
+use Rattle.words.specs.Words.{Word, wordsOf}
 use Rattle.lexemes.specs.Lists.{Items, after, isList, isNumeral}
-use Rattle.lexemes.specs.Table.{closeCode, codeAt, codeOf, endAt, kindCode, lexemeTable, nextAt, openCode, startAt, valueAt, widthAt}
+use Rattle.lexemes.specs.code.Table.{closeCode, codeAt, codeOf, endAt, kindCode, lexemeTable, nextAt, openCode, startAt, valueAt, widthAt}
 
 -- The items of a text: its words in their lists.
 unfoldable pub itemsOf : (text : List ℕ) → Items

@@ -2,13 +2,13 @@
 -- bytes of names and literals.
 use Prim.Native.Nat.{ℕ, _+_}
 use mathlib.Core.List.{List, [], _∷_}
-use Rattle.forest.specs.Rows.{numberAt, rows}
-use Rattle.reserved.specs.Reserved.{wordNumber}
-use Rattle.spelling.specs.declared.Kind.{Kind}
-use Rattle.spelling.specs.declared.Kind.the-variants.{Open, Close, Numeral, Literal, Symbol, Faulty}
-use Rattle.scanning.specs.Table.{Entry, entries, valueOf, widthOf}
-use Rattle.scanning.specs.Trees.{Lexeme, bytesOf, list, literal, numeral, symbol}
-use Rattle.scanning.specs.Words.{Word}
+use Rattle.forest.specs.code.Rows.{numberAt, rows}
+use Rattle.lexemes.specs.Reserved.{wordNumber}
+use Rattle.word_kinds.specs.declared.Kind.{Kind}
+use Rattle.word_kinds.specs.declared.Kind.the-variants.{Open, Close, Numeral, Literal, Symbol, Faulty}
+use Rattle.words.specs.code.Table.{Entry, entries, valueOf, widthOf}
+use Rattle.words.specs.Trees.{Lexeme, bytesOf, list, literal, numeral, symbol}
+use Rattle.words.specs.Words.{Word}
 
 -- The code of `(`.
 abbrev pub openCode : ℕ

@@ -8,23 +8,23 @@ use lib.Dec.{eqb, ltb}
 use lib.ListN.{getD, length}
 use lib.Seq.{sets}
 use Rattle.forest.specs.Forest.{Forest, nodesOf, none, size, tree}
-use Rattle.bits.specs.Operators.{operatorCount, operatorOf}
-use Rattle.bits.specs.Sorts.{Fit}
-use Rattle.reserved.specs.Reserved.{isWord}
-use Rattle.grammar.specs.Derivation.{Item}
-use Rattle.grammar.specs.Tables.{formTable, itemCode, itemValue}
-use Rattle.scanning.specs.Trees.{Lexeme}
+use Rattle.operators.specs.Operators.{operatorCount, operatorOf}
+use Rattle.operators.specs.Sorts.{Fit}
+use Rattle.lexemes.specs.Reserved.{isWord}
+use Rattle.derivation.specs.Derivation.{Item}
+use Rattle.derivation.specs.code.Tables.{formTable, itemCode, itemValue}
+use Rattle.words.specs.Trees.{Lexeme}
 use Rattle.lexemes.specs.Lists.{Items}
-use Rattle.lexemes.specs.Standing.{Source, spelt}
-use Rattle.lexemes.specs.Table.{codeAt, literalCode, numeralCode, valueAt, widthAt}
-use Rattle.gathering.specs.Steps.{AllSay, Says, SaysPattern}
-use Rattle.gathering.specs.Table.{rawTable}
-use Rattle.gathering.specs.Terms.{Raw, constant, cut, firstWord, headWord, number, pattern, word, writtenOf}
-use Rattle.naming.specs.Scopes.{View, definedNames, formsOf, functionNames, inOrder, isKnown, itemOr, means, namesOf, namedSorts, symbolMeans}
-use Rattle.naming.specs.Table.{definedRow, functionRow, longest, namesFrom, nonTerminalRow, rowCount, rowWidth, sortsFrom}
-use Rattle.naming.specs.Unknown.{unknownAt, unknownIn}
-use Rattle.naming.specs.declared.Meaning.{Meaning}
-use Rattle.naming.specs.declared.Seen.{Seen}
+use Rattle.lexemes.specs.code.Standing.{Source, spelt}
+use Rattle.lexemes.specs.code.Table.{codeAt, literalCode, numeralCode, valueAt, widthAt}
+use Rattle.term_nodes.specs.code.Gathering.{AllSay, Says, SaysPattern}
+use Rattle.term_nodes.specs.code.Table.{rawTable}
+use Rattle.term_nodes.specs.Terms.{Raw, constant, cut, firstWord, headWord, number, pattern, word, writtenOf}
+use Rattle.names.specs.Scopes.{View, definedNames, formsOf, functionNames, inOrder, isKnown, itemOr, means, namesOf, namedSorts, symbolMeans}
+use Rattle.names.specs.code.Table.{definedRow, functionRow, longest, namesFrom, nonTerminalRow, rowCount, rowWidth, sortsFrom}
+use Rattle.names.specs.Unknown.{unknownAt, unknownIn}
+use Rattle.names.specs.declared.Meaning.{Meaning}
+use Rattle.names.specs.declared.Seen.{Seen}
 
 -- A table of names: its size, and no name is too long.
 pub record Names (names : List ℕ) : Type 0 where

@@ -5,17 +5,17 @@ use mathlib.Core.List.{List, _++_}
 use mathlib.Core.Path.{_≡_}
 use lib.Seq.{sets}
 use Rattle.forest.specs.Forest.{count, none, tree}
-use Rattle.bits.specs.Sorts.{maxWidth}
-use Rattle.scanning.specs.Trees.{Lexeme}
+use Rattle.operators.specs.Sorts.{maxWidth}
+use Rattle.words.specs.Trees.{Lexeme}
 use Rattle.lexemes.specs.Lists.{Items, inside, isSymbol, item, nameOf}
-use Rattle.lexemes.specs.Standing.{Stands}
+use Rattle.lexemes.specs.code.Standing.{Stands}
 use Rattle.shapes.specs.Shapes.{all, pairShape}
-use Rattle.sorts.specs.Written.{sortOf}
-use Rattle.naming.specs.Scopes.{namesOf, namedSorts}
-use Rattle.naming.specs.Steps.{Kept, Names, ShortNames, sourceOf}
-use Rattle.naming.specs.Table.{definedRow, functionRow, nameRow, namesFrom, rowCount, rowWidth, sortsFrom, variableRow}
-use Rattle.declaring.specs.New.{namedBy, newName, newPairs}
-use Rattle.declaring.specs.declared.Scope.{Scope}
+use Rattle.written_sorts.specs.Written.{sortOf}
+use Rattle.names.specs.Scopes.{namesOf, namedSorts}
+use Rattle.names.specs.code.Lookup.{Kept, Names, ShortNames, sourceOf}
+use Rattle.names.specs.code.Table.{definedRow, functionRow, nameRow, namesFrom, rowCount, rowWidth, sortsFrom, variableRow}
+use Rattle.names.specs.New.{namedBy, newName, newPairs}
+use Rattle.names.specs.declared.Scope.{Scope}
 
 -- No more names of each kind than their rows.
 pub record Few (scope : Scope) : Type 0 where

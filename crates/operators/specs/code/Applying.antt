@@ -4,8 +4,8 @@ use mathlib.Core.List.{List}
 use mathlib.Core.Option.{some}
 use mathlib.Core.Path.{_≡_}
 use lib.ListN.{getD}
-use Rattle.bits.specs.Operators.{operatorSort, operatorValue}
-use Rattle.bits.specs.Sorts.{AllFit, maxWidth}
+use Rattle.operators.specs.Operators.{operatorSort, operatorValue}
+use Rattle.operators.specs.Sorts.{AllFit, maxWidth}
 
 -- A width.
 pub record Width (n : ℕ) : Type 0 where

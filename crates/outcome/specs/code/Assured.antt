@@ -5,13 +5,13 @@ use mathlib.Core.Option.{some}
 use mathlib.Core.Path.{_≡_}
 use Rattle.forest.specs.Forest.{size}
 use Rattle.terms.specs.Sorts.{sortsOf as termSorts}
-use Rattle.grammar.specs.Derivation.{Admitted}
-use Rattle.running.specs.Steps.{SortsSmall}
-use Rattle.naming.specs.Scopes.{Defined, Function, namedSorts}
-use Rattle.faults.specs.Faults.{scopeOf}
+use Rattle.derivation.specs.Derivation.{Admitted}
+use Rattle.evaluation.specs.code.Runs.{SortsSmall}
+use Rattle.names.specs.Scopes.{Defined, Function, namedSorts}
+use Rattle.term_faults.specs.Faults.{scopeOf}
 use Rattle.script.specs.Script.{Known}
-use Rattle.promises.specs.Sorted.{Sorted}
-use Rattle.response.specs.Response.{Body, responseView}
+use Rattle.outcome.specs.Sorted.{Sorted}
+use Rattle.script.specs.Response.{Body, responseView}
 
 -- The grammar of each function is one that document 01 admits.
 unfoldable pub AllAdmitted : List Function → Type 0

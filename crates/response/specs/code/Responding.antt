@@ -7,31 +7,31 @@ use lib.Dec.{ltb}
 use lib.ListN.{drop, getD, length}
 use lib.Seq.{sets}
 use Rattle.forest.specs.Forest.{size, tree}
-use Rattle.scanning.specs.Trees.{list, wordOf}
+use Rattle.words.specs.Trees.{list, wordOf}
 use Rattle.terms.specs.Labels.{Terms}
-use Rattle.meaning.specs.Tables.{mostDefined, TermStands}
-use Rattle.grammar.specs.Tables.{formTable}
+use Rattle.evaluation.specs.code.Tables.{mostDefined, TermStands}
+use Rattle.derivation.specs.code.Tables.{formTable}
 use Rattle.lexemes.specs.Lists.{Items, inside, is, item}
-use Rattle.lexemes.specs.Standing.{ListAt, Stands}
-use Rattle.lexemes.specs.Table.{codeAt, nextAt}
-use Rattle.carrying.specs.Carried.{anyUncarried}
+use Rattle.lexemes.specs.code.Standing.{ListAt, Stands}
+use Rattle.lexemes.specs.code.Table.{codeAt, nextAt}
+use Rattle.shapes.specs.Carried.{anyUncarried}
 use Rattle.shapes.specs.Shapes.{defineFunShape}
-use Rattle.gathering.specs.Table.{uncountedTable}
-use Rattle.gathering.specs.Terms.{rawTerm}
-use Rattle.naming.specs.Scopes.{Defined, Function, formsOf}
-use Rattle.naming.specs.Steps.{sourceOf}
-use Rattle.naming.specs.declared.Seen.{Seen}
-use Rattle.faults.specs.Faults.{bodyFault}
-use Rattle.faults.specs.Steps.{Lawful}
-use Rattle.heading.specs.Heads.{Counts, allowed, headerPast}
+use Rattle.term_nodes.specs.code.Table.{uncountedTable}
+use Rattle.term_nodes.specs.Terms.{rawTerm}
+use Rattle.names.specs.Scopes.{Defined, Function, formsOf}
+use Rattle.names.specs.code.Lookup.{sourceOf}
+use Rattle.names.specs.declared.Seen.{Seen}
+use Rattle.term_faults.specs.Faults.{bodyFault}
+use Rattle.term_faults.specs.code.Seeking.{Lawful}
+use Rattle.headers.specs.Heads.{Counts, allowed, headerPast}
 use Rattle.headers.specs.Tokens.{differing, headerOf, headerTokens, wordsIn}
 use Rattle.script.specs.Limits.{nodePast}
 use Rattle.script.specs.Naming.{termNames}
 use Rattle.script.specs.Script.{Known, termOf}
-use Rattle.script.specs.Tables.{Counted, GrammarsHold, NamesHold, PlacesHold, TablesHold, bodiesPlace, firstsPlace, functionsPlace}
+use Rattle.script.specs.code.Tables.{Counted, GrammarsHold, NamesHold, PlacesHold, TablesHold, bodiesPlace, firstsPlace, functionsPlace}
 use Rattle.script.specs.declared.Progress.{Progress}
 use Rattle.script.specs.declared.Verdict.{Verdict}
-use Rattle.response.specs.Response.{Answered, Body, answered, bodies, inScriptOrder, judgedAll, judgedBody, judgedExtra, refused, responseView, withBody}
+use Rattle.script.specs.Response.{Answered, Body, answered, bodies, inScriptOrder, judgedAll, judgedBody, judgedExtra, refused, responseView, withBody}
 
 -- Bodies, from that of function j on, begin at the nodes that the table has behind those of `define-fun`s, and their first words stand in it.
 unfoldable pub ResponseAt : (all : Terms) → (places : List ℕ) → (j : ℕ) → List Body → Type 0

@@ -4,10 +4,10 @@ use mathlib.Core.List.{List, [], _∷_}
 use mathlib.Core.Path.{_≡_}
 use lib.ListN.{drop, length, take}
 use lib.Seq.{sets}
-use Rattle.bits.specs.Sorts.{maxWidth}
-use Rattle.sorting.specs.Tables.{SortsAre, allRows, nonTerminalSignature, signatureWidth}
-use Rattle.naming.specs.Steps.{Names}
-use Rattle.naming.specs.Table.{nonTerminalRow as firstNonTerminal, rowCount, sortsFrom}
+use Rattle.operators.specs.Sorts.{maxWidth}
+use Rattle.term_sorts.specs.code.Signatures.{SortsAre, allRows, nonTerminalSignature, signatureWidth}
+use Rattle.names.specs.code.Lookup.{Names}
+use Rattle.names.specs.code.Table.{nonTerminalRow as firstNonTerminal, rowCount, sortsFrom}
 
 -- A row of the table of signatures, and so many arguments from a row of the table of names on.
 pub record Signing (names places : List ℕ) (row first arguments result : ℕ) : Type 0 where

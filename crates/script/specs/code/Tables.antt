@@ -8,21 +8,21 @@ use mathlib.Core.List.{List, [], _∷_, _++_, map}
 use mathlib.Core.Path.{_≡_}
 use lib.ListN.{drop, getD, length, take}
 use Rattle.forest.specs.Forest.{size, tree}
-use Rattle.scanning.specs.Trees.{list}
+use Rattle.words.specs.Trees.{list}
 use Rattle.lexemes.specs.Lists.{Items, is, item}
 use Rattle.shapes.specs.Shapes.{commandShape}
-use Rattle.heading.specs.Heads.{allowed}
-use Rattle.lexemes.specs.Standing.{Stands as Standing}
-use Rattle.faults.specs.Steps.{Lawful}
+use Rattle.headers.specs.Heads.{allowed}
+use Rattle.lexemes.specs.code.Standing.{Stands as Standing}
+use Rattle.term_faults.specs.code.Seeking.{Lawful}
 use Rattle.terms.specs.Labels.{Terms}
-use Rattle.terms.specs.Nodes.{AllPlain, nodeTable}
+use Rattle.terms.specs.code.Nodes.{AllPlain, nodeTable}
 use Rattle.terms.specs.Sorts.{Definition, Signature}
-use Rattle.meaning.specs.Tables.{BodiesAt, TermStands}
-use Rattle.grammar.specs.Tables.{formTable, rightSides, ruleTable}
-use Rattle.sorting.specs.Tables.{RowsAre, functionSignature}
-use Rattle.naming.specs.Scopes.{Defined, Function, definedNames, functionNames, inOrder, namesOf, signatureOf, namedSorts}
-use Rattle.naming.specs.Steps.{Names, sourceOf}
-use Rattle.naming.specs.Table.{definedRow, functionRow, namesFrom, ownArgumentRow, sortsFrom, variableRow}
+use Rattle.evaluation.specs.code.Tables.{BodiesAt, TermStands}
+use Rattle.derivation.specs.code.Tables.{formTable, rightSides, ruleTable}
+use Rattle.term_sorts.specs.code.Signatures.{RowsAre, functionSignature}
+use Rattle.names.specs.Scopes.{Defined, Function, definedNames, functionNames, inOrder, namesOf, signatureOf, namedSorts}
+use Rattle.names.specs.code.Lookup.{Names, sourceOf}
+use Rattle.names.specs.code.Table.{definedRow, functionRow, namesFrom, ownArgumentRow, sortsFrom, variableRow}
 use Rattle.script.specs.Script.{Known, Read, knownAfter, passed, refused, tested}
 use Rattle.script.specs.declared.Progress.{Progress}
 use Rattle.script.specs.declared.Verdict.{Verdict}

@@ -6,17 +6,17 @@ use mathlib.Core.Path.{_≡_}
 use lib.Dec.{eqb}
 use lib.ListN.{length}
 use Rattle.shapes.specs.Shapes.{commandShape}
-use Rattle.lexemes.specs.Table.{codeAt}
+use Rattle.lexemes.specs.code.Table.{codeAt}
 use Rattle.lexemes.specs.Lists.{Items}
-use Rattle.lexemes.specs.Standing.{Stands}
-use Rattle.naming.specs.Steps.{Names, sourceOf}
-use Rattle.faults.specs.Steps.{Lawful}
-use Rattle.heading.specs.Heads.{allowed}
+use Rattle.lexemes.specs.code.Standing.{Stands}
+use Rattle.names.specs.code.Lookup.{Names, sourceOf}
+use Rattle.term_faults.specs.code.Seeking.{Lawful}
+use Rattle.headers.specs.Heads.{allowed}
 use Rattle.script.specs.Script.{Known, Read, judged, knownAfter, passed, readAll, refused, nothingKnown, tested}
-use Rattle.script.specs.Tables.{CommandAt, KnownHeld, Says, formsPlace, placesLength}
+use Rattle.script.specs.code.Tables.{CommandAt, KnownHeld, Says, formsPlace, placesLength}
 use Rattle.script.specs.declared.Progress.{Progress}
 use Rattle.script.specs.declared.Verdict.{Verdict}
-use Rattle.reader.specs.declared.Step.{Step}
+use Rattle.script_reader.specs.declared.Step.{Step}
 
 -- What was read: a refusal with its number and word; or what is known, which the tables hold.
 abbrev pub Reads : Read → (names places nodes : List ℕ) → Step → Type 0

@@ -3,7 +3,7 @@ use Prim.Native.Nat.{ℕ, _≤_}
 use mathlib.Core.List.{List}
 use Rattle.forest.specs.Forest.{count, tree}
 use Rattle.lexemes.specs.Lists.{Items, inside, item}
-use Rattle.lexemes.specs.Standing.{ListAt, Stands}
+use Rattle.lexemes.specs.code.Standing.{ListAt, Stands}
 
 -- A list of n items or more stands at word i.
 pub record Long (lexemes : List ℕ) (i n : ℕ) : Type 0 where

@@ -6,22 +6,22 @@ use lib.ListN.{drop, length}
 use lib.Seq.{sets}
 use Rattle.forest.specs.Forest.{count, size}
 use Rattle.lexemes.specs.Lists.{Items, inside, item}
-use Rattle.sorts.specs.Written.{sortOf}
-use Rattle.gathering.specs.Table.{rawTable, uncountedTable}
-use Rattle.grammar.specs.Tables.{formTable}
-use Rattle.sorting.specs.Tables.{functionSignature, signatureWidth}
-use Rattle.naming.specs.Scopes.{formsOf, namesOf, namedSorts}
-use Rattle.naming.specs.Table.{namesFrom, nonTerminalRow, ownArgumentRow, sortsFrom}
-use Rattle.declaring.specs.New.{namedBy}
-use Rattle.rules.specs.Rules.{Ruled, rulesIn, sides, startTable}
-use Rattle.rules.specs.declared.Gathered.{Gathered}
-use Rattle.heading.specs.Heads.{allowed}
-use Rattle.signatures.specs.Steps.{Signing, signatureRow}
+use Rattle.written_sorts.specs.Written.{sortOf}
+use Rattle.term_nodes.specs.code.Table.{rawTable, uncountedTable}
+use Rattle.derivation.specs.code.Tables.{formTable}
+use Rattle.term_sorts.specs.code.Signatures.{functionSignature, signatureWidth}
+use Rattle.names.specs.Scopes.{formsOf, namesOf, namedSorts}
+use Rattle.names.specs.code.Table.{namesFrom, nonTerminalRow, ownArgumentRow, sortsFrom}
+use Rattle.names.specs.New.{namedBy}
+use Rattle.term_nodes.specs.Rules.{Ruled, rulesIn, sides, startTable}
+use Rattle.term_nodes.specs.declared.Gathered.{Gathered}
+use Rattle.headers.specs.Heads.{allowed}
+use Rattle.script.specs.code.Signing.{Signing, signatureRow}
 use Rattle.script.specs.Script.{Known, limitPlace, namePlace, viewOf}
-use Rattle.script.specs.Tables.{After, CommandOf, GrammarsHold, NamesHold, PlacesHold, Tested, functionsPlace, placesLength}
+use Rattle.script.specs.code.Tables.{After, CommandOf, GrammarsHold, NamesHold, PlacesHold, Tested, functionsPlace, placesLength}
 use Rattle.script.specs.declared.Progress.{Progress}
 use Rattle.script.specs.declared.Verdict.{Verdict}
-use Rattle.synthesizing.specs.declared.Header.{Header}
+use Rattle.synth_fun.specs.declared.Header.{Header}
 
 -- A `synth-fun` of its shape stands at word i; what is known before it, in tables; and a row for each word of the text.
 pub record Synthesizing (text lexemes names raw places forms : List ℕ) (p : Progress) (i nowhere : ℕ) : Type 0 where

@@ -5,23 +5,23 @@ use mathlib.Core.List.{List, [], _∷_, _++_}
 use mathlib.Core.Path.{_≡_}
 use lib.ListN.{getD, length}
 use Rattle.forest.specs.Forest.{Forest, from, nodesOf, none, size, tree}
-use Rattle.forest.specs.Rows.{over}
-use Rattle.bits.specs.Sorts.{Fit, maxWidth}
-use Rattle.scanning.specs.Trees.{Lexeme}
-use Rattle.grammar.specs.Tables.{formTable}
-use Rattle.sorting.specs.Forms.{sortColumn}
-use Rattle.sorting.specs.Tables.{RowsAre, SortsAre, functionSignature, nonTerminalSignature}
+use Rattle.forest.specs.code.Rows.{over}
+use Rattle.operators.specs.Sorts.{Fit, maxWidth}
+use Rattle.words.specs.Trees.{Lexeme}
+use Rattle.derivation.specs.code.Tables.{formTable}
+use Rattle.term_sorts.specs.Forms.{sortColumn}
+use Rattle.term_sorts.specs.code.Signatures.{RowsAre, SortsAre, functionSignature, nonTerminalSignature}
 use Rattle.lexemes.specs.Lists.{Items}
-use Rattle.lexemes.specs.Standing.{Source}
-use Rattle.lexemes.specs.Table.{codeAt, literalCode, valueAt, widthAt}
-use Rattle.gathering.specs.Steps.{AllSay}
-use Rattle.gathering.specs.Table.{rawTable}
-use Rattle.gathering.specs.Terms.{Raw, firstWord, rawTerm}
-use Rattle.naming.specs.Scopes.{View, formsOf, namedSorts}
-use Rattle.naming.specs.Steps.{Bounded, ShortNames}
-use Rattle.naming.specs.Unknown.{unknownIn}
-use Rattle.rules.specs.Rules.{Ruled, sides, startTable}
-use Rattle.faults.specs.Faults.{bodyFault, oneSort, rawSorts, ruleMisfit, scopeOf, termFault}
+use Rattle.lexemes.specs.code.Standing.{Source}
+use Rattle.lexemes.specs.code.Table.{codeAt, literalCode, valueAt, widthAt}
+use Rattle.term_nodes.specs.code.Gathering.{AllSay}
+use Rattle.term_nodes.specs.code.Table.{rawTable}
+use Rattle.term_nodes.specs.Terms.{Raw, firstWord, rawTerm}
+use Rattle.names.specs.Scopes.{View, formsOf, namedSorts}
+use Rattle.names.specs.code.Lookup.{Bounded, ShortNames}
+use Rattle.names.specs.Unknown.{unknownIn}
+use Rattle.term_nodes.specs.Rules.{Ruled, sides, startTable}
+use Rattle.term_faults.specs.Faults.{bodyFault, oneSort, rawSorts, ruleMisfit, scopeOf, termFault}
 
 -- What the tables of a text of so many words keep to: numerals, literals and names are within their bounds, and there is no word past the last.
 pub record Lawful (s : Source) (nowhere : ℕ) : Type 0 where

@@ -5,15 +5,15 @@ use mathlib.Core.List.{List, [], _∷_, _++_}
 use mathlib.Core.Path.{_≡_}
 use lib.ListN.{length}
 use Rattle.forest.specs.Forest.{Forest, Node, from, join, nodesOf, none, size, tree}
-use Rattle.forest.specs.Rows.{rows}
+use Rattle.forest.specs.code.Rows.{rows}
 use Rattle.forest.specs.Lists.{spelling}
-use Rattle.scanning.specs.Trees.{Lexeme}
+use Rattle.words.specs.Trees.{Lexeme}
 use Rattle.lexemes.specs.Lists.{Items, is, isList, item}
-use Rattle.lexemes.specs.Standing.{Source, Stands, spelt}
-use Rattle.lexemes.specs.Table.{codeAt, literalCode, nextAt, numeralCode, symbolCode, valueAt, widthAt}
+use Rattle.lexemes.specs.code.Standing.{Source, Stands, spelt}
+use Rattle.lexemes.specs.code.Table.{codeAt, literalCode, nextAt, numeralCode, symbolCode, valueAt, widthAt}
 use Rattle.shapes.specs.Shapes.{ruleShape, sortShape, termShapes}
-use Rattle.gathering.specs.Terms.{Raw, constant, cut, nodeWord, number, pattern, rawRule, rawTerms, word, writtenOf}
-use Rattle.gathering.specs.Table.{rawRow, rawTable, uncounted, uncountedTable}
+use Rattle.term_nodes.specs.Terms.{Raw, constant, cut, nodeWord, number, pattern, rawRule, rawTerms, word, writtenOf}
+use Rattle.term_nodes.specs.code.Table.{rawRow, rawTable, uncounted, uncountedTable}
 
 -- A term stands at word i, and other terms behind it.
 pub record TermAt (lexemes : List ℕ) (i : ℕ) : Type 0 where

@@ -5,13 +5,13 @@ use mathlib.Core.List.{List, _++_}
 use mathlib.Core.Path.{_≡_}
 use lib.ListN.{length}
 use Rattle.forest.specs.Forest.{none, size, tree}
-use Rattle.scanning.specs.Trees.{Lexeme}
+use Rattle.words.specs.Trees.{Lexeme}
 use Rattle.lexemes.specs.Lists.{Items}
-use Rattle.lexemes.specs.Standing.{Source, Stands}
+use Rattle.lexemes.specs.code.Standing.{Source, Stands}
 use Rattle.shapes.specs.Shapes.{all, groupShape, ruleShape}
-use Rattle.gathering.specs.Table.{uncountedTable}
-use Rattle.rules.specs.Rules.{Ruled, nodesPast, rulePast, rulesIn, rulesOf, sides, startTable}
-use Rattle.rules.specs.declared.Gathered.{Gathered}
+use Rattle.term_nodes.specs.code.Table.{uncountedTable}
+use Rattle.term_nodes.specs.Rules.{Ruled, nodesPast, rulePast, rulesIn, rulesOf, sides, startTable}
+use Rattle.term_nodes.specs.declared.Gathered.{Gathered}
 
 -- The rules `done` are gathered: their nodes stand in the first rows of one table, where each starts and its non-terminal in another, which has room for
 -- `most`; there is a node for each rule or more; the word past a limit is found; and the tables are as long as those that were lent.

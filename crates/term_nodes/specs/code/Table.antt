@@ -2,8 +2,8 @@
 use Prim.Native.Nat.{ℕ, suc}
 use mathlib.Core.List.{List, [], _∷_}
 use Rattle.forest.specs.Forest.{Forest, Node, count, nodesOf, size}
-use Rattle.forest.specs.Rows.{numberAt, rows}
-use Rattle.gathering.specs.Terms.{Raw, firstWord, headWord}
+use Rattle.forest.specs.code.Rows.{numberAt, rows}
+use Rattle.term_nodes.specs.Terms.{Raw, firstWord, headWord}
 
 -- How many numbers a row has.
 abbrev pub rowWidth : ℕ

@@ -1,8 +1,8 @@
-use Rattle.sorting.proofs.Filling.{Filled, filled-begins, filled-ends, filled-goes, node-before, operands-after}
+use Rattle.term_sorts.proofs.Filling.{Filled, filled-begins, filled-ends, filled-goes, node-before, operands-after}
 use borrow.Author.Needs.{needs}
 use native.Mathlib.Omega.{arith}
-use Rattle.sorting.proofs.fill_sorts.Statement.{statement}
-use Rattle.sorting.proofs.fill_sorts.Tie as tie
+use Rattle.term_sorts.proofs.fill_sorts.Statement.{statement}
+use Rattle.term_sorts.proofs.fill_sorts.Tie as tie
 
 abbrev Inv-loop : tie.InvT-loop
 Inv-loop forms signatures count column₀ fault₀ node₀ column fault node = Filled forms signatures count column₀ column fault node

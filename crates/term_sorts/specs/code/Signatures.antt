@@ -5,13 +5,13 @@ use mathlib.Core.List.{List, [], _∷_, _++_}
 use mathlib.Core.Path.{_≡_}
 use lib.ListN.{getD, length}
 use Rattle.forest.specs.Forest.{Forest, none, tree}
-use Rattle.forest.specs.Rows.{numberAt}
-use Rattle.bits.specs.Sorts.{Fit, maxWidth}
-use Rattle.grammar.specs.Derivation.{Item, anyArgument, anyLiteral, nonTerminal, the}
-use Rattle.grammar.specs.Tables.{formTable}
+use Rattle.forest.specs.code.Rows.{numberAt}
+use Rattle.operators.specs.Sorts.{Fit, maxWidth}
+use Rattle.derivation.specs.Derivation.{Item, anyArgument, anyLiteral, nonTerminal, the}
+use Rattle.derivation.specs.code.Tables.{formTable}
 use Rattle.terms.specs.Labels.{defined, function, literal, name, operator}
 use Rattle.terms.specs.Sorts.{Signature}
-use Rattle.sorting.specs.Forms.{FormScope}
+use Rattle.term_sorts.specs.Forms.{FormScope}
 
 -- How many numbers a row has.
 abbrev pub signatureWidth : ℕ

@@ -7,15 +7,15 @@ use mathlib.Core.Path.{_≡_}
 use lib.Dec.{eqb}
 use lib.ListN.{getD, length}
 use Rattle.forest.specs.Forest.{Forest, from, none, size, tree}
-use Rattle.forest.specs.Rows.{over}
-use Rattle.bits.specs.Operators.{operatorSort}
-use Rattle.bits.specs.Sorts.{SortRule, allAre, choice, cutting, equality, joining, logic, order, ruleNumber, sortBy, when, width}
-use Rattle.grammar.specs.Derivation.{Item}
-use Rattle.grammar.specs.Tables.{nonTerminalKind}
-use Rattle.terms.specs.Nodes.{functionKind, literalKind, sizeAt}
+use Rattle.forest.specs.code.Rows.{over}
+use Rattle.operators.specs.Operators.{operatorSort}
+use Rattle.operators.specs.Sorts.{SortRule, allAre, choice, cutting, equality, joining, logic, order, ruleNumber, sortBy, when, width}
+use Rattle.derivation.specs.Derivation.{Item}
+use Rattle.derivation.specs.code.Tables.{nonTerminalKind}
+use Rattle.terms.specs.code.Nodes.{functionKind, literalKind, sizeAt}
 use Rattle.terms.specs.Sorts.{Signature, sameSorts, withSort}
-use Rattle.sorting.specs.Forms.{FormScope, faultFrom, formSorts, sortColumn, sortNumber, sorted, treeSort}
-use Rattle.sorting.specs.Tables.{RowIs, Sortable, allRows, functionSignature, nonTerminalSignature}
+use Rattle.term_sorts.specs.Forms.{FormScope, faultFrom, formSorts, sortColumn, sortNumber, sorted, treeSort}
+use Rattle.term_sorts.specs.code.Signatures.{RowIs, Sortable, allRows, functionSignature, nonTerminalSignature}
 
 -- The sorts of trees one after the other; none where one of them has none.
 unfoldable pub together : List (Option ℕ) → Option (List ℕ)

@@ -2,7 +2,7 @@
 use Prim.Native.Nat.{ℕ, suc, _+_, _*_, _<_}
 use mathlib.Core.List.{List, [], _∷_}
 use Rattle.forest.specs.Forest.{Node, count, nodesOf, none, size, tree}
-use Rattle.forest.specs.Rows.{numberAt, rows}
+use Rattle.forest.specs.code.Rows.{numberAt, rows}
 use Rattle.terms.specs.Labels.{Label, Terms, defined, function, literal, name, operator}
 
 -- The kind of a literal in the table; kinds are numbers below 16.

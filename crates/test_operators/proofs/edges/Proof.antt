@@ -1,8 +1,8 @@
 use Prim.Native.Nat.{_-_, _≤_}
 use native.Mathlib.Omega.{arith}
 use borrow.Author.Needs.{needs}
-use Rattle.operators_run.proofs.edges.Statement.{statement}
-use Rattle.operators_run.proofs.edges.Tie as tie
+use Rattle.test_operators.proofs.edges.Statement.{statement}
+use Rattle.test_operators.proofs.edges.Tie as tie
 
 abbrev Inv-loop : tie.InvT-loop
 Inv-loop operator width hash₀ k₀ hash k = k ≤ 16

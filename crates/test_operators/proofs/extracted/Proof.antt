@@ -1,9 +1,9 @@
 use native.Mathlib.Nat.{mod-lt}
 use native.Mathlib.Omega.{arith}
 use borrow.Author.Needs.{needs}
-use Rattle.operators_run.proofs.Taken.{at-most, cut-taken}
-use Rattle.operators_run.proofs.extracted.Statement.{statement}
-use Rattle.operators_run.proofs.extracted.Tie as tie
+use Rattle.test_operators.proofs.Taken.{at-most, cut-taken}
+use Rattle.test_operators.proofs.extracted.Statement.{statement}
+use Rattle.test_operators.proofs.extracted.Tie as tie
 
 rem-high : tie.Need-rem-high
 rem-high c = search needs

@@ -1,8 +1,8 @@
 use native.Mathlib.Omega.{arith}
 use borrow.Author.Needs.{needs}
-use Rattle.operators_run.proofs.Taken.{joined-taken, room}
-use Rattle.operators_run.proofs.joined.Statement.{statement}
-use Rattle.operators_run.proofs.joined.Tie as tie
+use Rattle.test_operators.proofs.Taken.{joined-taken, room}
+use Rattle.test_operators.proofs.joined.Statement.{statement}
+use Rattle.test_operators.proofs.joined.Tie as tie
 
 returns : tie.Need-returns
 returns c = search needs

@@ -1,7 +1,7 @@
 use Prim.Native.Nat.{_-_, _≤_}
 use borrow.Author.Needs.{needs}
-use Rattle.operators_run.proofs.line.Statement.{statement}
-use Rattle.operators_run.proofs.line.Tie as tie
+use Rattle.test_operators.proofs.line.Statement.{statement}
+use Rattle.test_operators.proofs.line.Tie as tie
 
 abbrev Inv-loop : tie.InvT-loop
 Inv-loop width operator₀ t3 t4 operator = operator ≤ 23

@@ -1,7 +1,7 @@
 use borrow.Author.Needs.{needs}
-use Rattle.operators_run.proofs.Taken.{low-word}
-use Rattle.operators_run.proofs.low.Statement.{statement}
-use Rattle.operators_run.proofs.low.Tie as tie
+use Rattle.test_operators.proofs.Taken.{low-word}
+use Rattle.test_operators.proofs.low.Statement.{statement}
+use Rattle.test_operators.proofs.low.Tie as tie
 
 ones-requires : tie.Need-ones-requires
 ones-requires c κs = search needs

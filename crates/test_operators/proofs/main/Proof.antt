@@ -1,7 +1,7 @@
 use Prim.Native.Nat.{_-_, _≤_}
 use borrow.Author.Needs.{needs}
-use Rattle.operators_run.proofs.main.Statement.{statement}
-use Rattle.operators_run.proofs.main.Tie as tie
+use Rattle.test_operators.proofs.main.Statement.{statement}
+use Rattle.test_operators.proofs.main.Tie as tie
 
 abbrev Inv-loop : tie.InvT-loop
 Inv-loop width₀ width = (1 ≤ width) × (width ≤ 65)

@@ -1,8 +1,8 @@
 use Prim.Native.Nat.{_-_, _≤_}
 use native.Mathlib.Omega.{arith}
 use borrow.Author.Needs.{needs}
-use Rattle.operators_run.proofs.pairs.Statement.{statement}
-use Rattle.operators_run.proofs.pairs.Tie as tie
+use Rattle.test_operators.proofs.pairs.Statement.{statement}
+use Rattle.test_operators.proofs.pairs.Tie as tie
 
 abbrev Inv-loop : tie.InvT-loop
 Inv-loop operator width start hash₀ left₀ k₀ hash left k = k ≤ 10000

@@ -1,7 +1,7 @@
 use borrow.Author.Needs.{needs}
 use borrow.Author.Tests.{le-ltb, lt-ltb}
-use Rattle.operators_run.proofs.second.Statement.{statement}
-use Rattle.operators_run.proofs.second.Tie as tie
+use Rattle.test_operators.proofs.second.Statement.{statement}
+use Rattle.test_operators.proofs.second.Tie as tie
 
 operands-of-requires : tie.Need-operands-of-requires
 operands-of-requires c κs = search needs

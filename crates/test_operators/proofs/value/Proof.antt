@@ -1,7 +1,7 @@
 use borrow.Author.Needs.{needs}
-use Rattle.operators_run.proofs.Taken.{choice-taken, logic-taken, plain-taken, rule-is}
-use Rattle.operators_run.proofs.value.Statement.{statement}
-use Rattle.operators_run.proofs.value.Tie as tie
+use Rattle.test_operators.proofs.Taken.{choice-taken, logic-taken, plain-taken, rule-is}
+use Rattle.test_operators.proofs.value.Statement.{statement}
+use Rattle.test_operators.proofs.value.Tie as tie
 
 low-requires : tie.Need-low-requires
 low-requires c κs = search needs

@@ -1,8 +1,8 @@
 use native.Mathlib.Omega.{arith}
-use Rattle.ring.proofs.Ring.{ring-pre}
+use Rattle.test_ring.proofs.Ring.{ring-pre}
 use borrow.Author.Needs.{needs}
-use Rattle.ring.proofs.main.Statement.{statement}
-use Rattle.ring.proofs.main.Tie as tie
+use Rattle.test_ring.proofs.main.Statement.{statement}
+use Rattle.test_ring.proofs.main.Tie as tie
 
 unused-area-requires : tie.Need-unused-area-requires
 unused-area-requires c κs = search needs

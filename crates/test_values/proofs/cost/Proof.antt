@@ -1,7 +1,7 @@
-use Rattle.meaning_run.proofs.Small.{costing}
+use Rattle.test_values.proofs.Small.{costing}
 use borrow.Author.Needs.{needs}
-use Rattle.meaning_run.proofs.cost.Statement.{statement}
-use Rattle.meaning_run.proofs.cost.Tie as tie
+use Rattle.test_values.proofs.cost.Statement.{statement}
+use Rattle.test_values.proofs.cost.Tie as tie
 
 nodes-requires : tie.Need-nodes-requires
 nodes-requires c κs = search needs

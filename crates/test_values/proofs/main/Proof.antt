@@ -1,11 +1,11 @@
-use Rattle.meaning_run.specs.Case.{answerOf}
-use Rattle.running.specs.Running.{leftOf}
+use Rattle.test_values.specs.Case.{answerOf}
+use Rattle.evaluation.specs.Running.{leftOf}
 use mathlib.Core.Path.{ap, _∙_}
 use borrow.Author.Tests.{eq-eqb}
-use Rattle.meaning_run.proofs.Small.{run-ended, run-false, shifted-held}
+use Rattle.test_values.proofs.Small.{run-ended, run-false, shifted-held}
 use borrow.Author.Needs.{needs}
-use Rattle.meaning_run.proofs.main.Statement.{statement}
-use Rattle.meaning_run.proofs.main.Tie as tie
+use Rattle.test_values.proofs.main.Statement.{statement}
+use Rattle.test_values.proofs.main.Tie as tie
 
 cost-requires : tie.Need-cost-requires
 cost-requires c κs = search needs

@@ -1,9 +1,9 @@
-use Rattle.terms.specs.Nodes.{nodeTable}
-use Rattle.forest.specs.Rows.{rows}
+use Rattle.terms.specs.code.Nodes.{nodeTable}
+use Rattle.forest.specs.code.Rows.{rows}
 use Rattle.forest.specs.Forest.{count, nodesOf, size}
 use mathlib.Core.Path.{refl}
-use Rattle.meaning_run.proofs.nodes.Statement.{statement}
-use Rattle.meaning_run.proofs.nodes.Tie as tie
+use Rattle.test_values.proofs.nodes.Statement.{statement}
+use Rattle.test_values.proofs.nodes.Tie as tie
 
 returns : tie.Need-returns
 unfolding count nodeTable nodesOf rows size

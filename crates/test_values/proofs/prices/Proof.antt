@@ -1,7 +1,7 @@
-use Rattle.meaning_run.proofs.Small.{pricing}
+use Rattle.test_values.proofs.Small.{pricing}
 use borrow.Author.Needs.{needs}
-use Rattle.meaning_run.proofs.prices.Statement.{statement}
-use Rattle.meaning_run.proofs.prices.Tie as tie
+use Rattle.test_values.proofs.prices.Statement.{statement}
+use Rattle.test_values.proofs.prices.Tie as tie
 
 nodes-requires : tie.Need-nodes-requires
 nodes-requires c κs = search needs

@@ -1,7 +1,7 @@
-use Rattle.meaning_run.proofs.Small.{runnable}
+use Rattle.test_values.proofs.Small.{runnable}
 use borrow.Author.Needs.{needs}
-use Rattle.meaning_run.proofs.run.Statement.{statement}
-use Rattle.meaning_run.proofs.run.Tie as tie
+use Rattle.test_values.proofs.run.Statement.{statement}
+use Rattle.test_values.proofs.run.Tie as tie
 
 nodes-requires : tie.Need-nodes-requires
 nodes-requires c κs = search needs

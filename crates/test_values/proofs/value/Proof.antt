@@ -1,9 +1,9 @@
 use mathlib.Core.Path.{ap}
 use Rattle.terms.specs.declared.Value.{Value}
-use Rattle.meaning_run.proofs.Small.{evaluable}
+use Rattle.test_values.proofs.Small.{evaluable}
 use borrow.Author.Needs.{needs}
-use Rattle.meaning_run.proofs.value.Statement.{statement}
-use Rattle.meaning_run.proofs.value.Tie as tie
+use Rattle.test_values.proofs.value.Statement.{statement}
+use Rattle.test_values.proofs.value.Tie as tie
 
 nodes-requires : tie.Need-nodes-requires
 nodes-requires c κs = search needs

@@ -3,22 +3,22 @@ use Prim.Native.Nat.{ℕ, _+_, _*_, _≤_}
 use mathlib.Core.List.{List, _++_}
 use mathlib.Core.Path.{_≡_}
 use lib.ListN.{drop, length}
-use Rattle.scanning.specs.Reading.{readingOf}
-use Rattle.scanning.specs.Words.{wordsOf}
-use Rattle.lexemes.specs.Table.{lexemeTable}
-use Rattle.readings.specs.Answers.{numberOf, passed}
-use Rattle.readings.specs.Limits.{responseLimits}
-use Rattle.readings.specs.declared.Limits.{Limits}
-use Rattle.readings.specs.declared.Reading.{Reading}
-use Rattle.readings.specs.declared.Reading.the-variants.{Whole}
-use Rattle.naming.specs.Steps.{Names}
+use Rattle.words.specs.Reading.{readingOf}
+use Rattle.words.specs.Words.{wordsOf}
+use Rattle.lexemes.specs.code.Table.{lexemeTable}
+use Rattle.words.specs.Answers.{numberOf, passed}
+use Rattle.words.specs.Limits.{responseLimits}
+use Rattle.words.specs.declared.Limits.{Limits}
+use Rattle.words.specs.declared.Reading.{Reading}
+use Rattle.words.specs.declared.Reading.the-variants.{Whole}
+use Rattle.names.specs.code.Lookup.{Names}
 use Rattle.script.specs.Script.{Known}
-use Rattle.script.specs.Tables.{GrammarsHold, KnownHeld, TablesHold, formsPlace, functionsPlace, placesLength}
+use Rattle.script.specs.code.Tables.{GrammarsHold, KnownHeld, TablesHold, formsPlace, functionsPlace, placesLength}
 use Rattle.script.specs.declared.Progress.{Progress}
 use Rattle.script.specs.declared.Verdict.{Verdict}
-use Rattle.reader.specs.declared.Step.{Step}
-use Rattle.response.specs.Steps.{BodiesHeld}
-use Rattle.texts.specs.Outcome.{ResponseOutcome, ScriptOutcome, faulty, given, responseOutcome, said, scriptOutcome}
+use Rattle.script_reader.specs.declared.Step.{Step}
+use Rattle.response.specs.code.Responding.{BodiesHeld}
+use Rattle.script.specs.Outcome.{ResponseOutcome, ScriptOutcome, faulty, given, responseOutcome, said, scriptOutcome}
 
 -- The limits are not past those of a script, and there is a row for each word that they allow.
 pub record Room (limits : Limits) (lexemes : List ℕ) : Type 0 where

@@ -6,16 +6,16 @@ use mathlib.Core.Path.{_≡_}
 use lib.ListN.{drop, getD, length}
 use Rattle.forest.specs.Forest.{size}
 use Rattle.terms.specs.Labels.{Terms}
-use Rattle.terms.specs.Nodes.{AllPlain, nodeTable}
-use Rattle.meaning.specs.Tables.{TermStands, mostDefined, mostFunctions}
-use Rattle.grammar.specs.Answer.{NotDerived, Shown as ShownIn, areaSize}
-use Rattle.grammar.specs.Derivation.{Admitted, LeavesFit}
-use Rattle.naming.specs.Scopes.{Function}
+use Rattle.terms.specs.code.Nodes.{AllPlain, nodeTable}
+use Rattle.evaluation.specs.code.Tables.{TermStands, mostDefined, mostFunctions}
+use Rattle.derivation.specs.Answer.{NotDerived, Shown as ShownIn, areaSize}
+use Rattle.derivation.specs.Derivation.{Admitted, LeavesFit}
+use Rattle.names.specs.Scopes.{Function}
 use Rattle.script.specs.Script.{Known}
-use Rattle.script.specs.Tables.{GrammarHeld, bodiesPlace, firstsPlace, functionsPlace, placesLength}
+use Rattle.script.specs.code.Tables.{GrammarHeld, bodiesPlace, firstsPlace, functionsPlace, placesLength}
 use Rattle.script.specs.declared.Progress.{Progress}
-use Rattle.response.specs.Response.{Body, inScriptOrder}
-use Rattle.assured.specs.Held.{Held}
+use Rattle.script.specs.Response.{Body, inScriptOrder}
+use Rattle.verdicts.specs.code.Held.{Held}
 use Rattle.outcome.specs.Derived.{FirstUnderived, ListsShown, blankArea, shownArea, termsOf}
 
 -- The tables hold a script and a response that pass, and the area shows nothing.

@@ -3,15 +3,15 @@ use Prim.Native.Nat.{ℕ}
 use mathlib.Core.List.{List}
 use mathlib.Core.Path.{_≡_}
 use Rattle.terms.specs.Labels.{Terms}
-use Rattle.running.specs.Points.{pointsOf}
-use Rattle.running.specs.declared.PointList.{PointList}
-use Rattle.running.specs.declared.PointList.the-variants.{Good, Bad}
-use Rattle.running.specs.declared.Ran.{Ran}
-use Rattle.naming.specs.Scopes.{namedSorts}
+use Rattle.evaluation.specs.Points.{pointsOf}
+use Rattle.evaluation.specs.declared.PointList.{PointList}
+use Rattle.evaluation.specs.declared.PointList.the-variants.{Good, Bad}
+use Rattle.evaluation.specs.declared.Ran.{Ran}
+use Rattle.names.specs.Scopes.{namedSorts}
 use Rattle.script.specs.Script.{Known}
 use Rattle.script.specs.declared.Progress.{Progress}
-use Rattle.response.specs.Response.{Body}
-use Rattle.assured.specs.Held.{Held}
+use Rattle.script.specs.Response.{Body}
+use Rattle.verdicts.specs.code.Held.{Held}
 use Rattle.outcome.specs.Derived.{termsOf}
 use Rattle.outcome.specs.Evaluated.{ranOutcome, ranWith}
 use Rattle.outcome.specs.declared.Outcome.{Outcome}

@@ -3,11 +3,11 @@ use Prim.Native.Nat.{ℕ, _*_, _≤_}
 use mathlib.Core.List.{List}
 use lib.ListN.{drop, length}
 use Rattle.script.specs.Script.{Known}
-use Rattle.script.specs.Tables.{Counted, GrammarsHold, NamesHold, functionsPlace}
+use Rattle.script.specs.code.Tables.{Counted, GrammarsHold, NamesHold, functionsPlace}
 use Rattle.script.specs.declared.Progress.{Progress}
-use Rattle.response.specs.Response.{Body, inScriptOrder}
-use Rattle.response.specs.Steps.{BodiesHeld}
-use Rattle.assured.specs.Assured.{Assured, BodiesFit}
+use Rattle.script.specs.Response.{Body, inScriptOrder}
+use Rattle.response.specs.code.Responding.{BodiesHeld}
+use Rattle.outcome.specs.code.Assured.{Assured, BodiesFit}
 
 -- The tables hold what the script says and the bodies that the response gives.
 pub record Held (names places nodes forms : List ℕ) (p : Progress) (k : Known) (bs : List Body) : Type 0 where

@@ -3,9 +3,9 @@ use Prim.Native.Nat.{ℕ}
 use mathlib.Core.Bool.{Bool, true, _&&_}
 use mathlib.Core.List.{List, [], _∷_}
 use lib.Dec.{ltb}
-use Rattle.spelling.specs.Kinds.{digitValue}
-use Rattle.spelling.specs.declared.Class.{Class}
-use Rattle.spelling.specs.declared.Class.the-variants.{HexDigits, BinaryDigits}
+use Rattle.word_kinds.specs.Kinds.{digitValue}
+use Rattle.word_kinds.specs.declared.Class.{Class}
+use Rattle.word_kinds.specs.declared.Class.the-variants.{HexDigits, BinaryDigits}
 
 -- Whether the `digitValue` of each byte is below the base; this says something only of bytes that are digits.
 unfoldable pub digitsBelow : (base : ℕ) → List ℕ → Bool

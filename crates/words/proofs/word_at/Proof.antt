@@ -2,7 +2,7 @@ use native.Mathlib.Omega.{arith}
 use borrow.Author.Needs.{needs}
 use Prim.Native.Nat.{_-_}
 use lib.ListN.{length}
-use Rattle.scanning.proofs.Offsets.{Seeking, end-past, end-within, found-inside, found-is, found-none, seek-begins, seek-goes, seek-inside, seek-less}
+use Rattle.words.proofs.Offsets.{Seeking, end-past, end-within, found-inside, found-is, found-none, seek-begins, seek-goes, seek-inside, seek-less}
 use Rattle.words.proofs.word_at.Statement.{statement}
 use Rattle.words.proofs.word_at.Tie as tie
 

@@ -1,7 +1,7 @@
 -- The word table: five numbers for each word.
 use Prim.Native.Nat.{ℕ}
 use mathlib.Core.List.{List}
-use Rattle.forest.specs.Rows.{numberAt}
+use Rattle.forest.specs.code.Rows.{numberAt}
 
 -- How many numbers a row has.
 abbrev pub rowWidth : ℕ

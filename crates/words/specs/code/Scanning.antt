@@ -5,14 +5,14 @@ use mathlib.Core.List.{List, [], _∷_, _++_, map}
 use mathlib.Core.Path.{_≡_}
 use lib.ListN.{drop, length, set, take}
 use lib.Seq.{sets}
-use Rattle.forest.specs.Rows.{over, rows}
-use Rattle.scanning.specs.Reading.{foundFrom, wordsRead}
-use Rattle.readings.specs.Answers.{passed}
-use Rattle.scanning.specs.Spans.{commentAfter, starts}
-use Rattle.scanning.specs.Table.{Entry, pastClose, entries, nextOf, row, valueOf, wordTable, wordValues}
-use Rattle.scanning.specs.Words.{Word, wordsOf}
-use Rattle.readings.specs.declared.Limits.{Limits}
-use Rattle.readings.specs.declared.Reading.{Reading}
+use Rattle.forest.specs.code.Rows.{over, rows}
+use Rattle.words.specs.Reading.{foundFrom, wordsRead}
+use Rattle.words.specs.Answers.{passed}
+use Rattle.words.specs.Spans.{commentAfter, starts}
+use Rattle.words.specs.code.Table.{Entry, pastClose, entries, nextOf, row, valueOf, wordTable, wordValues}
+use Rattle.words.specs.Words.{Word, wordsOf}
+use Rattle.words.specs.declared.Limits.{Limits}
+use Rattle.words.specs.declared.Reading.{Reading}
 
 -- The first offset at which a word starts, of the bytes s, which stand at offset i, in a comment or not, and after no run; past the last byte if none does.
 unfoldable pub firstFrom : List ℕ → ℕ → (comment : Bool) → ℕ

@@ -3,12 +3,12 @@ use Prim.Native.Nat.{ℕ, _+_, _-_}
 use mathlib.Core.Bool.{Bool, cond}
 use mathlib.Core.List.{List, [], _∷_, map}
 use lib.Dec.{eqb}
-use Rattle.forest.specs.Rows.{rows}
-use Rattle.scanning.specs.Words.{Word}
+use Rattle.forest.specs.code.Rows.{rows}
+use Rattle.words.specs.Words.{Word}
 -- passed on: the columns of a row
-pub use Rattle.readings.specs.Table.{endAt, kindAt, nextAt, rowWidth, startAt, widthAt}
-use Rattle.spelling.specs.declared.Kind.{Kind}
-use Rattle.spelling.specs.declared.Kind.the-variants.{Open, Close, Numeral, Literal, Symbol, Faulty}
+pub use Rattle.words.specs.code.Columns.{endAt, kindAt, nextAt, rowWidth, startAt, widthAt}
+use Rattle.word_kinds.specs.declared.Kind.{Kind}
+use Rattle.word_kinds.specs.declared.Kind.the-variants.{Open, Close, Numeral, Literal, Symbol, Faulty}
 
 -- The number of a kind in the table. A faulty word has no row, and 0 stands past the end of a table.
 abbrev pub kindNumber : Kind → ℕ

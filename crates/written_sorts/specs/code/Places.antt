@@ -5,8 +5,8 @@ use mathlib.Core.List.{List}
 use mathlib.Core.Path.{_≡_}
 use Rattle.forest.specs.Forest.{count}
 use Rattle.lexemes.specs.Lists.{Items, isSymbol, item}
-use Rattle.lexemes.specs.Standing.{Between, ItemAt, ListAt}
-use Rattle.scanning.specs.Trees.{Lexeme}
+use Rattle.lexemes.specs.code.Standing.{Between, ItemAt, ListAt}
+use Rattle.words.specs.Trees.{Lexeme}
 use Rattle.shapes.specs.Shapes.{all, headerShape, sortShape, synthFunShape}
 
 -- An item of a shape stands at word i.

@@ -1,8 +1,8 @@
 use mathlib.Core.Path.{refl}
-use Rattle.judging.proofs.Bodies.{every-derived, first-within, one-underived}
+use Rattle.checker.proofs.Bodies.{every-derived, first-within, one-underived}
 use borrow.Author.Needs.{needs}
-use Rattle.judging.proofs.verdicts.derive_bodies.Statement.{statement}
-use Rattle.judging.proofs.verdicts.derive_bodies.Tie as tie
+use Rattle.checker.proofs.judge.derive_bodies.Statement.{statement}
+use Rattle.checker.proofs.judge.derive_bodies.Tie as tie
 
 derive-tables-requires : tie.Need-derive-tables-requires
 derive-tables-requires c κs = search needs

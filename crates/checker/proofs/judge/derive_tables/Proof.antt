@@ -1,10 +1,10 @@
 use native.Mathlib.Omega.{arith}
 use lib.ListN.{length-take}
-use Rattle.script.specs.Tables.{formsPlace}
-use Rattle.judging.proofs.Bodies.{lent-searched, lent-tables}
+use Rattle.script.specs.code.Tables.{formsPlace}
+use Rattle.checker.proofs.Bodies.{lent-searched, lent-tables}
 use borrow.Author.Needs.{needs}
-use Rattle.judging.proofs.verdicts.derive_tables.Statement.{statement}
-use Rattle.judging.proofs.verdicts.derive_tables.Tie as tie
+use Rattle.checker.proofs.judge.derive_tables.Statement.{statement}
+use Rattle.checker.proofs.judge.derive_tables.Tie as tie
 
 slice-aggregate-derive-all : tie.Need-slice-aggregate-derive-all
 slice-aggregate-derive-all c = omega (arith, c .before .before .before .before .pre .1, length-take formsPlace (c .before .before .before .before .args .nodes .now))

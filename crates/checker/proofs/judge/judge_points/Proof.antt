@@ -1,10 +1,10 @@
 use native.Mathlib.Omega.{arith}
 use mathlib.Core.Path.{refl}
 use lib.ListN.{length-take}
-use Rattle.script.specs.Tables.{formsPlace}
+use Rattle.script.specs.code.Tables.{formsPlace}
 use borrow.Author.Needs.{needs}
-use Rattle.judging.proofs.verdicts.judge_points.Statement.{statement}
-use Rattle.judging.proofs.verdicts.judge_points.Tie as tie
+use Rattle.checker.proofs.judge.judge_points.Statement.{statement}
+use Rattle.checker.proofs.judge.judge_points.Tie as tie
 
 slice-aggregate-evaluate : tie.Need-slice-aggregate-evaluate
 slice-aggregate-evaluate c =

@@ -1,8 +1,8 @@
-use Rattle.judging.proofs.Judged.{evaluable}
-use Rattle.judging.proofs.Passing.{body-declined, points-answered, text-declined, to-derive}
+use Rattle.checker.proofs.Judged.{evaluable}
+use Rattle.checker.proofs.Passing.{body-declined, points-answered, text-declined, to-derive}
 use borrow.Author.Needs.{needs}
-use Rattle.judging.proofs.verdicts.judge_texts.Statement.{statement}
-use Rattle.judging.proofs.verdicts.judge_texts.Tie as tie
+use Rattle.checker.proofs.judge.judge_texts.Statement.{statement}
+use Rattle.checker.proofs.judge.judge_texts.Tie as tie
 
 no-names-requires : tie.Need-no-names-requires
 no-names-requires c κs = search needs

@@ -1,6 +1,6 @@
-use Rattle.judging.proofs.Passing.{blank-names}
-use Rattle.judging.proofs.verdicts.no_names.Statement.{statement}
-use Rattle.judging.proofs.verdicts.no_names.Tie as tie
+use Rattle.checker.proofs.Passing.{blank-names}
+use Rattle.checker.proofs.judge.no_names.Statement.{statement}
+use Rattle.checker.proofs.judge.no_names.Tie as tie
 
 returns : tie.Need-returns
 returns c = blank-names

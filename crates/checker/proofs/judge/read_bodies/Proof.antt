@@ -1,8 +1,8 @@
-use Rattle.reader.proofs.Parts.{parts-front}
-use Rattle.judging.proofs.Passing.{terms-read}
+use Rattle.script_reader.proofs.Parts.{parts-front}
+use Rattle.checker.proofs.Passing.{terms-read}
 use borrow.Author.Needs.{needs}
-use Rattle.judging.proofs.verdicts.read_bodies.Statement.{statement}
-use Rattle.judging.proofs.verdicts.read_bodies.Tie as tie
+use Rattle.checker.proofs.judge.read_bodies.Statement.{statement}
+use Rattle.checker.proofs.judge.read_bodies.Tie as tie
 
 slice-relend-prefix-read-response-text : tie.Need-slice-relend-prefix-read-response-text
 slice-relend-prefix-read-response-text c = search needs

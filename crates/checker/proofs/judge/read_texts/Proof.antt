@@ -1,8 +1,8 @@
 use mathlib.Core.Path.{_∙_}
-use Rattle.judging.proofs.Passing.{forms-room, ready, response-read, script-declined}
+use Rattle.checker.proofs.Passing.{forms-room, ready, response-read, script-declined}
 use borrow.Author.Needs.{needs}
-use Rattle.judging.proofs.verdicts.read_texts.Statement.{statement}
-use Rattle.judging.proofs.verdicts.read_texts.Tie as tie
+use Rattle.checker.proofs.judge.read_texts.Statement.{statement}
+use Rattle.checker.proofs.judge.read_texts.Tie as tie
 
 word-room-requires : tie.Need-word-room-requires
 word-room-requires c κs = search needs

@@ -1,9 +1,9 @@
 use Rattle.script.proofs.Places.{command-word}
-use Rattle.defining.proofs.Constraints.{constraint-judging, constraint-known, limit-refused, row-place, term-at, term-refused}
+use Rattle.commands.proofs.Constraints.{constraint-judging, constraint-known, limit-refused, row-place, term-at, term-refused}
 use native.Mathlib.Omega.{arith}
 use borrow.Author.Needs.{needs}
-use Rattle.defining.proofs.commands.constrain.Statement.{statement}
-use Rattle.defining.proofs.commands.constrain.Tie as tie
+use Rattle.commands.proofs.constraint.constrain.Statement.{statement}
+use Rattle.commands.proofs.constraint.constrain.Tie as tie
 
 add-body-limit : tie.Need-add-body-limit
 add-body-limit c = let d = c .before .before .before .before .before .before .pre .of in omega (arith, command-word (d .here), d .here .few)

@@ -1,9 +1,9 @@
 use native.Mathlib.Omega.{arith}
-use Rattle.variables.proofs.Parts.{sort-here, sort-room}
-use Rattle.variables.proofs.Putting.{bytes-fit, sort-small, variable-added}
+use Rattle.commands.proofs.Parts.{sort-here, sort-room}
+use Rattle.commands.proofs.Putting.{bytes-fit, sort-small, variable-added}
 use borrow.Author.Needs.{needs}
-use Rattle.variables.proofs.command.add_variable.Statement.{statement}
-use Rattle.variables.proofs.command.add_variable.Tie as tie
+use Rattle.commands.proofs.declare_var.add_variable.Statement.{statement}
+use Rattle.commands.proofs.declare_var.add_variable.Tie as tie
 
 add-sort-of : tie.Need-add-sort-of
 add-sort-of c = omega (arith, sort-room (c .before .before .before .pre .here))

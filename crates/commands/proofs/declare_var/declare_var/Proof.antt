@@ -1,9 +1,9 @@
 use native.Mathlib.Omega.{arith}
-use Rattle.variables.proofs.Parts.{sort-here, sort-room, variable-here}
-use Rattle.variables.proofs.Testing.{adding, name-faulty, passes, past-limit, sort-faulty}
+use Rattle.commands.proofs.Parts.{sort-here, sort-room, variable-here}
+use Rattle.commands.proofs.Testing.{adding, name-faulty, passes, past-limit, sort-faulty}
 use borrow.Author.Needs.{needs}
-use Rattle.variables.proofs.command.declare_var.Statement.{statement}
-use Rattle.variables.proofs.command.declare_var.Tie as tie
+use Rattle.commands.proofs.declare_var.declare_var.Statement.{statement}
+use Rattle.commands.proofs.declare_var.declare_var.Tie as tie
 
 limit-place-requires : tie.Need-limit-place-requires
 limit-place-requires c κs = sort-here (variable-here (c .before .before .before .pre .of))

@@ -1,9 +1,9 @@
 use native.Mathlib.Omega.{arith}
 use Rattle.lexemes.proofs.Listed.{item-room}
-use Rattle.variables.proofs.Testing.{limit-few, limit-many}
+use Rattle.commands.proofs.Testing.{limit-few, limit-many}
 use borrow.Author.Needs.{needs}
-use Rattle.variables.proofs.command.limit_place.Statement.{statement}
-use Rattle.variables.proofs.command.limit_place.Tie as tie
+use Rattle.commands.proofs.declare_var.limit_place.Statement.{statement}
+use Rattle.commands.proofs.declare_var.limit_place.Tie as tie
 
 add-sort-place : tie.Need-add-sort-place
 add-sort-place c = omega (arith, item-room (c .before .pre .here))

@@ -1,9 +1,9 @@
 use native.Mathlib.Omega.{arith}
-use Rattle.variables.proofs.Parts.{sort-here, sort-room, variable-here}
-use Rattle.variables.proofs.Testing.{name-found, name-new}
+use Rattle.commands.proofs.Parts.{sort-here, sort-room, variable-here}
+use Rattle.commands.proofs.Testing.{name-found, name-new}
 use borrow.Author.Needs.{needs}
-use Rattle.variables.proofs.command.name_place.Statement.{statement}
-use Rattle.variables.proofs.command.name_place.Tie as tie
+use Rattle.commands.proofs.declare_var.name_place.Statement.{statement}
+use Rattle.commands.proofs.declare_var.name_place.Tie as tie
 
 add-new-name : tie.Need-add-new-name
 add-new-name c = omega (arith, sort-room (variable-here (c .before .before .before .pre .of)))

@@ -1,9 +1,9 @@
 use native.Mathlib.Omega.{arith}
 use Rattle.script.proofs.Places.{command-word}
-use Rattle.defining.proofs.Defining.{body-at, definition-tested, its-header, limit-refused, within-limits}
+use Rattle.commands.proofs.Defining.{body-at, definition-tested, its-header, limit-refused, within-limits}
 use borrow.Author.Needs.{needs}
-use Rattle.defining.proofs.commands.define_fun.Statement.{statement}
-use Rattle.defining.proofs.commands.define_fun.Tie as tie
+use Rattle.commands.proofs.define_fun.define_fun.Statement.{statement}
+use Rattle.commands.proofs.define_fun.define_fun.Tie as tie
 
 add-next-at : tie.Need-add-next-at
 add-next-at c = let d = c .before .before .before .before .before .before .pre .of in omega (arith, command-word (d .here), d .here .few)

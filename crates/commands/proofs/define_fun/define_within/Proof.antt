@@ -1,10 +1,10 @@
 use native.Mathlib.Omega.{arith}
 use Rattle.script.proofs.Places.{command-word}
-use Rattle.defining.proofs.Definitions.{arguments-before, header-here, result-low}
-use Rattle.defining.proofs.Settling.{arguments-here, definition-judging, definition-known, definition-refused, head-at, putting, result-here}
+use Rattle.commands.proofs.Definitions.{arguments-before, header-here, result-low}
+use Rattle.commands.proofs.Settling.{arguments-here, definition-judging, definition-known, definition-refused, head-at, putting, result-here}
 use borrow.Author.Needs.{needs}
-use Rattle.defining.proofs.commands.define_within.Statement.{statement}
-use Rattle.defining.proofs.commands.define_within.Tie as tie
+use Rattle.commands.proofs.define_fun.define_within.Statement.{statement}
+use Rattle.commands.proofs.define_fun.define_within.Tie as tie
 
 add-next-at : tie.Need-add-next-at
 add-next-at c = let d = c .before .before .before .before .before .before .pre .of in omega (arith, command-word (d .here), d .here .few)

@@ -1,6 +1,6 @@
 use borrow.Author.Tests.{le-ltb, lt-ltb}
-use Rattle.defining.proofs.commands.command_past.Statement.{statement}
-use Rattle.defining.proofs.commands.command_past.Tie as tie
+use Rattle.commands.proofs.term_tests.command_past.Statement.{statement}
+use Rattle.commands.proofs.term_tests.command_past.Tie as tie
 
 returns : tie.Need-returns
 returns c = rw (lt-ltb _ _ (c .if1 .taken))

@@ -1,7 +1,7 @@
-use Rattle.defining.proofs.Judging.{body-passed, name-refused, sort-refused, sort-sought}
+use Rattle.commands.proofs.Judging.{body-passed, name-refused, sort-refused, sort-sought}
 use borrow.Author.Needs.{needs}
-use Rattle.defining.proofs.commands.judge_body.Statement.{statement}
-use Rattle.defining.proofs.commands.judge_body.Tie as tie
+use Rattle.commands.proofs.term_tests.judge_body.Statement.{statement}
+use Rattle.commands.proofs.term_tests.judge_body.Tie as tie
 
 body-names-requires : tie.Need-body-names-requires
 body-names-requires c κs = search needs

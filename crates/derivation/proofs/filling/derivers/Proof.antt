@@ -1,11 +1,11 @@
 use Prim.Native.Nat.{_-_}
 use native.Mathlib.Omega.{arith}
 use borrow.Author.Needs.{needs}
-use Rattle.grammar.specs.Columns.{has}
-use Rattle.grammar.proofs.Count.{cnt}
-use Rattle.grammar.proofs.Members.{State, state-start, node-done, member-low, more-members, state-step}
-use Rattle.grammar.proofs.filling.derivers.Statement.{statement}
-use Rattle.grammar.proofs.filling.derivers.Tie as tie
+use Rattle.derivation.specs.code.Columns.{has}
+use Rattle.derivation.proofs.Count.{cnt}
+use Rattle.derivation.proofs.Members.{State, state-start, node-done, member-low, more-members, state-step}
+use Rattle.derivation.proofs.filling.derivers.Statement.{statement}
+use Rattle.derivation.proofs.filling.derivers.Tie as tie
 
 abbrev Inv-loop : tie.InvT-loop
 Inv-loop rules forms body masks node chosen₀ count known₀ chosen known = State rules forms body masks node count chosen known

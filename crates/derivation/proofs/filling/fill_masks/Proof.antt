@@ -1,9 +1,9 @@
 use native.Mathlib.Omega.{arith}
 use borrow.Author.Needs.{needs}
 use mathlib.Core.Path.{refl}
-use Rattle.grammar.proofs.Sweep.{Inv, inv-start, inv-end, asks-here, inv-step}
-use Rattle.grammar.proofs.filling.fill_masks.Statement.{statement}
-use Rattle.grammar.proofs.filling.fill_masks.Tie as tie
+use Rattle.derivation.proofs.Sweep.{Inv, inv-start, inv-end, asks-here, inv-step}
+use Rattle.derivation.proofs.filling.fill_masks.Statement.{statement}
+use Rattle.derivation.proofs.filling.fill_masks.Tie as tie
 
 abbrev Inv-loop : tie.InvT-loop
 Inv-loop rules forms body masks₀ node₀ masks node = Inv rules forms body masks₀ masks node

@@ -1,9 +1,9 @@
 use Prim.Native.Nat.{_-_}
 use native.Mathlib.Omega.{arith}
 use borrow.Author.Needs.{needs}
-use Rattle.grammar.proofs.Uses.{Before, before-start, before-ends, known-low, before-known, before-not, asks-rule, finds}
-use Rattle.grammar.proofs.filling.find.Statement.{statement}
-use Rattle.grammar.proofs.filling.find.Tie as tie
+use Rattle.derivation.proofs.Uses.{Before, before-start, before-ends, known-low, before-known, before-not, asks-rule, finds}
+use Rattle.derivation.proofs.filling.find.Statement.{statement}
+use Rattle.derivation.proofs.filling.find.Tie as tie
 
 abbrev Inv-loop : tie.InvT-loop
 Inv-loop rules forms body masks node known count rule₀ rule = Before rules forms body masks node known count rule

@@ -2,10 +2,10 @@ use Prim.Native.Nat.{ℕ, _/_, _^_}
 use mathlib.Core.Path.{ap}
 use lib.Dec.{eqb}
 use lib.Bits.{and-mask}
-use Rattle.grammar.specs.Columns.{has}
+use Rattle.derivation.specs.code.Columns.{has}
 use borrow.Author.Needs.{needs}
-use Rattle.grammar.proofs.masks.has.Statement.{statement}
-use Rattle.grammar.proofs.masks.has.Tie as tie
+use Rattle.derivation.proofs.masks.has.Statement.{statement}
+use Rattle.derivation.proofs.masks.has.Tie as tie
 
 shr-result : tie.Need-shr-result
 shr-result c = search needs

@@ -2,8 +2,8 @@ use native.Mathlib.Omega.{arith}
 use mathlib.Core.Path.{sym}
 use lib.ListN.{List·getD-eq-default}
 use borrow.Author.Needs.{needs}
-use Rattle.grammar.proofs.masks.mask_at.Statement.{statement}
-use Rattle.grammar.proofs.masks.mask_at.Tie as tie
+use Rattle.derivation.proofs.masks.mask_at.Statement.{statement}
+use Rattle.derivation.proofs.masks.mask_at.Tie as tie
 
 returns : tie.Need-returns
 returns c = sym (List·getD-eq-default (c .before .args .masks .now) 0 {n = c .before .args .node} (omega arith))

@@ -1,10 +1,10 @@
 use native.Mathlib.Nat.{one-mul, mod-eq-of-lt}
 use native.Mathlib.Omega.{arith}
 use lib.Pow.{pow-lt}
-use Rattle.grammar.proofs.Mask.{puts}
+use Rattle.derivation.proofs.Mask.{puts}
 use borrow.Author.Needs.{needs}
-use Rattle.grammar.proofs.masks.put.Statement.{statement}
-use Rattle.grammar.proofs.masks.put.Tie as tie
+use Rattle.derivation.proofs.masks.put.Statement.{statement}
+use Rattle.derivation.proofs.masks.put.Tie as tie
 
 shl-result : tie.Need-shl-result
 shl-result c = search needs

@@ -1,7 +1,7 @@
-use Rattle.grammar.specs.Columns.{alike}
+use Rattle.derivation.specs.code.Columns.{alike}
 use borrow.Author.Needs.{needs}
-use Rattle.grammar.proofs.matching.alike.Statement.{statement}
-use Rattle.grammar.proofs.matching.alike.Tie as tie
+use Rattle.derivation.proofs.matching.alike.Statement.{statement}
+use Rattle.derivation.proofs.matching.alike.Tie as tie
 
 code-at-requires : tie.Need-code-at-requires
 code-at-requires c κs = search needs

@@ -1,7 +1,7 @@
-use Rattle.grammar.proofs.Uses.{chain-low, answers-chain, asks-no-chain, answers-no-chain}
+use Rattle.derivation.proofs.Uses.{chain-low, answers-chain, asks-no-chain, answers-no-chain}
 use borrow.Author.Needs.{needs}
-use Rattle.grammar.proofs.matching.applies.Statement.{statement}
-use Rattle.grammar.proofs.matching.applies.Tie as tie
+use Rattle.derivation.proofs.matching.applies.Statement.{statement}
+use Rattle.derivation.proofs.matching.applies.Tie as tie
 
 start-at-requires : tie.Need-start-at-requires
 start-at-requires c κs = search needs

@@ -1,7 +1,7 @@
-use Rattle.grammar.specs.Columns.{argumentFits}
+use Rattle.derivation.specs.code.Columns.{argumentFits}
 use mathlib.Core.Path.{refl}
-use Rattle.grammar.proofs.matching.argument_fits.Statement.{statement}
-use Rattle.grammar.proofs.matching.argument_fits.Tie as tie
+use Rattle.derivation.proofs.matching.argument_fits.Statement.{statement}
+use Rattle.derivation.proofs.matching.argument_fits.Tie as tie
 
 returns : tie.Need-returns
 unfolding argumentFits

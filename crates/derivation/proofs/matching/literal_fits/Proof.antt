@@ -1,7 +1,7 @@
-use Rattle.grammar.specs.Columns.{literalFits}
+use Rattle.derivation.specs.code.Columns.{literalFits}
 use mathlib.Core.Path.{refl}
-use Rattle.grammar.proofs.matching.literal_fits.Statement.{statement}
-use Rattle.grammar.proofs.matching.literal_fits.Tie as tie
+use Rattle.derivation.proofs.matching.literal_fits.Statement.{statement}
+use Rattle.derivation.proofs.matching.literal_fits.Tie as tie
 
 returns : tie.Need-returns
 unfolding literalFits

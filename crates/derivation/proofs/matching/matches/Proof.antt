@@ -1,10 +1,10 @@
 use Prim.Native.Nat.{_-_}
 use native.Mathlib.Omega.{arith}
 use borrow.Author.Needs.{needs}
-use Rattle.grammar.proofs.Walk.{Inv, inv-start, end-small, turn-place, turn-here, turn-over, turn-low, turn-hole, turn-node, miss-hole, miss-node}
-use Rattle.grammar.proofs.Walk.{turn-end}
-use Rattle.grammar.proofs.matching.matches.Statement.{statement}
-use Rattle.grammar.proofs.matching.matches.Tie as tie
+use Rattle.derivation.proofs.Walk.{Inv, inv-start, end-small, turn-place, turn-here, turn-over, turn-low, turn-hole, turn-node, miss-hole, miss-node}
+use Rattle.derivation.proofs.Walk.{turn-end}
+use Rattle.derivation.proofs.matching.matches.Statement.{statement}
+use Rattle.derivation.proofs.matching.matches.Tie as tie
 
 abbrev Inv-loop : tie.InvT-loop
 Inv-loop rules forms body masks node rule place₀ end here₀ place here = Inv rules forms body masks node rule end place here

@@ -3,26 +3,26 @@ use native.Mathlib.Omega.{arith}
 use borrow.Author.Needs.{needs}
 use mathlib.Core.Path.{refl, sym, _∙_, subst}
 use lib.ListN.{length}
-use Rattle.grammar.proofs.Walk.{end-small}
-use Rattle.grammar.proofs.Whole.{follow-pre, spread-pre, emit-post}
-use Rattle.grammar.proofs.Track.{Inv, spread-start, spread-end, spread-place, spread-here, spread-over, spread-node, spread-after, spread-asks}
-use Rattle.grammar.proofs.Track.{spread-hole}
+use Rattle.derivation.proofs.Walk.{end-small}
+use Rattle.derivation.proofs.Whole.{follow-pre, spread-pre, emit-post}
+use Rattle.derivation.proofs.Track.{Inv, spread-start, spread-end, spread-place, spread-here, spread-over, spread-node, spread-after, spread-asks}
+use Rattle.derivation.proofs.Track.{spread-hole}
 use borrow.Fn.Kinds.{In}
 use borrow.Fn.PlainCycle.{Measures, is, falls, and}
-use Rattle.grammar.proofs.showing.emit.Reads as emit
-use Rattle.grammar.proofs.showing.emit.Kinds as emit-kinds
-use Rattle.grammar.proofs.showing.+emit+spread.Lts-emit as emit-lts
-use Rattle.grammar.proofs.showing.spread.Reads as spread
-use Rattle.grammar.proofs.showing.spread.Kinds as spread-kinds
-use Rattle.grammar.proofs.showing.+emit+spread.Lts-spread as spread-lts
+use Rattle.derivation.proofs.showing.emit.Reads as emit
+use Rattle.derivation.proofs.showing.emit.Kinds as emit-kinds
+use Rattle.derivation.proofs.showing.+emit+spread.Lts-emit as emit-lts
+use Rattle.derivation.proofs.showing.spread.Reads as spread
+use Rattle.derivation.proofs.showing.spread.Kinds as spread-kinds
+use Rattle.derivation.proofs.showing.+emit+spread.Lts-spread as spread-lts
 use Rattle.terms.proofs.code_at.Reads as code-at-reads
 use Rattle.terms.proofs.size_at.Reads as size-at-reads
 use Rattle.terms.proofs.value_at.Reads as value-at-reads
-use Rattle.grammar.proofs.filling.derivers.Reads as derivers-reads
-use Rattle.grammar.proofs.showing.follow.Reads as follow-reads
-use Rattle.grammar.proofs.rules.start_at.Reads as start-at-reads
-use Rattle.grammar.proofs.showing.+emit+spread.{statement}
-use Rattle.grammar.proofs.showing.+emit+spread.Tie.{close}
+use Rattle.derivation.proofs.filling.derivers.Reads as derivers-reads
+use Rattle.derivation.proofs.showing.follow.Reads as follow-reads
+use Rattle.derivation.proofs.rules.start_at.Reads as start-at-reads
+use Rattle.derivation.proofs.showing.+emit+spread.{statement}
+use Rattle.derivation.proofs.showing.+emit+spread.Tie.{close}
 
 abbrev μ-emit : Measures 5 emit-kinds.ps ℕ
 μ-emit κs a = 2 * (length (a .1 .1 .0 .now) - a .1 .1 .1 .1 .0) + 1

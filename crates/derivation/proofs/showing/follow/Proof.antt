@@ -2,9 +2,9 @@ use Prim.Native.Nat.{_-_}
 use native.Mathlib.Omega.{arith}
 use borrow.Author.Needs.{needs}
 use lib.ListN.{length, length-set}
-use Rattle.grammar.proofs.Trail.{Inv, inv-start, turn-more, turn-end}
-use Rattle.grammar.proofs.showing.follow.Statement.{statement}
-use Rattle.grammar.proofs.showing.follow.Tie as tie
+use Rattle.derivation.proofs.Trail.{Inv, inv-start, turn-more, turn-end}
+use Rattle.derivation.proofs.showing.follow.Statement.{statement}
+use Rattle.derivation.proofs.showing.follow.Tie as tie
 
 abbrev Inv-loop : tie.InvT-loop
 Inv-loop rules forms chosen nonterminal shown₀ at current₀ next₀ shown current next = Inv rules forms chosen nonterminal shown₀ at shown current next

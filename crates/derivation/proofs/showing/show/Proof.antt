@@ -1,7 +1,7 @@
-use Rattle.grammar.proofs.Top.{show-no, show-yes, emit-pre}
+use Rattle.derivation.proofs.Top.{show-no, show-yes, emit-pre}
 use borrow.Author.Needs.{needs}
-use Rattle.grammar.proofs.showing.show.Statement.{statement}
-use Rattle.grammar.proofs.showing.show.Tie as tie
+use Rattle.derivation.proofs.showing.show.Statement.{statement}
+use Rattle.derivation.proofs.showing.show.Tie as tie
 
 fill-masks-requires : tie.Need-fill-masks-requires
 fill-masks-requires c κs = search needs

@@ -1,7 +1,7 @@
 use mathlib.Core.Path.{refl}
-use Rattle.meaning.proofs.Prices.{all-priced, fill-defined, fill-functions}
-use Rattle.meaning.proofs.costs.body_costs.Statement.{statement}
-use Rattle.meaning.proofs.costs.body_costs.Tie as tie
+use Rattle.evaluation.proofs.Prices.{all-priced, fill-defined, fill-functions}
+use Rattle.evaluation.proofs.costs.body_costs.Statement.{statement}
+use Rattle.evaluation.proofs.costs.body_costs.Tie as tie
 
 fill-from-requires : tie.Need-fill-from-requires
 fill-from-requires c κs = fill-defined (c .before .before .before .pre) refl

@@ -3,8 +3,8 @@ use lib.Dec.{eqb}
 use Rattle.forest.proofs.Bools.{and-right}
 use borrow.Author.Tests.{ltb-true}
 use native.Mathlib.Omega.{arith}
-use Rattle.meaning.proofs.costs.body_place.Statement.{statement}
-use Rattle.meaning.proofs.costs.body_place.Tie as tie
+use Rattle.evaluation.proofs.costs.body_place.Statement.{statement}
+use Rattle.evaluation.proofs.costs.body_place.Tie as tie
 
 returns : tie.Need-returns
 returns c = rw (c .if1 .taken)

@@ -1,12 +1,12 @@
 use mathlib.Core.Path.{_∙_}
 use mathlib.Core.Logic.{⊎-elim}
 use lib.ListN.{length}
-use Rattle.meaning.specs.Steps.{Costing}
+use Rattle.evaluation.specs.code.Evaluating.{Costing}
 use Prim.Native.Nat.{_≤_, _-_, _^_}
 use native.Mathlib.Omega.{arith}
-use Rattle.meaning.proofs.CostTurns.{Summed, ends-within, size-some, sum-body, sum-end, sum-other, sum-start}
-use Rattle.meaning.proofs.costs.cost_at.Statement.{statement}
-use Rattle.meaning.proofs.costs.cost_at.Tie as tie
+use Rattle.evaluation.proofs.CostTurns.{Summed, ends-within, size-some, sum-body, sum-end, sum-other, sum-start}
+use Rattle.evaluation.proofs.costs.cost_at.Statement.{statement}
+use Rattle.evaluation.proofs.costs.cost_at.Tie as tie
 
 abbrev Inv-loop : tie.InvT-loop
 Inv-loop nodes bodies costs node size stop sum₀ j₀ sum j =

@@ -1,11 +1,11 @@
-use Rattle.meaning.specs.Steps.{FilledTo, Filling}
+use Rattle.evaluation.specs.code.Evaluating.{FilledTo, Filling}
 use lib.ListN.{length, length-set}
 use mathlib.Core.Path.{_≡_}
 use Prim.Native.Nat.{_≤_, _-_}
 use native.Mathlib.Omega.{arith}
-use Rattle.meaning.proofs.Prices.{cost-priced, fill-more, fill-start}
-use Rattle.meaning.proofs.costs.fill_from.Statement.{statement}
-use Rattle.meaning.proofs.costs.fill_from.Tie as tie
+use Rattle.evaluation.proofs.Prices.{cost-priced, fill-more, fill-start}
+use Rattle.evaluation.proofs.costs.fill_from.Statement.{statement}
+use Rattle.evaluation.proofs.costs.fill_from.Tie as tie
 
 abbrev Inv-loop : tie.InvT-loop
 Inv-loop nodes bodies costs₀ base count k₀ costs k =

@@ -2,8 +2,8 @@ use lib.ListN.{List·getD-eq-default}
 use mathlib.Core.Path.{sym}
 use native.Mathlib.Omega.{arith}
 use borrow.Author.Needs.{needs}
-use Rattle.meaning.proofs.costs.number_in.Statement.{statement}
-use Rattle.meaning.proofs.costs.number_in.Tie as tie
+use Rattle.evaluation.proofs.costs.number_in.Statement.{statement}
+use Rattle.evaluation.proofs.costs.number_in.Tie as tie
 
 mul-result : tie.Need-mul-result
 mul-result c = search needs

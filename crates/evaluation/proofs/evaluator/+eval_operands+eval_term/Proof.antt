@@ -1,27 +1,27 @@
-use Rattle.meaning.proofs.Evaluating.{arguments-eight, body-evaluable, body-result, left-some, literal-value, name-value, operands-evaluable}
-use Rattle.meaning.proofs.Evaluating.{operator-ready, operator-result, term-within}
+use Rattle.evaluation.proofs.Evaluating.{arguments-eight, body-evaluable, body-result, left-some, literal-value, name-value, operands-evaluable}
+use Rattle.evaluation.proofs.Evaluating.{operator-ready, operator-result, term-within}
 use Prim.Native.Nat.{_+_, _-_, _*_, ℕ, _<_}
-use Rattle.meaning.specs.Steps.{OperandsEvaluable}
+use Rattle.evaluation.specs.code.Evaluating.{OperandsEvaluable}
 use borrow.Author.Needs.{needs}
 use native.Mathlib.Omega.{arith}
-use Rattle.meaning.proofs.Operands.{Done, all-done, none-done, one-done, operand-evaluable, operand-room, operand-size, operand-within}
+use Rattle.evaluation.proofs.Operands.{Done, all-done, none-done, one-done, operand-evaluable, operand-room, operand-size, operand-within}
 use borrow.Fn.Kinds.{In}
 use borrow.Fn.PlainCycle.{Measures, is, falls, and}
-use Rattle.meaning.proofs.evaluator.eval_operands.Reads as eval-operands
-use Rattle.meaning.proofs.evaluator.eval_operands.Kinds as eval-operands-kinds
-use Rattle.meaning.proofs.evaluator.+eval_operands+eval_term.Lts-eval_operands as eval-operands-lts
-use Rattle.meaning.proofs.evaluator.eval_term.Reads as eval-term
-use Rattle.meaning.proofs.evaluator.eval_term.Kinds as eval-term-kinds
-use Rattle.meaning.proofs.evaluator.+eval_operands+eval_term.Lts-eval_term as eval-term-lts
-use Rattle.meaning.proofs.costs.body_place.Reads as body-place-reads
-use Rattle.meaning.proofs.costs.number_in.Reads as number-in-reads
-use Rattle.meaning.proofs.evaluator.operator_value.Reads as operator-value-reads
-use Rattle.meaning.proofs.evaluator.with_sort.Reads as with-sort-reads
+use Rattle.evaluation.proofs.evaluator.eval_operands.Reads as eval-operands
+use Rattle.evaluation.proofs.evaluator.eval_operands.Kinds as eval-operands-kinds
+use Rattle.evaluation.proofs.evaluator.+eval_operands+eval_term.Lts-eval_operands as eval-operands-lts
+use Rattle.evaluation.proofs.evaluator.eval_term.Reads as eval-term
+use Rattle.evaluation.proofs.evaluator.eval_term.Kinds as eval-term-kinds
+use Rattle.evaluation.proofs.evaluator.+eval_operands+eval_term.Lts-eval_term as eval-term-lts
+use Rattle.evaluation.proofs.costs.body_place.Reads as body-place-reads
+use Rattle.evaluation.proofs.costs.number_in.Reads as number-in-reads
+use Rattle.evaluation.proofs.evaluator.operator_value.Reads as operator-value-reads
+use Rattle.evaluation.proofs.evaluator.with_sort.Reads as with-sort-reads
 use Rattle.terms.proofs.code_at.Reads as code-at-reads
 use Rattle.terms.proofs.size_at.Reads as size-at-reads
 use Rattle.terms.proofs.value_at.Reads as value-at-reads
-use Rattle.meaning.proofs.evaluator.+eval_operands+eval_term.{statement}
-use Rattle.meaning.proofs.evaluator.+eval_operands+eval_term.Tie.{close}
+use Rattle.evaluation.proofs.evaluator.+eval_operands+eval_term.{statement}
+use Rattle.evaluation.proofs.evaluator.+eval_operands+eval_term.Tie.{close}
 
 abbrev μ-eval-operands : Measures 4 eval-operands-kinds.ps ℕ
 μ-eval-operands κs a = 2 * a .1 .1 .1 .1 .1 .1 .0 + 1

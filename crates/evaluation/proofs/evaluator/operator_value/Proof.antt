@@ -1,6 +1,6 @@
-use Rattle.meaning.proofs.Operators.{gave, operable, sortable}
-use Rattle.meaning.proofs.evaluator.operator_value.Statement.{statement}
-use Rattle.meaning.proofs.evaluator.operator_value.Tie as tie
+use Rattle.evaluation.proofs.Operators.{gave, operable, sortable}
+use Rattle.evaluation.proofs.evaluator.operator_value.Statement.{statement}
+use Rattle.evaluation.proofs.evaluator.operator_value.Tie as tie
 
 result-sort-requires : tie.Need-result-sort-requires
 result-sort-requires c κs = sortable (c .pre)

@@ -1,7 +1,7 @@
 use borrow.Author.Tests.{ne-eqb}
 use mathlib.Core.Path.{refl}
-use Rattle.meaning.proofs.evaluator.with_sort.Statement.{statement}
-use Rattle.meaning.proofs.evaluator.with_sort.Tie as tie
+use Rattle.evaluation.proofs.evaluator.with_sort.Statement.{statement}
+use Rattle.evaluation.proofs.evaluator.with_sort.Tie as tie
 
 returns : tie.Need-returns
 returns c = rw (c .if1 .taken) (refl, refl)

@@ -3,9 +3,9 @@ use Prim.Native.Nat.{_-_}
 use native.Mathlib.Omega.{arith}
 use native.Mathlib.Nat.{mod-lt}
 use borrow.Author.Needs.{needs, scaled-fits}
-use Rattle.running.proofs.PointLists.{NoneBefore, none-before, none-outside, outside-here, outside-later}
-use Rattle.running.proofs.points.first_outside.Statement.{statement}
-use Rattle.running.proofs.points.first_outside.Tie as tie
+use Rattle.evaluation.proofs.PointLists.{NoneBefore, none-before, none-outside, outside-here, outside-later}
+use Rattle.evaluation.proofs.points.first_outside.Statement.{statement}
+use Rattle.evaluation.proofs.points.first_outside.Tie as tie
 
 abbrev Inv-loop : tie.InvT-loop
 Inv-loop sorts numbers i₀ i = NoneBefore sorts numbers i

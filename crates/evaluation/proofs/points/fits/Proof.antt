@@ -1,7 +1,7 @@
-use Rattle.running.proofs.PointLists.{bool-test, vector-test}
+use Rattle.evaluation.proofs.PointLists.{bool-test, vector-test}
 use borrow.Author.Needs.{needs}
-use Rattle.running.proofs.points.fits.Statement.{statement}
-use Rattle.running.proofs.points.fits.Tie as tie
+use Rattle.evaluation.proofs.points.fits.Statement.{statement}
+use Rattle.evaluation.proofs.points.fits.Tie as tie
 
 returns : tie.Need-returns
 returns c = search bool-test

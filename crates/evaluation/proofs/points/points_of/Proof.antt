@@ -1,7 +1,7 @@
-use Rattle.running.proofs.PointLists.{bad-length, bad-number, good-points, variable-sorts}
+use Rattle.evaluation.proofs.PointLists.{bad-length, bad-number, good-points, variable-sorts}
 use borrow.Author.Needs.{needs}
-use Rattle.running.proofs.points.points_of.Statement.{statement}
-use Rattle.running.proofs.points.points_of.Tie as tie
+use Rattle.evaluation.proofs.points.points_of.Statement.{statement}
+use Rattle.evaluation.proofs.points.points_of.Tie as tie
 
 cut-short-requires : tie.Need-cut-short-requires
 cut-short-requires c κs = search needs

@@ -1,11 +1,11 @@
 use Prim.Native.Nat.{_-_}
 use borrow.Author.Needs.{needs}
 use native.Mathlib.Omega.{arith}
-use Rattle.running.specs.Steps.{PointsRunnable}
-use Rattle.running.proofs.PointRuns.{PointsLeft, no-points, point-passed, point-runnable, point-stopped, point-within, points-end, points-start}
-use Rattle.running.proofs.PointRuns.{terms-costing}
-use Rattle.running.proofs.running.run_points.Statement.{statement}
-use Rattle.running.proofs.running.run_points.Tie as tie
+use Rattle.evaluation.specs.code.Runs.{PointsRunnable}
+use Rattle.evaluation.proofs.PointRuns.{PointsLeft, no-points, point-passed, point-runnable, point-stopped, point-within, points-end, points-start}
+use Rattle.evaluation.proofs.PointRuns.{terms-costing}
+use Rattle.evaluation.proofs.running.run_points.Statement.{statement}
+use Rattle.evaluation.proofs.running.run_points.Tie as tie
 
 abbrev Inv-loop : tie.InvT-loop
 Inv-loop nodes bodies costs places sorts numbers budget width count prices left₀ point₀ left point =

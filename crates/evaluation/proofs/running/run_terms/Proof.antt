@@ -2,10 +2,10 @@ use Prim.Native.Nat.{_≤_, _-_, _^_}
 use native.Mathlib.Omega.{arith}
 use lib.ListN.{length}
 use borrow.Author.Needs.{needs}
-use Rattle.running.specs.Steps.{Runnable}
-use Rattle.running.proofs.Runs.{TermsLeft, term-ended, term-evaluable, term-false, term-true, terms-end, terms-start}
-use Rattle.running.proofs.running.run_terms.Statement.{statement}
-use Rattle.running.proofs.running.run_terms.Tie as tie
+use Rattle.evaluation.specs.code.Runs.{Runnable}
+use Rattle.evaluation.proofs.Runs.{TermsLeft, term-ended, term-evaluable, term-false, term-true, terms-end, terms-start}
+use Rattle.evaluation.proofs.running.run_terms.Statement.{statement}
+use Rattle.evaluation.proofs.running.run_terms.Tie as tie
 
 abbrev Inv-loop : tie.InvT-loop
 Inv-loop nodes bodies prices places env point budget left₀ k₀ left k =

@@ -3,10 +3,10 @@ use native.Mathlib.Omega.{arith}
 use lib.ListN.{length}
 use mathlib.Core.Path.{_≡_, refl}
 use borrow.Author.Needs.{needs}
-use Rattle.running.specs.Steps.{PricedTo}
-use Rattle.running.proofs.TermCosts.{prices-more, prices-start}
-use Rattle.running.proofs.running.term_costs.Statement.{statement}
-use Rattle.running.proofs.running.term_costs.Tie as tie
+use Rattle.evaluation.specs.code.Runs.{PricedTo}
+use Rattle.evaluation.proofs.TermCosts.{prices-more, prices-start}
+use Rattle.evaluation.proofs.running.term_costs.Statement.{statement}
+use Rattle.evaluation.proofs.running.term_costs.Tie as tie
 
 abbrev Inv-loop : tie.InvT-loop
 Inv-loop nodes bodies costs places prices₀ k₀ prices k = (k ≤ length places) × PricedTo nodes bodies costs places prices k

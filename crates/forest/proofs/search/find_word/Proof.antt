@@ -2,9 +2,9 @@ use native.Mathlib.Omega.{arith}
 use Prim.Native.Nat.{_-_}
 use borrow.Author.Needs.{needs}
 use lib.ListN.{length}
-use Rattle.lookup.proofs.Searching.{Searched, search-begins, search-ends, search-finds, search-goes}
-use Rattle.lookup.proofs.find_word.Statement.{statement}
-use Rattle.lookup.proofs.find_word.Tie as tie
+use Rattle.forest.proofs.Searching.{Searched, search-begins, search-ends, search-finds, search-goes}
+use Rattle.forest.proofs.search.find_word.Statement.{statement}
+use Rattle.forest.proofs.search.find_word.Tie as tie
 
 abbrev Inv-loop : tie.InvT-loop
 Inv-loop names starts word count place₀ place = Searched names starts word place

@@ -2,9 +2,9 @@ use native.Mathlib.Omega.{arith}
 use Prim.Native.Nat.{_-_}
 use mathlib.Core.Path.{refl}
 use lib.ListN.{length}
-use Rattle.lookup.proofs.Searching.{Alike, all-alike, lengths-differ, other-byte, same-byte}
-use Rattle.lookup.proofs.same_bytes.Statement.{statement}
-use Rattle.lookup.proofs.same_bytes.Tie as tie
+use Rattle.forest.proofs.Searching.{Alike, all-alike, lengths-differ, other-byte, same-byte}
+use Rattle.forest.proofs.search.same_bytes.Statement.{statement}
+use Rattle.forest.proofs.search.same_bytes.Tie as tie
 
 abbrev Inv-loop : tie.InvT-loop
 Inv-loop left right passed₀ passed = Alike left right passed

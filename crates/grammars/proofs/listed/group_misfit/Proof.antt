@@ -1,9 +1,9 @@
-use Rattle.listing.proofs.Groups.{group-least, listed-rules}
+use Rattle.grammars.proofs.Groups.{group-least, listed-rules}
 use Rattle.lexemes.proofs.Listed.{item-room}
 use native.Mathlib.Omega.{arith}
 use borrow.Author.Needs.{needs}
-use Rattle.listing.proofs.listed.group_misfit.Statement.{statement}
-use Rattle.listing.proofs.listed.group_misfit.Tie as tie
+use Rattle.grammars.proofs.listed.group_misfit.Statement.{statement}
+use Rattle.grammars.proofs.listed.group_misfit.Tie as tie
 
 name-misfit-requires : tie.Need-name-misfit-requires
 name-misfit-requires c κs = search needs

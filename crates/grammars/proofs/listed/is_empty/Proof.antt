@@ -1,9 +1,9 @@
-use Rattle.listing.proofs.Empty.{emptiness}
+use Rattle.grammars.proofs.Empty.{emptiness}
 use Rattle.lexemes.proofs.Listed.{as-item, item-ahead, list-room}
 use native.Mathlib.Omega.{arith}
 use borrow.Author.Needs.{needs}
-use Rattle.listing.proofs.listed.is_empty.Statement.{statement}
-use Rattle.listing.proofs.listed.is_empty.Tie as tie
+use Rattle.grammars.proofs.listed.is_empty.Statement.{statement}
+use Rattle.grammars.proofs.listed.is_empty.Tie as tie
 
 next-at-requires : tie.Need-next-at-requires
 next-at-requires c κs = search needs

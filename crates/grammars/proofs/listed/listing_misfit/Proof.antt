@@ -1,11 +1,11 @@
-use Rattle.listing.proofs.Listing.{Listing, groups-list, listing-group, listing-long, listing-short, listing-start, listing-turn, listing-whole}
+use Rattle.grammars.proofs.Listing.{Listing, groups-list, listing-group, listing-long, listing-short, listing-start, listing-turn, listing-whole}
 use Rattle.lexemes.proofs.Along.{along-less}
 use Rattle.lexemes.proofs.Listed.{as-item, item-ahead, list-room}
 use borrow.Author.Needs.{needs}
 use native.Mathlib.Omega.{arith}
 use Prim.Native.Nat.{_-_}
-use Rattle.listing.proofs.listed.listing_misfit.Statement.{statement}
-use Rattle.listing.proofs.listed.listing_misfit.Tie as tie
+use Rattle.grammars.proofs.listed.listing_misfit.Statement.{statement}
+use Rattle.grammars.proofs.listed.listing_misfit.Tie as tie
 
 abbrev Inv-loop : tie.InvT-loop
 Inv-loop text lexemes names at listed nowhere close past place₀ group₀ row₀ place group row =

@@ -1,9 +1,9 @@
-use Rattle.listing.proofs.Groups.{listed-sort, name-differs, name-fits}
+use Rattle.grammars.proofs.Groups.{listed-sort, name-differs, name-fits}
 use Rattle.lexemes.proofs.Listed.{item-room}
 use native.Mathlib.Omega.{arith}
 use borrow.Author.Needs.{needs}
-use Rattle.listing.proofs.listed.name_misfit.Statement.{statement}
-use Rattle.listing.proofs.listed.name_misfit.Tie as tie
+use Rattle.grammars.proofs.listed.name_misfit.Statement.{statement}
+use Rattle.grammars.proofs.listed.name_misfit.Tie as tie
 
 add-bytes-at : tie.Need-add-bytes-at
 add-bytes-at c = omega (arith, item-room (c .before .before .before .pre .here))

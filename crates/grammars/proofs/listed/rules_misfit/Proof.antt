@@ -1,9 +1,9 @@
-use Rattle.listing.proofs.Empty.{closed-early, closed-later}
+use Rattle.grammars.proofs.Empty.{closed-early, closed-later}
 use Rattle.lexemes.proofs.Listed.{list-room}
 use native.Mathlib.Omega.{arith}
 use borrow.Author.Needs.{needs}
-use Rattle.listing.proofs.listed.rules_misfit.Statement.{statement}
-use Rattle.listing.proofs.listed.rules_misfit.Tie as tie
+use Rattle.grammars.proofs.listed.rules_misfit.Statement.{statement}
+use Rattle.grammars.proofs.listed.rules_misfit.Tie as tie
 
 is-empty-requires : tie.Need-is-empty-requires
 is-empty-requires c κs = search needs

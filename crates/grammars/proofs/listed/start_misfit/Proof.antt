@@ -1,10 +1,10 @@
-use Rattle.listing.proofs.Start.{start-differs, start-fits, start-sort}
-use Rattle.listing.proofs.Empty.{closed-early}
+use Rattle.grammars.proofs.Start.{start-differs, start-fits, start-sort}
+use Rattle.grammars.proofs.Empty.{closed-early}
 use Rattle.lexemes.proofs.Listed.{list-room}
 use native.Mathlib.Omega.{arith}
 use borrow.Author.Needs.{needs}
-use Rattle.listing.proofs.listed.start_misfit.Statement.{statement}
-use Rattle.listing.proofs.listed.start_misfit.Tie as tie
+use Rattle.grammars.proofs.listed.start_misfit.Statement.{statement}
+use Rattle.grammars.proofs.listed.start_misfit.Tie as tie
 
 add-pair : tie.Need-add-pair
 add-pair c = omega (arith, list-room (c .before .pre .here))

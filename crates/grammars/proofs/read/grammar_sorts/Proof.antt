@@ -1,6 +1,6 @@
 use Prim.Native.Nat.{min}
 use mathlib.Core.Path.{ap, ap₂, _∙_}
-use Rattle.faults.specs.Faults.{termFault}
+use Rattle.term_faults.specs.Faults.{termFault}
 use borrow.Author.Needs.{needs}
 use Rattle.grammars.proofs.read.grammar_sorts.Statement.{statement}
 use Rattle.grammars.proofs.read.grammar_sorts.Tie as tie

@@ -1,6 +1,6 @@
 use borrow.Author.Needs.{needs}
-use Rattle.heading.proofs.heads.first_row.Statement.{statement}
-use Rattle.heading.proofs.heads.first_row.Tie as tie
+use Rattle.headers.proofs.heads.first_row.Statement.{statement}
+use Rattle.headers.proofs.heads.first_row.Tie as tie
 
 mul-result : tie.Need-mul-result
 mul-result c = search needs

@@ -1,6 +1,6 @@
 use borrow.Author.Needs.{needs}
-use Rattle.heading.proofs.heads.grown.Statement.{statement}
-use Rattle.heading.proofs.heads.grown.Tie as tie
+use Rattle.headers.proofs.heads.grown.Statement.{statement}
+use Rattle.headers.proofs.heads.grown.Tie as tie
 
 add-later : tie.Need-add-later
 add-later c = search needs

@@ -1,9 +1,9 @@
-use Rattle.heading.proofs.Named.{head-named, pairs-here}
-use Rattle.heading.proofs.Parts.{arguments-ahead, arguments-room, head-room, header-here}
+use Rattle.headers.proofs.Named.{head-named, pairs-here}
+use Rattle.headers.proofs.Parts.{arguments-ahead, arguments-room, head-room, header-here}
 use native.Mathlib.Omega.{arith}
 use borrow.Author.Needs.{needs}
-use Rattle.heading.proofs.heads.head_names.Statement.{statement}
-use Rattle.heading.proofs.heads.head_names.Tie as tie
+use Rattle.headers.proofs.heads.head_names.Statement.{statement}
+use Rattle.headers.proofs.heads.head_names.Tie as tie
 
 add-next-at : tie.Need-add-next-at
 add-next-at c = omega (arith, head-room (c .before .before .before .pre))

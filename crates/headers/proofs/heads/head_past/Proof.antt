@@ -1,9 +1,9 @@
-use Rattle.heading.proofs.Parts.{arguments-ahead, arguments-room, head-limited, items-between}
+use Rattle.headers.proofs.Parts.{arguments-ahead, arguments-room, head-limited, items-between}
 use Rattle.lexemes.proofs.Listed.{list-room}
 use native.Mathlib.Omega.{arith}
 use borrow.Author.Needs.{needs}
-use Rattle.heading.proofs.heads.head_past.Statement.{statement}
-use Rattle.heading.proofs.heads.head_past.Tie as tie
+use Rattle.headers.proofs.heads.head_past.Statement.{statement}
+use Rattle.headers.proofs.heads.head_past.Tie as tie
 
 add-next-at : tie.Need-add-next-at
 add-next-at c = omega (arith, list-room (c .before .pre .here))

@@ -1,9 +1,9 @@
-use Rattle.heading.proofs.Named.{name-here, own-fits, own-named, result-sort, sort-small}
-use Rattle.heading.proofs.Parts.{bytes-fit, head-room}
+use Rattle.headers.proofs.Named.{name-here, own-fits, own-named, result-sort, sort-small}
+use Rattle.headers.proofs.Parts.{bytes-fit, head-room}
 use native.Mathlib.Omega.{arith}
 use borrow.Author.Needs.{needs}
-use Rattle.heading.proofs.heads.own_name.Statement.{statement}
-use Rattle.heading.proofs.heads.own_name.Tie as tie
+use Rattle.headers.proofs.heads.own_name.Statement.{statement}
+use Rattle.headers.proofs.heads.own_name.Tie as tie
 
 own-row-requires : tie.Need-own-row-requires
 own-row-requires c κs = search needs

@@ -1,6 +1,6 @@
 use borrow.Author.Needs.{needs}
-use Rattle.heading.proofs.heads.own_row.Statement.{statement}
-use Rattle.heading.proofs.heads.own_row.Tie as tie
+use Rattle.headers.proofs.heads.own_row.Statement.{statement}
+use Rattle.headers.proofs.heads.own_row.Tie as tie
 
 add-result : tie.Need-add-result
 add-result c = search needs

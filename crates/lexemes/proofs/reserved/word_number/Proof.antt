@@ -1,9 +1,9 @@
 use native.Mathlib.Omega.{arith}
-use Rattle.lookup.proofs.Searching.{rising}
-use Rattle.reserved.proofs.Places.{firstSpellings, number-first, number-operator, operator-bound}
+use Rattle.forest.proofs.Searching.{rising}
+use Rattle.lexemes.proofs.Places.{firstSpellings, number-first, number-operator, operator-bound}
 use borrow.Author.Needs.{needs}
-use Rattle.reserved.proofs.word_number.Statement.{statement}
-use Rattle.reserved.proofs.word_number.Tie as tie
+use Rattle.lexemes.proofs.reserved.word_number.Statement.{statement}
+use Rattle.lexemes.proofs.reserved.word_number.Tie as tie
 
 slice-aggregate-find-word : tie.Need-slice-aggregate-find-word
 slice-aggregate-find-word c = search needs

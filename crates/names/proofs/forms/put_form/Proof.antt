@@ -2,8 +2,8 @@ use native.Mathlib.Numerals.{unary-clauses}
 use native.Mathlib.Omega.{arith}
 use lib.ListN.{length-set}
 use borrow.Author.Needs.{needs}
-use Rattle.naming.proofs.forms.put_form.Statement.{statement}
-use Rattle.naming.proofs.forms.put_form.Tie as tie
+use Rattle.names.proofs.forms.put_form.Statement.{statement}
+use Rattle.names.proofs.forms.put_form.Tie as tie
 
 mul-at : tie.Need-mul-at
 mul-at c = search needs

@@ -1,9 +1,9 @@
 use Prim.Native.Nat.{_-_}
 use native.Mathlib.Omega.{arith}
 use borrow.Author.Needs.{needs}
-use Rattle.naming.proofs.Turns.{Going, all-written, begins, node-here, turn}
-use Rattle.naming.proofs.forms.write_forms.Statement.{statement}
-use Rattle.naming.proofs.forms.write_forms.Tie as tie
+use Rattle.names.proofs.NodeTurns.{Going, all-written, begins, node-here, turn}
+use Rattle.names.proofs.forms.write_forms.Statement.{statement}
+use Rattle.names.proofs.forms.write_forms.Tie as tie
 
 abbrev Inv-loop : tie.InvT-loop
 Inv-loop names seen text lexemes raw count forms₀ base nowhere unknown₀ node₀ forms unknown node =

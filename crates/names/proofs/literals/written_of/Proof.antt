@@ -1,9 +1,9 @@
 use Prim.Native.Nat.{_-_}
 use native.Mathlib.Omega.{arith}
 use lib.ListN.{length}
-use Rattle.naming.proofs.Digits.{Digits, binary, hexadecimal, last-digit, next-digit, next-small, too-short}
-use Rattle.naming.proofs.literals.written_of.Statement.{statement}
-use Rattle.naming.proofs.literals.written_of.Tie as tie
+use Rattle.names.proofs.Digits.{Digits, binary, hexadecimal, last-digit, next-digit, next-small, too-short}
+use Rattle.names.proofs.literals.written_of.Statement.{statement}
+use Rattle.names.proofs.literals.written_of.Tie as tie
 
 abbrev Inv-loop : tie.InvT-loop
 Inv-loop word cases₀ k₀ cases k = Digits word cases k

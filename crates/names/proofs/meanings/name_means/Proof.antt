@@ -1,9 +1,9 @@
 use Prim.Native.Nat.{_+_, _*_}
 use native.Mathlib.Omega.{arith}
-use Rattle.naming.proofs.Lookup.{is-defined, is-function, is-name, is-non-terminal, is-unknown}
+use Rattle.names.proofs.Lookup.{is-defined, is-function, is-name, is-non-terminal, is-unknown}
 use borrow.Author.Needs.{needs}
-use Rattle.naming.proofs.meanings.name_means.Statement.{statement}
-use Rattle.naming.proofs.meanings.name_means.Tie as tie
+use Rattle.names.proofs.meanings.name_means.Statement.{statement}
+use Rattle.names.proofs.meanings.name_means.Tie as tie
 
 find-name-requires : tie.Need-find-name-requires
 find-name-requires c κs = search needs

@@ -1,8 +1,8 @@
 use native.Mathlib.Omega.{arith}
-use Rattle.naming.proofs.Symbols.{is-extract, is-literal, is-operator, is-ordinary, operator-codes}
+use Rattle.names.proofs.Symbols.{is-extract, is-literal, is-operator, is-ordinary, operator-codes}
 use borrow.Author.Needs.{needs}
-use Rattle.naming.proofs.meanings.symbol_means.Statement.{statement}
-use Rattle.naming.proofs.meanings.symbol_means.Tie as tie
+use Rattle.names.proofs.meanings.symbol_means.Statement.{statement}
+use Rattle.names.proofs.meanings.symbol_means.Tie as tie
 
 cast-known-as : tie.Need-cast-known-as
 cast-known-as c = search needs

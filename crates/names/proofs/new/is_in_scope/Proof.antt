@@ -1,7 +1,7 @@
-use Rattle.declaring.proofs.Testing.{in-scope}
+use Rattle.names.proofs.Testing.{in-scope}
 use borrow.Author.Needs.{needs}
-use Rattle.declaring.proofs.names.is_in_scope.Statement.{statement}
-use Rattle.declaring.proofs.names.is_in_scope.Tie as tie
+use Rattle.names.proofs.new.is_in_scope.Statement.{statement}
+use Rattle.names.proofs.new.is_in_scope.Tie as tie
 
 is-named-requires : tie.Need-is-named-requires
 is-named-requires c κs = search needs

@@ -1,7 +1,7 @@
-use Rattle.declaring.proofs.Testing.{in-rows}
+use Rattle.names.proofs.Testing.{in-rows}
 use borrow.Author.Needs.{needs}
-use Rattle.declaring.proofs.names.is_named.Statement.{statement}
-use Rattle.declaring.proofs.names.is_named.Tie as tie
+use Rattle.names.proofs.new.is_named.Statement.{statement}
+use Rattle.names.proofs.new.is_named.Tie as tie
 
 find-name-requires : tie.Need-find-name-requires
 find-name-requires c κs = search needs

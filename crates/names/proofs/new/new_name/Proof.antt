@@ -1,7 +1,7 @@
-use Rattle.declaring.proofs.Testing.{name-at-fault, name-right}
+use Rattle.names.proofs.Testing.{name-at-fault, name-right}
 use borrow.Author.Needs.{needs}
-use Rattle.declaring.proofs.names.new_name.Statement.{statement}
-use Rattle.declaring.proofs.names.new_name.Tie as tie
+use Rattle.names.proofs.new.new_name.Statement.{statement}
+use Rattle.names.proofs.new.new_name.Tie as tie
 
 code-at-requires : tie.Need-code-at-requires
 code-at-requires c κs = search needs

@@ -2,9 +2,9 @@ use borrow.Author.Needs.{needs}
 use Prim.Native.Nat.{_-_}
 use native.Mathlib.Omega.{arith}
 use Rattle.lexemes.proofs.Along.{along-less, along-room}
-use Rattle.declaring.proofs.Turns.{Going, go-end, go-long, go-name, go-pair, go-room, go-start, go-turn}
-use Rattle.declaring.proofs.names.new_pairs.Statement.{statement}
-use Rattle.declaring.proofs.names.new_pairs.Tie as tie
+use Rattle.names.proofs.PairTurns.{Going, go-end, go-long, go-name, go-pair, go-room, go-start, go-turn}
+use Rattle.names.proofs.new.new_pairs.Statement.{statement}
+use Rattle.names.proofs.new.new_pairs.Tie as tie
 
 abbrev Inv-loop : tie.InvT-loop
 Inv-loop text lexemes names₀ scope row first close nowhere place₀ at₀ done₀ names place at done =

@@ -1,8 +1,8 @@
 use native.Mathlib.Omega.{arith}
-use Rattle.declaring.proofs.Pair.{bytes-fit, pair-put, pair-room, sort-here, sort-small}
+use Rattle.names.proofs.Pair.{bytes-fit, pair-put, pair-room, sort-here, sort-small}
 use borrow.Author.Needs.{needs}
-use Rattle.declaring.proofs.names.put_pair.Statement.{statement}
-use Rattle.declaring.proofs.names.put_pair.Tie as tie
+use Rattle.names.proofs.new.put_pair.Statement.{statement}
+use Rattle.names.proofs.new.put_pair.Tie as tie
 
 add-sort-of : tie.Need-add-sort-of
 add-sort-of c = omega (arith, pair-room (c .before .before .before .pre))

@@ -1,9 +1,9 @@
 use native.Mathlib.Omega.{arith}
-use Rattle.naming.proofs.ByWords.{cut-small, is-beyond, is-cut}
+use Rattle.names.proofs.ByWords.{cut-small, is-beyond, is-cut}
 use Rattle.lexemes.proofs.Standing.{coded}
 use borrow.Author.Needs.{needs}
-use Rattle.naming.proofs.nodes.cut_means.Statement.{statement}
-use Rattle.naming.proofs.nodes.cut_means.Tie as tie
+use Rattle.names.proofs.nodes.cut_means.Statement.{statement}
+use Rattle.names.proofs.nodes.cut_means.Tie as tie
 
 value-at-requires : tie.Need-value-at-requires
 value-at-requires c κs = search needs

@@ -1,10 +1,10 @@
 use Prim.Native.Nat.{_<_}
 use native.Mathlib.Omega.{arith}
-use Rattle.naming.specs.Steps.{mostWritten}
-use Rattle.naming.proofs.ByWords.{is-constant, written-small}
+use Rattle.names.specs.code.Lookup.{mostWritten}
+use Rattle.names.proofs.ByWords.{is-constant, written-small}
 use borrow.Author.Needs.{needs}
-use Rattle.naming.proofs.nodes.literal_means.Statement.{statement}
-use Rattle.naming.proofs.nodes.literal_means.Tie as tie
+use Rattle.names.proofs.nodes.literal_means.Statement.{statement}
+use Rattle.names.proofs.nodes.literal_means.Tie as tie
 
 bytes-at-requires : tie.Need-bytes-at-requires
 bytes-at-requires c κs = search needs

@@ -1,7 +1,7 @@
-use Rattle.naming.proofs.ByWords.{cut-coded, cut-node, literal-narrow, literal-node, literal-small, number-node, pattern-at, pattern-node, symbol-coded, symbol-node}
+use Rattle.names.proofs.ByWords.{cut-coded, cut-node, literal-narrow, literal-node, literal-small, number-node, pattern-at, pattern-node, symbol-coded, symbol-node}
 use borrow.Author.Needs.{needs}
-use Rattle.naming.proofs.nodes.node_means.Statement.{statement}
-use Rattle.naming.proofs.nodes.node_means.Tie as tie
+use Rattle.names.proofs.nodes.node_means.Statement.{statement}
+use Rattle.names.proofs.nodes.node_means.Tie as tie
 
 code-at-requires : tie.Need-code-at-requires
 code-at-requires c κs = search needs

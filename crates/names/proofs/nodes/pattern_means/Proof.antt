@@ -1,9 +1,9 @@
 use native.Mathlib.Omega.{arith}
 use lib.Dec.{eqb}
-use Rattle.naming.proofs.Patterns.{bit-small, pattern-room, pattern-symbol, pattern-vector, pattern-width}
+use Rattle.names.proofs.Patterns.{bit-small, pattern-room, pattern-symbol, pattern-vector, pattern-width}
 use borrow.Author.Needs.{needs}
-use Rattle.naming.proofs.nodes.pattern_means.Statement.{statement}
-use Rattle.naming.proofs.nodes.pattern_means.Tie as tie
+use Rattle.names.proofs.nodes.pattern_means.Statement.{statement}
+use Rattle.names.proofs.nodes.pattern_means.Tie as tie
 
 code-at-requires : tie.Need-code-at-requires
 code-at-requires c κs = search needs

@@ -1,10 +1,10 @@
 use native.Mathlib.Omega.{arith}
 use Prim.Native.Nat.{_*_, _<_}
 use lib.ListN.{length}
-use Rattle.naming.proofs.ByWords.{head-word, pattern-within, sort-word}
+use Rattle.names.proofs.ByWords.{head-word, pattern-within, sort-word}
 use borrow.Author.Needs.{needs}
-use Rattle.naming.proofs.nodes.unknown_word.Statement.{statement}
-use Rattle.naming.proofs.nodes.unknown_word.Tie as tie
+use Rattle.names.proofs.nodes.unknown_word.Statement.{statement}
+use Rattle.names.proofs.nodes.unknown_word.Tie as tie
 
 returns : tie.Need-returns
 returns c = search needs

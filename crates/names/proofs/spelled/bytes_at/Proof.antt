@@ -1,7 +1,7 @@
-use Rattle.naming.proofs.Bytes.{no-bytes, some-bytes}
+use Rattle.names.proofs.Bytes.{no-bytes, some-bytes}
 use borrow.Author.Needs.{needs}
-use Rattle.naming.proofs.spelled.bytes_at.Statement.{statement}
-use Rattle.naming.proofs.spelled.bytes_at.Tie as tie
+use Rattle.names.proofs.spelled.bytes_at.Statement.{statement}
+use Rattle.names.proofs.spelled.bytes_at.Tie as tie
 
 start-at-requires : tie.Need-start-at-requires
 start-at-requires c κs = search needs

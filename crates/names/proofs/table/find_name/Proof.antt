@@ -1,8 +1,8 @@
 use Prim.Native.Nat.{_-_}
 use native.Mathlib.Omega.{arith}
-use Rattle.naming.proofs.Names.{Searching, found, not-found, passed-by, unsearched}
-use Rattle.naming.proofs.table.find_name.Statement.{statement}
-use Rattle.naming.proofs.table.find_name.Tie as tie
+use Rattle.names.proofs.Names.{Searching, found, not-found, passed-by, unsearched}
+use Rattle.names.proofs.table.find_name.Statement.{statement}
+use Rattle.names.proofs.table.find_name.Tie as tie
 
 abbrev Inv-loop : tie.InvT-loop
 Inv-loop names first count word place₀ place = Searching names word first count place

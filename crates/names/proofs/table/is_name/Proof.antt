@@ -1,11 +1,11 @@
 use Prim.Native.Nat.{_+_, _-_, _*_}
 use native.Mathlib.Omega.{arith}
 use lib.ListN.{length}
-use Rattle.bits.proofs.Naming.{Read, all-read, other-byte, same-byte}
-use Rattle.naming.specs.Table.{nameIn}
-use Rattle.naming.proofs.Names.{other-size, same-size}
-use Rattle.naming.proofs.table.is_name.Statement.{statement}
-use Rattle.naming.proofs.table.is_name.Tie as tie
+use Rattle.operators.proofs.Naming.{Read, all-read, other-byte, same-byte}
+use Rattle.names.specs.code.Table.{nameIn}
+use Rattle.names.proofs.Names.{other-size, same-size}
+use Rattle.names.proofs.table.is_name.Statement.{statement}
+use Rattle.names.proofs.table.is_name.Tie as tie
 
 abbrev Inv-loop : tie.InvT-loop
 Inv-loop names row word at k₀ k = Read (nameIn names row) word names (at + 2) k

@@ -3,9 +3,9 @@ use mathlib.Core.Path.{_∙_}
 use lib.ListN.{length-set}
 use mathlib.Core.Logic.{⊎-elim}
 use native.Mathlib.Omega.{arith}
-use Rattle.naming.proofs.Names.{Writing, name-byte, row-written, unwritten, written, zero-byte}
-use Rattle.naming.proofs.table.put_name.Statement.{statement}
-use Rattle.naming.proofs.table.put_name.Tie as tie
+use Rattle.names.proofs.Names.{Writing, name-byte, row-written, unwritten, written, zero-byte}
+use Rattle.names.proofs.table.put_name.Statement.{statement}
+use Rattle.names.proofs.table.put_name.Tie as tie
 
 abbrev Inv-loop : tie.InvT-loop
 Inv-loop names₀ row sort word at k₀ names k = Writing names₀ word names at k

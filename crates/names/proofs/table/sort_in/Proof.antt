@@ -1,8 +1,8 @@
 use Prim.Native.Nat.{_*_}
 use native.Mathlib.Omega.{arith}
 use borrow.Author.Needs.{needs}
-use Rattle.naming.proofs.table.sort_in.Statement.{statement}
-use Rattle.naming.proofs.table.sort_in.Tie as tie
+use Rattle.names.proofs.table.sort_in.Statement.{statement}
+use Rattle.names.proofs.table.sort_in.Tie as tie
 
 mul-result : tie.Need-mul-result
 mul-result c = search needs

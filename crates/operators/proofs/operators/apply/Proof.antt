@@ -1,9 +1,9 @@
 use mathlib.Core.Path.{refl}
 use borrow.Author.Needs.{needs}
-use Rattle.bits.specs.Operators.{operatorAt, operators}
-use Rattle.bits.proofs.Applying.{a-cut, a-pair, a-width, a-word, applied, applied-past, two-words}
-use Rattle.bits.proofs.operators.apply.Statement.{statement}
-use Rattle.bits.proofs.operators.apply.Tie as tie
+use Rattle.operators.specs.Operators.{operatorAt, operators}
+use Rattle.operators.proofs.Applying.{a-cut, a-pair, a-width, a-word, applied, applied-past, two-words}
+use Rattle.operators.proofs.operators.apply.Statement.{statement}
+use Rattle.operators.proofs.operators.apply.Tie as tie
 
 not-of-requires : tie.Need-not-of-requires
 not-of-requires c κs = search needs

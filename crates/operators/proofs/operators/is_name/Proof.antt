@@ -1,11 +1,11 @@
 use Prim.Native.Nat.{_-_}
 use native.Mathlib.Omega.{arith}
 use lib.ListN.{length}
-use Rattle.bits.specs.Operators.{operators}
-use Rattle.bits.proofs.Naming.{Read, all-read, nothing-read, other-byte, other-length, same-byte}
-use Rattle.bits.proofs.Table.{nameOf, names, stands}
-use Rattle.bits.proofs.operators.is_name.Statement.{statement}
-use Rattle.bits.proofs.operators.is_name.Tie as tie
+use Rattle.operators.specs.Operators.{operators}
+use Rattle.operators.proofs.Naming.{Read, all-read, nothing-read, other-byte, other-length, same-byte}
+use Rattle.operators.proofs.Table.{nameOf, names, stands}
+use Rattle.operators.proofs.operators.is_name.Statement.{statement}
+use Rattle.operators.proofs.operators.is_name.Tie as tie
 
 abbrev Inv-loop : tie.InvT-loop
 Inv-loop operator word start k₀ k = Read (nameOf operator) word (names operators) start k

@@ -1,8 +1,8 @@
 use borrow.Author.Needs.{needs}
-use Rattle.bits.specs.Operators.{Operator, operators}
-use Rattle.bits.proofs.Table.{column, past}
-use Rattle.bits.proofs.operators.operands_of.Statement.{statement}
-use Rattle.bits.proofs.operators.operands_of.Tie as tie
+use Rattle.operators.specs.Operators.{Operator, operators}
+use Rattle.operators.proofs.Table.{column, past}
+use Rattle.operators.proofs.operators.operands_of.Statement.{statement}
+use Rattle.operators.proofs.operators.operands_of.Tie as tie
 
 mul-result : tie.Need-mul-result
 mul-result c = search needs

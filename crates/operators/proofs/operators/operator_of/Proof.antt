@@ -2,10 +2,10 @@ use Prim.Native.Nat.{_-_, _≤_}
 use native.Mathlib.Omega.{arith}
 use mathlib.Core.Path.{_≡_, refl}
 use lib.ListN.{drop}
-use Rattle.bits.specs.Operators.{named, operatorCount, operatorOf, operators}
-use Rattle.bits.proofs.Naming.{found, not-found, passed-by}
-use Rattle.bits.proofs.operators.operator_of.Statement.{statement}
-use Rattle.bits.proofs.operators.operator_of.Tie as tie
+use Rattle.operators.specs.Operators.{named, operatorCount, operatorOf, operators}
+use Rattle.operators.proofs.Naming.{found, not-found, passed-by}
+use Rattle.operators.proofs.operators.operator_of.Statement.{statement}
+use Rattle.operators.proofs.operators.operator_of.Tie as tie
 
 abbrev Inv-loop : tie.InvT-loop
 Inv-loop word operator₀ operator = (operator ≤ operatorCount) × (named (drop operator operators) operator word ≡ operatorOf word)

@@ -1,9 +1,9 @@
 use native.Mathlib.Omega.{arith}
 use mathlib.Core.Path.{refl}
-use Rattle.bits.proofs.Results.{bool-result, chosen-result, cut-below, cut-order, cut-result, joined-narrow, joined-result, width-result}
+use Rattle.operators.proofs.Results.{bool-result, chosen-result, cut-below, cut-order, cut-result, joined-narrow, joined-result, width-result}
 use borrow.Author.Needs.{needs}
-use Rattle.bits.proofs.operators.result_sort.Statement.{statement}
-use Rattle.bits.proofs.operators.result_sort.Tie as tie
+use Rattle.operators.proofs.operators.result_sort.Statement.{statement}
+use Rattle.operators.proofs.operators.result_sort.Tie as tie
 
 rule-of-requires : tie.Need-rule-of-requires
 rule-of-requires c κs = search needs

@@ -1,6 +1,6 @@
 use borrow.Author.Tests.{eq-eqb, ne-eqb}
-use Rattle.bits.proofs.truth.ite.Statement.{statement}
-use Rattle.bits.proofs.truth.ite.Tie as tie
+use Rattle.operators.proofs.truth.ite.Statement.{statement}
+use Rattle.operators.proofs.truth.ite.Tie as tie
 
 returns : tie.Need-returns
 returns c = simp (eq-eqb _ _ (c .if1 .taken))

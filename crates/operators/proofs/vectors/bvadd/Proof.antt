@@ -1,7 +1,7 @@
 use borrow.Author.Needs.{needs}
-use Rattle.bits.proofs.Powers.{cut-again}
-use Rattle.bits.proofs.vectors.bvadd.Statement.{statement}
-use Rattle.bits.proofs.vectors.bvadd.Tie as tie
+use Rattle.operators.proofs.Powers.{cut-again}
+use Rattle.operators.proofs.vectors.bvadd.Statement.{statement}
+use Rattle.operators.proofs.vectors.bvadd.Tie as tie
 
 wrapping-add-u64-requires : tie.Need-wrapping-add-u64-requires
 wrapping-add-u64-requires c κs = search needs

@@ -1,7 +1,7 @@
 use borrow.Author.Needs.{needs}
 use borrow.Author.Tests.{le-ltb, lt-ltb}
-use Rattle.bits.proofs.vectors.bvlshr.Statement.{statement}
-use Rattle.bits.proofs.vectors.bvlshr.Tie as tie
+use Rattle.operators.proofs.vectors.bvlshr.Statement.{statement}
+use Rattle.operators.proofs.vectors.bvlshr.Tie as tie
 
 shr-result : tie.Need-shr-result
 shr-result c = search needs

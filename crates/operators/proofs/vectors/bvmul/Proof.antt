@@ -1,7 +1,7 @@
 use borrow.Author.Needs.{needs}
-use Rattle.bits.proofs.Powers.{cut-again}
-use Rattle.bits.proofs.vectors.bvmul.Statement.{statement}
-use Rattle.bits.proofs.vectors.bvmul.Tie as tie
+use Rattle.operators.proofs.Powers.{cut-again}
+use Rattle.operators.proofs.vectors.bvmul.Statement.{statement}
+use Rattle.operators.proofs.vectors.bvmul.Tie as tie
 
 low-product-requires : tie.Need-low-product-requires
 low-product-requires c κs = search needs

@@ -1,7 +1,7 @@
 use borrow.Author.Needs.{needs}
-use Rattle.bits.proofs.Powers.{neg-zero, neg-more}
-use Rattle.bits.proofs.vectors.bvneg.Statement.{statement}
-use Rattle.bits.proofs.vectors.bvneg.Tie as tie
+use Rattle.operators.proofs.Powers.{neg-zero, neg-more}
+use Rattle.operators.proofs.vectors.bvneg.Statement.{statement}
+use Rattle.operators.proofs.vectors.bvneg.Tie as tie
 
 returns : tie.Need-returns
 returns c = search neg-zero

@@ -1,9 +1,9 @@
 use mathlib.Core.Path.{refl}
 use borrow.Author.Needs.{needs}
 use borrow.Author.Tests.{le-ltb, lt-ltb}
-use Rattle.bits.proofs.Powers.{cut-again}
-use Rattle.bits.proofs.vectors.bvshl.Statement.{statement}
-use Rattle.bits.proofs.vectors.bvshl.Tie as tie
+use Rattle.operators.proofs.Powers.{cut-again}
+use Rattle.operators.proofs.vectors.bvshl.Statement.{statement}
+use Rattle.operators.proofs.vectors.bvshl.Tie as tie
 
 returns : tie.Need-returns
 returns c = simp (le-ltb _ _ (c .if1 .taken))

@@ -1,7 +1,7 @@
 use borrow.Author.Needs.{needs}
-use Rattle.bits.proofs.Powers.{sub-above, sub-below}
-use Rattle.bits.proofs.vectors.bvsub.Statement.{statement}
-use Rattle.bits.proofs.vectors.bvsub.Tie as tie
+use Rattle.operators.proofs.Powers.{sub-above, sub-below}
+use Rattle.operators.proofs.vectors.bvsub.Statement.{statement}
+use Rattle.operators.proofs.vectors.bvsub.Tie as tie
 
 returns : tie.Need-returns
 returns c = search sub-above

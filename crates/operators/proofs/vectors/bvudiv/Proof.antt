@@ -1,7 +1,7 @@
 use borrow.Author.Needs.{needs}
 use borrow.Author.Tests.{eq-eqb, ne-eqb}
-use Rattle.bits.proofs.vectors.bvudiv.Statement.{statement}
-use Rattle.bits.proofs.vectors.bvudiv.Tie as tie
+use Rattle.operators.proofs.vectors.bvudiv.Statement.{statement}
+use Rattle.operators.proofs.vectors.bvudiv.Tie as tie
 
 ones-requires : tie.Need-ones-requires
 ones-requires c κs = search needs

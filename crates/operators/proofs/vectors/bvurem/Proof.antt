@@ -1,7 +1,7 @@
 use borrow.Author.Needs.{needs}
 use borrow.Author.Tests.{eq-eqb, ne-eqb}
-use Rattle.bits.proofs.vectors.bvurem.Statement.{statement}
-use Rattle.bits.proofs.vectors.bvurem.Tie as tie
+use Rattle.operators.proofs.vectors.bvurem.Statement.{statement}
+use Rattle.operators.proofs.vectors.bvurem.Tie as tie
 
 returns : tie.Need-returns
 returns c = simp (eq-eqb _ _ (c .if1 .taken))

@@ -1,7 +1,7 @@
 use borrow.Author.Needs.{needs}
-use Rattle.bits.proofs.Powers.{joined}
-use Rattle.bits.proofs.vectors.concat.Statement.{statement}
-use Rattle.bits.proofs.vectors.concat.Tie as tie
+use Rattle.operators.proofs.Powers.{joined}
+use Rattle.operators.proofs.vectors.concat.Statement.{statement}
+use Rattle.operators.proofs.vectors.concat.Tie as tie
 
 shl-result : tie.Need-shl-result
 shl-result c = search needs

@@ -1,7 +1,7 @@
 use borrow.Author.Needs.{needs}
-use Rattle.bits.proofs.Powers.{masked}
-use Rattle.bits.proofs.vectors.cut.Statement.{statement}
-use Rattle.bits.proofs.vectors.cut.Tie as tie
+use Rattle.operators.proofs.Powers.{masked}
+use Rattle.operators.proofs.vectors.cut.Statement.{statement}
+use Rattle.operators.proofs.vectors.cut.Tie as tie
 
 ones-requires : tie.Need-ones-requires
 ones-requires c κs = search needs

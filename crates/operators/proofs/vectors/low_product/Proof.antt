@@ -1,9 +1,9 @@
 use lib.Bits.{mask-lt}
 use lib.Pow.{shr-lt}
 use borrow.Author.Needs.{needs}
-use Rattle.bits.proofs.Powers.{by-halves, halves-fit}
-use Rattle.bits.proofs.vectors.low_product.Statement.{statement}
-use Rattle.bits.proofs.vectors.low_product.Tie as tie
+use Rattle.operators.proofs.Powers.{by-halves, halves-fit}
+use Rattle.operators.proofs.vectors.low_product.Statement.{statement}
+use Rattle.operators.proofs.vectors.low_product.Tie as tie
 
 mul-wrapping-add-u64 : tie.Need-mul-wrapping-add-u64
 mul-wrapping-add-u64 c = halves-fit (shr-lt 32 32 (c .fits .left .fits)) (mask-lt (c .args .right) 32)

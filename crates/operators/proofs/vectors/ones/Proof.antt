@@ -1,7 +1,7 @@
 use borrow.Author.Needs.{needs}
-use Rattle.bits.proofs.Powers.{ones-law}
-use Rattle.bits.proofs.vectors.ones.Statement.{statement}
-use Rattle.bits.proofs.vectors.ones.Tie as tie
+use Rattle.operators.proofs.Powers.{ones-law}
+use Rattle.operators.proofs.vectors.ones.Statement.{statement}
+use Rattle.operators.proofs.vectors.ones.Tie as tie
 
 sub-result : tie.Need-sub-result
 sub-result c = search needs

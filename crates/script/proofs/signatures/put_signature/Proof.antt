@@ -1,11 +1,11 @@
-use Rattle.naming.specs.Table.{sortsFrom}
+use Rattle.names.specs.code.Table.{sortsFrom}
 use Prim.Native.Nat.{_*_, _-_}
 use mathlib.Core.Path.{_∙_}
 use lib.ListN.{length-set}
 use native.Mathlib.Omega.{arith}
-use Rattle.signatures.proofs.Writing.{Writing, all-written, row-written, sort-written, unwritten}
-use Rattle.signatures.proofs.rows.put_signature.Statement.{statement}
-use Rattle.signatures.proofs.rows.put_signature.Tie as tie
+use Rattle.script.proofs.Writing.{Writing, all-written, row-written, sort-written, unwritten}
+use Rattle.script.proofs.signatures.put_signature.Statement.{statement}
+use Rattle.script.proofs.signatures.put_signature.Tie as tie
 
 abbrev Inv-loop : tie.InvT-loop
 Inv-loop names places₀ row first arguments result at k₀ places k = Writing places₀ names places first arguments at k

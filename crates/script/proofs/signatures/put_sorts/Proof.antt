@@ -1,8 +1,8 @@
 use Prim.Native.Nat.{_-_}
 use native.Mathlib.Omega.{arith}
-use Rattle.signatures.proofs.Sorted.{Sorting, all-sorted, sort-put, sort-signing, unsorted}
-use Rattle.signatures.proofs.rows.put_sorts.Statement.{statement}
-use Rattle.signatures.proofs.rows.put_sorts.Tie as tie
+use Rattle.script.proofs.Sorted.{Sorting, all-sorted, sort-put, sort-signing, unsorted}
+use Rattle.script.proofs.signatures.put_sorts.Statement.{statement}
+use Rattle.script.proofs.signatures.put_sorts.Tie as tie
 
 abbrev Inv-loop : tie.InvT-loop
 Inv-loop names places₀ listed k₀ places k = Sorting names places₀ places listed k

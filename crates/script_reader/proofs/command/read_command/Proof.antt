@@ -1,8 +1,8 @@
-use Rattle.reader.proofs.Reading.{few-after, in-shape, read-misplaced, read-tested, read-uncarried, word-near}
+use Rattle.script_reader.proofs.Reading.{few-after, in-shape, read-misplaced, read-tested, read-uncarried, word-near}
 use native.Mathlib.Omega.{arith}
 use borrow.Author.Needs.{needs}
-use Rattle.reader.proofs.commands.read_command.Statement.{statement}
-use Rattle.reader.proofs.commands.read_command.Tie as tie
+use Rattle.script_reader.proofs.command.read_command.Statement.{statement}
+use Rattle.script_reader.proofs.command.read_command.Tie as tie
 
 not-carried-requires : tie.Need-not-carried-requires
 not-carried-requires c κs = search needs

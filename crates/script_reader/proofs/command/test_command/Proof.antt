@@ -1,10 +1,10 @@
 use native.Mathlib.Omega.{arith}
 use lib.ListN.{length-take}
-use Rattle.script.specs.Tables.{formsPlace}
-use Rattle.reader.proofs.Testing.{constrained, constraining, declared, declaring, defined, defining, others, synthesized, synthesizing}
+use Rattle.script.specs.code.Tables.{formsPlace}
+use Rattle.script_reader.proofs.Testing.{constrained, constraining, declared, declaring, defined, defining, others, synthesized, synthesizing}
 use borrow.Author.Needs.{needs}
-use Rattle.reader.proofs.commands.test_command.Statement.{statement}
-use Rattle.reader.proofs.commands.test_command.Tie as tie
+use Rattle.script_reader.proofs.command.test_command.Statement.{statement}
+use Rattle.script_reader.proofs.command.test_command.Tie as tie
 
 declare-var-requires : tie.Need-declare-var-requires
 declare-var-requires c κs = declaring (c .before .before .before .before .before .before .before .before .pre) (c .before .match .keys1)

@@ -1,9 +1,9 @@
 use mathlib.Core.Bool.{Bool}
 use mathlib.Core.Path.{_∙_, ap, sym}
-use Rattle.reader.specs.Steps.{lastStep}
+use Rattle.script_reader.specs.code.Commands.{lastStep}
 use borrow.Author.Needs.{needs}
-use Rattle.reader.proofs.scripts.end_of_script.Statement.{statement}
-use Rattle.reader.proofs.scripts.end_of_script.Tie as tie
+use Rattle.script_reader.proofs.scripts.end_of_script.Statement.{statement}
+use Rattle.script_reader.proofs.scripts.end_of_script.Tie as tie
 
 answer-requires : tie.Need-answer-requires
 answer-requires c κs = search needs

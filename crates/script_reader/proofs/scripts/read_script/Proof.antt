@@ -1,9 +1,9 @@
 use mathlib.Core.Path.{_∙_}
 use borrow.Author.Needs.{needs}
 use Prim.Native.Nat.{_-_}
-use Rattle.reader.proofs.Walking.{Walk, command-at, walk-end, walk-less, walk-start, walk-stop, walk-turn, walk-word}
-use Rattle.reader.proofs.scripts.read_script.Statement.{statement}
-use Rattle.reader.proofs.scripts.read_script.Tie as tie
+use Rattle.script_reader.proofs.Walking.{Walk, command-at, walk-end, walk-less, walk-start, walk-stop, walk-turn, walk-word}
+use Rattle.script_reader.proofs.scripts.read_script.Statement.{statement}
+use Rattle.script_reader.proofs.scripts.read_script.Tie as tie
 
 abbrev Inv-loop : tie.InvT-loop
 Inv-loop text lexemes names₀ raw₀ places₀ nodes₀ nowhere progress₀ at₀ names raw places nodes progress at =

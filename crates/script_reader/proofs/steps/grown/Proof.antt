@@ -1,7 +1,7 @@
 use native.Mathlib.Omega.{arith}
 use borrow.Author.Needs.{needs}
-use Rattle.reader.proofs.steps.grown.Statement.{statement}
-use Rattle.reader.proofs.steps.grown.Tie as tie
+use Rattle.script_reader.proofs.steps.grown.Statement.{statement}
+use Rattle.script_reader.proofs.steps.grown.Tie as tie
 
 add-result : tie.Need-add-result
 add-result c = let h = rw (c .if1 .taken) at (c .before .pre) in omega arith

@@ -1,6 +1,6 @@
 use borrow.Author.Needs.{needs}
-use Rattle.reader.proofs.steps.said.Statement.{statement}
-use Rattle.reader.proofs.steps.said.Tie as tie
+use Rattle.script_reader.proofs.steps.said.Statement.{statement}
+use Rattle.script_reader.proofs.steps.said.Tie as tie
 
 grown-requires : tie.Need-grown-requires
 grown-requires c κs = search needs

@@ -1,8 +1,8 @@
 use mathlib.Core.Path.{ap, sym, _∙_}
-use Rattle.reader.specs.declared.Step.{Step}
+use Rattle.script_reader.specs.declared.Step.{Step}
 use borrow.Author.Needs.{needs}
-use Rattle.reader.proofs.steps.step_by.Statement.{statement}
-use Rattle.reader.proofs.steps.step_by.Tie as tie
+use Rattle.script_reader.proofs.steps.step_by.Statement.{statement}
+use Rattle.script_reader.proofs.steps.step_by.Tie as tie
 
 answer-requires : tie.Need-answer-requires
 answer-requires c κs = search needs

@@ -1,10 +1,10 @@
 use Rattle.lexemes.proofs.Pending.{DownAny, list-given}
-use Rattle.carrying.proofs.Walks.{Uncarried, uncarried-begin, uncarried-end, uncarried-enter, uncarried-found, uncarried-word}
+use Rattle.shapes.proofs.CarriedWalks.{Uncarried, uncarried-begin, uncarried-end, uncarried-enter, uncarried-found, uncarried-word}
 use Prim.Native.Nat.{_-_}
 use borrow.Author.Needs.{needs}
 use native.Mathlib.Omega.{arith}
-use Rattle.carrying.proofs.any_uncarried.Statement.{statement}
-use Rattle.carrying.proofs.any_uncarried.Tie as tie
+use Rattle.shapes.proofs.carried.any_uncarried.Statement.{statement}
+use Rattle.shapes.proofs.carried.any_uncarried.Tie as tie
 
 abbrev Inv-loop : tie.InvT-loop
 Inv-loop lexemes first end at₀ at = DownAny lexemes first end at Uncarried

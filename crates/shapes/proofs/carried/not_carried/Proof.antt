@@ -1,9 +1,9 @@
-use Rattle.carrying.proofs.Choosing.{carried-command, other-list, uncarried-command}
+use Rattle.shapes.proofs.CarriedChoosing.{carried-command, other-list, uncarried-command}
 use Rattle.lexemes.proofs.Listed.{as-item, between, item-ahead, list-room}
 use native.Mathlib.Omega.{arith}
 use borrow.Author.Needs.{needs}
-use Rattle.carrying.proofs.not_carried.Statement.{statement}
-use Rattle.carrying.proofs.not_carried.Tie as tie
+use Rattle.shapes.proofs.carried.not_carried.Statement.{statement}
+use Rattle.shapes.proofs.carried.not_carried.Tie as tie
 
 add-code-at : tie.Need-add-code-at
 add-code-at c = omega (arith, list-room (c .before .pre))

@@ -1,9 +1,9 @@
-use Rattle.carrying.proofs.Tests.{logic-test, no-logic-test}
+use Rattle.shapes.proofs.CarriedTests.{logic-test, no-logic-test}
 use Rattle.lexemes.proofs.Listed.{list-room}
 use native.Mathlib.Omega.{arith}
 use borrow.Author.Needs.{needs}
-use Rattle.carrying.proofs.other_logic.Statement.{statement}
-use Rattle.carrying.proofs.other_logic.Tie as tie
+use Rattle.shapes.proofs.carried.other_logic.Statement.{statement}
+use Rattle.shapes.proofs.carried.other_logic.Tie as tie
 
 add-code-at : tie.Need-add-code-at
 add-code-at c = omega (arith, list-room (c .before .pre))

@@ -1,9 +1,9 @@
-use Rattle.carrying.proofs.Tests.{start-test}
+use Rattle.shapes.proofs.CarriedTests.{start-test}
 use Rattle.lexemes.proofs.Listed.{list-room}
 use native.Mathlib.Omega.{arith}
 use borrow.Author.Needs.{needs}
-use Rattle.carrying.proofs.uncarried_start.Statement.{statement}
-use Rattle.carrying.proofs.uncarried_start.Tie as tie
+use Rattle.shapes.proofs.carried.uncarried_start.Statement.{statement}
+use Rattle.shapes.proofs.carried.uncarried_start.Tie as tie
 
 add-code-at : tie.Need-add-code-at
 add-code-at c = omega (arith, list-room (c .before .pre))

@@ -1,9 +1,9 @@
-use Rattle.sorts.proofs.Commands.{header}
-use Rattle.synthesizing.proofs.Small.{synth-at}
-use Rattle.synthesizing.proofs.Testing.{found-then, full-refused, gathering-here, grammar-at, limit-refused}
+use Rattle.written_sorts.proofs.Commands.{header}
+use Rattle.synth_fun.proofs.Small.{synth-at}
+use Rattle.synth_fun.proofs.Testing.{found-then, full-refused, gathering-here, grammar-at, limit-refused}
 use borrow.Author.Needs.{needs}
-use Rattle.synthesizing.proofs.command.synth_fun.Statement.{statement}
-use Rattle.synthesizing.proofs.command.synth_fun.Tie as tie
+use Rattle.synth_fun.proofs.command.synth_fun.Statement.{statement}
+use Rattle.synth_fun.proofs.command.synth_fun.Tie as tie
 
 returns : tie.Need-returns
 returns c = λ d. full-refused d (c .if1 .taken)

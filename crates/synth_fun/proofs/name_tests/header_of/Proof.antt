@@ -1,10 +1,10 @@
-use Rattle.synthesizing.proofs.Headers.{declared-ahead, declared-between, declared-room, first-ahead, first-between, first-room, header-counted}
-use Rattle.synthesizing.proofs.Headers.{sort-here}
+use Rattle.synth_fun.proofs.Headers.{declared-ahead, declared-between, declared-room, first-ahead, first-between, first-room, header-counted}
+use Rattle.synth_fun.proofs.Headers.{sort-here}
 use Rattle.lexemes.proofs.Listed.{list-room}
 use native.Mathlib.Omega.{arith}
 use borrow.Author.Needs.{needs}
-use Rattle.synthesizing.proofs.name_tests.header_of.Statement.{statement}
-use Rattle.synthesizing.proofs.name_tests.header_of.Tie as tie
+use Rattle.synth_fun.proofs.name_tests.header_of.Statement.{statement}
+use Rattle.synth_fun.proofs.name_tests.header_of.Tie as tie
 
 add-next-at : tie.Need-add-next-at
 add-next-at c = omega (arith, list-room (c .before .pre .here))

@@ -1,7 +1,7 @@
-use Rattle.synthesizing.proofs.Naming.{grammar-here, head-here, names-found}
+use Rattle.synth_fun.proofs.Naming.{grammar-here, head-here, names-found}
 use borrow.Author.Needs.{needs}
-use Rattle.synthesizing.proofs.name_tests.names_place.Statement.{statement}
-use Rattle.synthesizing.proofs.name_tests.names_place.Tie as tie
+use Rattle.synth_fun.proofs.name_tests.names_place.Statement.{statement}
+use Rattle.synth_fun.proofs.name_tests.names_place.Tie as tie
 
 mul-t14 : tie.Need-mul-t14
 mul-t14 c = search needs

@@ -1,8 +1,8 @@
-use Rattle.synthesizing.proofs.Small.{synth-at}
-use Rattle.synthesizing.proofs.Testing.{names-refused, unnamed-here, unsorted-here}
+use Rattle.synth_fun.proofs.Small.{synth-at}
+use Rattle.synth_fun.proofs.Testing.{names-refused, unnamed-here, unsorted-here}
 use borrow.Author.Needs.{needs}
-use Rattle.synthesizing.proofs.name_tests.names_tested.Statement.{statement}
-use Rattle.synthesizing.proofs.name_tests.names_tested.Tie as tie
+use Rattle.synth_fun.proofs.name_tests.names_tested.Statement.{statement}
+use Rattle.synth_fun.proofs.name_tests.names_tested.Tie as tie
 
 header-of-requires : tie.Need-header-of-requires
 header-of-requires c κs =

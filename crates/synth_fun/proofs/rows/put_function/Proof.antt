@@ -1,7 +1,7 @@
-use Rattle.synthesizing.proofs.Putting.{put-done}
+use Rattle.synth_fun.proofs.Putting.{put-done}
 use borrow.Author.Needs.{needs}
-use Rattle.synthesizing.proofs.rows.put_function.Statement.{statement}
-use Rattle.synthesizing.proofs.rows.put_function.Tie as tie
+use Rattle.synth_fun.proofs.rows.put_function.Statement.{statement}
+use Rattle.synth_fun.proofs.rows.put_function.Tie as tie
 
 add-put-signature : tie.Need-add-put-signature
 add-put-signature c = search needs

@@ -1,10 +1,10 @@
 use Prim.Native.Nat.{_+_, _*_}
-use Rattle.synthesizing.proofs.Putting.{four-written}
+use Rattle.synth_fun.proofs.Putting.{four-written}
 use lib.ListN.{length-set}
 use native.Mathlib.Omega.{arith}
 use borrow.Author.Needs.{needs}
-use Rattle.synthesizing.proofs.rows.put_numbers.Statement.{statement}
-use Rattle.synthesizing.proofs.rows.put_numbers.Tie as tie
+use Rattle.synth_fun.proofs.rows.put_numbers.Statement.{statement}
+use Rattle.synth_fun.proofs.rows.put_numbers.Tie as tie
 
 mul-at : tie.Need-mul-at
 mul-at c = search needs

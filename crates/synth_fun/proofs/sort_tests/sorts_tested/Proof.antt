@@ -1,10 +1,10 @@
 use native.Mathlib.Omega.{arith}
-use Rattle.synthesizing.proofs.Sorting.{forms-start, header-at, lists-here, listing-here, rules-here, rules-start, sorting-here}
-use Rattle.synthesizing.proofs.Holding.{putting-here}
-use Rattle.synthesizing.proofs.Passing.{all-passed, rules-refused, sorts-refused}
+use Rattle.synth_fun.proofs.Sorting.{forms-start, header-at, lists-here, listing-here, rules-here, rules-start, sorting-here}
+use Rattle.synth_fun.proofs.Holding.{putting-here}
+use Rattle.synth_fun.proofs.Passing.{all-passed, rules-refused, sorts-refused}
 use borrow.Author.Needs.{needs}
-use Rattle.synthesizing.proofs.sort_tests.sorts_tested.Statement.{statement}
-use Rattle.synthesizing.proofs.sort_tests.sorts_tested.Tie as tie
+use Rattle.synth_fun.proofs.sort_tests.sorts_tested.Statement.{statement}
+use Rattle.synth_fun.proofs.sort_tests.sorts_tested.Tie as tie
 
 mul-base : tie.Need-mul-base
 mul-base c =

@@ -1,7 +1,7 @@
-use Rattle.faults.proofs.Parts.{body-root, part-found, whole-found}
+use Rattle.term_faults.proofs.Parts.{body-root, part-found, whole-found}
 use borrow.Author.Needs.{needs}
-use Rattle.faults.proofs.bodies.body_fault.Statement.{statement}
-use Rattle.faults.proofs.bodies.body_fault.Tie as tie
+use Rattle.term_faults.proofs.bodies.body_fault.Statement.{statement}
+use Rattle.term_faults.proofs.bodies.body_fault.Tie as tie
 
 fault-word-requires : tie.Need-fault-word-requires
 fault-word-requires c κs = search needs

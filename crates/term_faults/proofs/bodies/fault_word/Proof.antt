@@ -1,7 +1,7 @@
-use Rattle.faults.proofs.Seeking.{filling, node-found, none-found}
+use Rattle.term_faults.proofs.Seeking.{filling, node-found, none-found}
 use borrow.Author.Needs.{needs}
-use Rattle.faults.proofs.bodies.fault_word.Statement.{statement}
-use Rattle.faults.proofs.bodies.fault_word.Tie as tie
+use Rattle.term_faults.proofs.bodies.fault_word.Statement.{statement}
+use Rattle.term_faults.proofs.bodies.fault_word.Tie as tie
 
 fill-sorts-requires : tie.Need-fill-sorts-requires
 fill-sorts-requires c κs = search filling

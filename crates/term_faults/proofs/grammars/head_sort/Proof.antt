@@ -1,7 +1,7 @@
-use Rattle.faults.proofs.Heading.{head-gone, head-past, head-there}
+use Rattle.term_faults.proofs.Heading.{head-gone, head-past, head-there}
 use borrow.Author.Needs.{needs}
-use Rattle.faults.proofs.grammars.head_sort.Statement.{statement}
-use Rattle.faults.proofs.grammars.head_sort.Tie as tie
+use Rattle.term_faults.proofs.grammars.head_sort.Statement.{statement}
+use Rattle.term_faults.proofs.grammars.head_sort.Tie as tie
 
 returns : tie.Need-returns
 returns c = search head-past

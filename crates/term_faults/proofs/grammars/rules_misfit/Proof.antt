@@ -1,10 +1,10 @@
 use mathlib.Core.Path.{refl}
-use Rattle.faults.proofs.Passing.{Passing, heads, passing-begins, passing-ends, passing-goes, root-here}
+use Rattle.term_faults.proofs.Passing.{Passing, heads, passing-begins, passing-ends, passing-goes, root-here}
 use borrow.Author.Needs.{needs}
 use native.Mathlib.Omega.{arith}
 use Prim.Native.Nat.{_-_}
-use Rattle.faults.proofs.grammars.rules_misfit.Statement.{statement}
-use Rattle.faults.proofs.grammars.rules_misfit.Tie as tie
+use Rattle.term_faults.proofs.grammars.rules_misfit.Statement.{statement}
+use Rattle.term_faults.proofs.grammars.rules_misfit.Tie as tie
 
 abbrev Inv-loop : tie.InvT-loop
 Inv-loop raw rules signatures column count listed nowhere place₀ rule₀ place rule = Passing raw rules signatures column count listed nowhere place rule

@@ -1,8 +1,8 @@
-use Rattle.faults.proofs.Rooted.{root-fits, root-misfits, root-within}
+use Rattle.term_faults.proofs.Rooted.{root-fits, root-misfits, root-within}
 use native.Mathlib.Omega.{arith}
 use borrow.Author.Needs.{needs}
-use Rattle.faults.proofs.roots.root_misfit.Statement.{statement}
-use Rattle.faults.proofs.roots.root_misfit.Tie as tie
+use Rattle.term_faults.proofs.roots.root_misfit.Statement.{statement}
+use Rattle.term_faults.proofs.roots.root_misfit.Tie as tie
 
 mul-if1 : tie.Need-mul-if1
 mul-if1 c = omega (arith, root-within (c .before .before .pre))

@@ -1,8 +1,8 @@
-use Rattle.gathering.proofs.RuleNodes.{pattern-gathered, row-room, rule-gathered, rule-room, rule-terms}
+use Rattle.term_nodes.proofs.RuleNodes.{pattern-gathered, row-room, rule-gathered, rule-room, rule-terms}
 use native.Mathlib.Omega.{arith}
 use borrow.Author.Needs.{needs}
-use Rattle.gathering.proofs.gather.gather_rule.Statement.{statement}
-use Rattle.gathering.proofs.gather.gather_rule.Tie as tie
+use Rattle.term_nodes.proofs.gather.gather_rule.Statement.{statement}
+use Rattle.term_nodes.proofs.gather.gather_rule.Tie as tie
 
 is-pattern-requires : tie.Need-is-pattern-requires
 is-pattern-requires c κs = search needs

@@ -1,9 +1,9 @@
-use Rattle.gathering.proofs.Walk.{Walk, walk-ahead, walk-begins, walk-closes, walk-ends, walk-goes, walk-term}
+use Rattle.term_nodes.proofs.Walk.{Walk, walk-ahead, walk-begins, walk-closes, walk-ends, walk-goes, walk-term}
 use Prim.Native.Nat.{_-_}
 use native.Mathlib.Omega.{arith}
 use borrow.Author.Needs.{needs}
-use Rattle.gathering.proofs.gather.gather_terms.Statement.{statement}
-use Rattle.gathering.proofs.gather.gather_terms.Tie as tie
+use Rattle.term_nodes.proofs.gather.gather_terms.Statement.{statement}
+use Rattle.term_nodes.proofs.gather.gather_terms.Tie as tie
 
 abbrev Inv-loop : tie.InvT-loop
 Inv-loop lexemes first end raw₀ node at₀ next₀ raw at next = Walk lexemes first end raw₀ node raw at next

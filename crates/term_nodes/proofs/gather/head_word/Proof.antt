@@ -1,8 +1,8 @@
-use Rattle.gathering.proofs.TermsAt.{head-alone, head-is-cut, head-is-symbol, head-of-word, term-room}
+use Rattle.term_nodes.proofs.TermsAt.{head-alone, head-is-cut, head-is-symbol, head-of-word, term-room}
 use native.Mathlib.Omega.{arith}
 use borrow.Author.Needs.{needs}
-use Rattle.gathering.proofs.gather.head_word.Statement.{statement}
-use Rattle.gathering.proofs.gather.head_word.Tie as tie
+use Rattle.term_nodes.proofs.gather.head_word.Statement.{statement}
+use Rattle.term_nodes.proofs.gather.head_word.Tie as tie
 
 code-at-requires : tie.Need-code-at-requires
 code-at-requires c κs = search needs

@@ -1,8 +1,8 @@
-use Rattle.gathering.proofs.TermsAt.{close-before, operands-alone, operands-between, operands-counted, operands-of-word, term-room}
+use Rattle.term_nodes.proofs.TermsAt.{close-before, operands-alone, operands-between, operands-counted, operands-of-word, term-room}
 use native.Mathlib.Omega.{arith}
 use borrow.Author.Needs.{needs}
-use Rattle.gathering.proofs.gather.operand_count.Statement.{statement}
-use Rattle.gathering.proofs.gather.operand_count.Tie as tie
+use Rattle.term_nodes.proofs.gather.operand_count.Statement.{statement}
+use Rattle.term_nodes.proofs.gather.operand_count.Tie as tie
 
 code-at-requires : tie.Need-code-at-requires
 code-at-requires c κs = search needs

@@ -1,10 +1,10 @@
 use Prim.Native.Nat.{_*_}
-use Rattle.gathering.proofs.NodeRows.{row-written}
+use Rattle.term_nodes.proofs.NodeRows.{row-written}
 use lib.ListN.{length-set}
 use native.Mathlib.Omega.{arith}
 use borrow.Author.Needs.{needs}
-use Rattle.gathering.proofs.gather.put_node.Statement.{statement}
-use Rattle.gathering.proofs.gather.put_node.Tie as tie
+use Rattle.term_nodes.proofs.gather.put_node.Statement.{statement}
+use Rattle.term_nodes.proofs.gather.put_node.Tie as tie
 
 mul-row : tie.Need-mul-row
 mul-row c = search needs

@@ -1,10 +1,10 @@
 use mathlib.Core.Logic.{⊎-elim}
 use native.Mathlib.Omega.{arith}
 use Prim.Native.Nat.{_-_}
-use Rattle.gathering.proofs.PastLimit.{Seeking, seek-begins, seek-counts, seek-ends, seek-finds, seek-skips}
+use Rattle.term_nodes.proofs.PastLimit.{Seeking, seek-begins, seek-counts, seek-ends, seek-finds, seek-skips}
 use borrow.Author.Needs.{needs}
-use Rattle.gathering.proofs.limits.node_past.Statement.{statement}
-use Rattle.gathering.proofs.limits.node_past.Tie as tie
+use Rattle.term_nodes.proofs.limits.node_past.Statement.{statement}
+use Rattle.term_nodes.proofs.limits.node_past.Tie as tie
 
 abbrev Inv-loop : tie.InvT-loop
 Inv-loop lexemes raw first end most nowhere node₀ counted₀ node counted = Seeking lexemes raw first end most nowhere node counted

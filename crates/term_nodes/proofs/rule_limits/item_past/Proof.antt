@@ -1,7 +1,7 @@
-use Rattle.rules.proofs.Past.{none-found, past-found}
+use Rattle.term_nodes.proofs.Past.{none-found, past-found}
 use borrow.Author.Needs.{needs}
-use Rattle.rules.proofs.limits.item_past.Statement.{statement}
-use Rattle.rules.proofs.limits.item_past.Tie as tie
+use Rattle.term_nodes.proofs.rule_limits.item_past.Statement.{statement}
+use Rattle.term_nodes.proofs.rule_limits.item_past.Tie as tie
 
 item-at-requires : tie.Need-item-at-requires
 item-at-requires c κs = search needs

@@ -1,10 +1,10 @@
 use Prim.Native.Nat.{_-_}
 use Rattle.lexemes.proofs.Along.{along-less}
-use Rattle.rules.proofs.Onward.{raw-kept, rules-kept}
-use Rattle.rules.proofs.RuleLoop.{RulesTo, rule-next, rules-end, rules-start, rules-turn}
+use Rattle.term_nodes.proofs.Onward.{raw-kept, rules-kept}
+use Rattle.term_nodes.proofs.RuleLoop.{RulesTo, rule-next, rules-end, rules-start, rules-turn}
 use borrow.Author.Needs.{needs}
-use Rattle.rules.proofs.gather.gather_group.Statement.{statement}
-use Rattle.rules.proofs.gather.gather_group.Tie as tie
+use Rattle.term_nodes.proofs.rules.gather_group.Statement.{statement}
+use Rattle.term_nodes.proofs.rules.gather_group.Tie as tie
 
 abbrev Inv-loop : tie.InvT-loop
 Inv-loop lexemes first close head raw₀ rules₀ most nodes nowhere found₀ at₀ raw rules found at =

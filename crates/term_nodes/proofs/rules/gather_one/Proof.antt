@@ -1,7 +1,7 @@
-use Rattle.rules.proofs.OneRule.{nodes-here, rule-behind, rule-here, rule-past, rule-put}
+use Rattle.term_nodes.proofs.OneRule.{nodes-here, rule-behind, rule-here, rule-past, rule-put}
 use borrow.Author.Needs.{needs}
-use Rattle.rules.proofs.gather.gather_one.Statement.{statement}
-use Rattle.rules.proofs.gather.gather_one.Tie as tie
+use Rattle.term_nodes.proofs.rules.gather_one.Statement.{statement}
+use Rattle.term_nodes.proofs.rules.gather_one.Tie as tie
 
 gather-rule-requires : tie.Need-gather-rule-requires
 gather-rule-requires c κs = search rule-here

@@ -1,11 +1,11 @@
 use Prim.Native.Nat.{_-_, _≤_}
 use native.Mathlib.Omega.{arith}
 use Rattle.lexemes.proofs.Along.{along-less, along-room}
-use Rattle.rules.proofs.Onward.{raw-kept, rules-kept}
-use Rattle.rules.proofs.GroupLoop.{GroupsTo, group-next, groups-end, groups-start, groups-turn, heads-few, list-closes, list-room}
+use Rattle.term_nodes.proofs.Onward.{raw-kept, rules-kept}
+use Rattle.term_nodes.proofs.GroupLoop.{GroupsTo, group-next, groups-end, groups-start, groups-turn, heads-few, list-closes, list-room}
 use borrow.Author.Needs.{needs}
-use Rattle.rules.proofs.gather.gather_rules.Statement.{statement}
-use Rattle.rules.proofs.gather.gather_rules.Tie as tie
+use Rattle.term_nodes.proofs.rules.gather_rules.Statement.{statement}
+use Rattle.term_nodes.proofs.rules.gather_rules.Tie as tie
 
 abbrev Inv-loop : tie.InvT-loop
 Inv-loop lexemes first close raw₀ rules₀ most nodes nowhere found₀ head₀ at₀ raw rules found head at =

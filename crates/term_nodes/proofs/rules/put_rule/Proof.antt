@@ -1,10 +1,10 @@
 use Prim.Native.Nat.{_*_}
-use Rattle.rules.proofs.OneRule.{pair-written}
+use Rattle.term_nodes.proofs.OneRule.{pair-written}
 use lib.ListN.{length-set}
 use native.Mathlib.Omega.{arith}
 use borrow.Author.Needs.{needs}
-use Rattle.rules.proofs.gather.put_rule.Statement.{statement}
-use Rattle.rules.proofs.gather.put_rule.Tie as tie
+use Rattle.term_nodes.proofs.rules.put_rule.Statement.{statement}
+use Rattle.term_nodes.proofs.rules.put_rule.Tie as tie
 
 mul-row : tie.Need-mul-row
 mul-row c = search needs

@@ -1,8 +1,8 @@
 use native.Mathlib.Omega.{arith}
-use Rattle.gathering.proofs.Counting.{Sweep, sweep-asks, sweep-begins, sweep-ends, sweep-goes, sweep-less}
+use Rattle.term_nodes.proofs.Counting.{Sweep, sweep-asks, sweep-begins, sweep-ends, sweep-goes, sweep-less}
 use borrow.Author.Needs.{needs}
-use Rattle.gathering.proofs.sizes.count_nodes.Statement.{statement}
-use Rattle.gathering.proofs.sizes.count_nodes.Tie as tie
+use Rattle.term_nodes.proofs.sizes.count_nodes.Statement.{statement}
+use Rattle.term_nodes.proofs.sizes.count_nodes.Tie as tie
 
 abbrev Inv-loop : tie.InvT-loop
 Inv-loop raw₀ count node₀ raw node = Sweep raw₀ count raw node

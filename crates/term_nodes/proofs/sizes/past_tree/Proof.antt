@@ -1,9 +1,9 @@
 use native.Mathlib.Omega.{arith}
 use Prim.Native.Nat.{_-_}
-use Rattle.gathering.proofs.Counting.{Passes, node-fits, passes-begins, passes-ends, passes-goes, step-fits}
+use Rattle.term_nodes.proofs.Counting.{Passes, node-fits, passes-begins, passes-ends, passes-goes, step-fits}
 use borrow.Author.Needs.{needs}
-use Rattle.gathering.proofs.sizes.past_tree.Statement.{statement}
-use Rattle.gathering.proofs.sizes.past_tree.Tie as tie
+use Rattle.term_nodes.proofs.sizes.past_tree.Statement.{statement}
+use Rattle.term_nodes.proofs.sizes.past_tree.Tie as tie
 
 abbrev Inv-loop : tie.InvT-loop
 Inv-loop raw node operands next₀ passed₀ next passed = Passes raw node next passed

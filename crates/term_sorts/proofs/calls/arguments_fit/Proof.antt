@@ -1,9 +1,9 @@
-use Rattle.sorting.proofs.Arguments.{Fitting, fitting-begins, fitting-ends, fitting-fails, fitting-few, fitting-goes, fitting-room, fitting-some}
+use Rattle.term_sorts.proofs.Arguments.{Fitting, fitting-begins, fitting-ends, fitting-fails, fitting-few, fitting-goes, fitting-room, fitting-some}
 use borrow.Author.Needs.{needs}
 use Prim.Native.Nat.{_-_}
 use native.Mathlib.Omega.{arith}
-use Rattle.sorting.proofs.calls.arguments_fit.Statement.{statement}
-use Rattle.sorting.proofs.calls.arguments_fit.Tie as tie
+use Rattle.term_sorts.proofs.calls.arguments_fit.Statement.{statement}
+use Rattle.term_sorts.proofs.calls.arguments_fit.Tie as tie
 
 abbrev Inv-loop : tie.InvT-loop
 Inv-loop forms signatures column place count row here₀ argument₀ here argument = Fitting forms signatures column place count row here argument

@@ -1,7 +1,7 @@
-use Rattle.sorting.proofs.Arguments.{called-fails, called-gives, fully-called}
+use Rattle.term_sorts.proofs.Arguments.{called-fails, called-gives, fully-called}
 use borrow.Author.Needs.{needs}
-use Rattle.sorting.proofs.calls.called_sort.Statement.{statement}
-use Rattle.sorting.proofs.calls.called_sort.Tie as tie
+use Rattle.term_sorts.proofs.calls.called_sort.Statement.{statement}
+use Rattle.term_sorts.proofs.calls.called_sort.Tie as tie
 
 signature-at-requires : tie.Need-signature-at-requires
 signature-at-requires c κs = search needs

@@ -1,10 +1,10 @@
 use Rattle.forest.proofs.Rows.{past}
-use Rattle.forest.specs.Rows.{numberAt}
+use Rattle.forest.specs.code.Rows.{numberAt}
 use mathlib.Core.Path.{refl}
 use native.Mathlib.Omega.{arith}
 use borrow.Author.Needs.{needs}
-use Rattle.sorting.proofs.calls.signature_at.Statement.{statement}
-use Rattle.sorting.proofs.calls.signature_at.Tie as tie
+use Rattle.term_sorts.proofs.calls.signature_at.Statement.{statement}
+use Rattle.term_sorts.proofs.calls.signature_at.Tie as tie
 
 mul-index : tie.Need-mul-index
 mul-index c = search needs

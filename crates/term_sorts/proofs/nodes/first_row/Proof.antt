@@ -1,6 +1,6 @@
 use borrow.Author.Tests.{eq-eqb, ne-eqb}
-use Rattle.sorting.proofs.nodes.first_row.Statement.{statement}
-use Rattle.sorting.proofs.nodes.first_row.Tie as tie
+use Rattle.term_sorts.proofs.nodes.first_row.Statement.{statement}
+use Rattle.term_sorts.proofs.nodes.first_row.Tie as tie
 
 returns : tie.Need-returns
 returns c = rw (eq-eqb _ 4 (c .if1 .taken))

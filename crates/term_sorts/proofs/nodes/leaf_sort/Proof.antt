@@ -1,6 +1,6 @@
 use borrow.Author.Tests.{eq-eqb, ne-eqb}
-use Rattle.sorting.proofs.nodes.leaf_sort.Statement.{statement}
-use Rattle.sorting.proofs.nodes.leaf_sort.Tie as tie
+use Rattle.term_sorts.proofs.nodes.leaf_sort.Statement.{statement}
+use Rattle.term_sorts.proofs.nodes.leaf_sort.Tie as tie
 
 returns : tie.Need-returns
 returns c = rw (eq-eqb _ 0 (c .if1 .taken))

@@ -1,8 +1,8 @@
-use Rattle.sorting.proofs.NodeSorts.{call-ready, called-node, leaf-node, leaf-small, node-fails, operator-node, operands-ready, row-low}
+use Rattle.term_sorts.proofs.NodeSorts.{call-ready, called-node, leaf-node, leaf-small, node-fails, operator-node, operands-ready, row-low}
 use native.Mathlib.Omega.{arith}
 use borrow.Author.Needs.{needs}
-use Rattle.sorting.proofs.nodes.node_sort.Statement.{statement}
-use Rattle.sorting.proofs.nodes.node_sort.Tie as tie
+use Rattle.term_sorts.proofs.nodes.node_sort.Statement.{statement}
+use Rattle.term_sorts.proofs.nodes.node_sort.Tie as tie
 
 returns : tie.Need-returns
 returns c = search node-fails

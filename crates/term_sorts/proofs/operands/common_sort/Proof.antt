@@ -1,8 +1,8 @@
-use Rattle.sorting.proofs.Commons.{Agreeing, agreeing-begins, agreeing-ends, agreeing-fails, agreeing-goes, agreeing-room}
+use Rattle.term_sorts.proofs.Commons.{Agreeing, agreeing-begins, agreeing-ends, agreeing-fails, agreeing-goes, agreeing-room}
 use borrow.Author.Needs.{needs}
 use native.Mathlib.Omega.{arith}
-use Rattle.sorting.proofs.operands.common_sort.Statement.{statement}
-use Rattle.sorting.proofs.operands.common_sort.Tie as tie
+use Rattle.term_sorts.proofs.operands.common_sort.Statement.{statement}
+use Rattle.term_sorts.proofs.operands.common_sort.Tie as tie
 
 abbrev Inv-loop : tie.InvT-loop
 Inv-loop forms column place count sort here₀ left₀ here left = Agreeing forms column place count sort here left

@@ -1,8 +1,8 @@
-use Rattle.sorting.proofs.Wholes.{Undecided, undecided-begins, undecided-ends, undecided-fails, undecided-goes, undecided-room}
+use Rattle.term_sorts.proofs.Wholes.{Undecided, undecided-begins, undecided-ends, undecided-fails, undecided-goes, undecided-room}
 use borrow.Author.Needs.{needs}
 use native.Mathlib.Omega.{arith}
-use Rattle.sorting.proofs.operands.operands_sorted.Statement.{statement}
-use Rattle.sorting.proofs.operands.operands_sorted.Tie as tie
+use Rattle.term_sorts.proofs.operands.operands_sorted.Statement.{statement}
+use Rattle.term_sorts.proofs.operands.operands_sorted.Tie as tie
 
 abbrev Inv-loop : tie.InvT-loop
 Inv-loop forms column place count here₀ left₀ here left = Undecided forms column place count here left

@@ -2,8 +2,8 @@ use lib.ListN.{List·getD-eq-default}
 use mathlib.Core.Path.{sym}
 use native.Mathlib.Omega.{arith}
 use borrow.Author.Needs.{needs}
-use Rattle.sorting.proofs.operands.sort_at.Statement.{statement}
-use Rattle.sorting.proofs.operands.sort_at.Tie as tie
+use Rattle.term_sorts.proofs.operands.sort_at.Statement.{statement}
+use Rattle.term_sorts.proofs.operands.sort_at.Tie as tie
 
 mul-result : tie.Need-mul-result
 mul-result c = search needs

@@ -2,8 +2,8 @@ use borrow.Author.Tests.{le-leb, le-ltb, lt-leb, lt-ltb}
 use mathlib.Core.Bool.{and-false}
 use native.Mathlib.Omega.{arith}
 use borrow.Author.Needs.{needs}
-use Rattle.sorting.proofs.rules.cut_sort.Statement.{statement}
-use Rattle.sorting.proofs.rules.cut_sort.Tie as tie
+use Rattle.term_sorts.proofs.rules.cut_sort.Statement.{statement}
+use Rattle.term_sorts.proofs.rules.cut_sort.Tie as tie
 
 returns : tie.Need-returns
 returns c = rw (lt-leb _ _ (c .if1 .taken))

@@ -1,8 +1,8 @@
-use Rattle.sorting.proofs.RuleSorts.{joined-fits, joined-wide}
+use Rattle.term_sorts.proofs.RuleSorts.{joined-fits, joined-wide}
 use native.Mathlib.Omega.{arith}
 use borrow.Author.Needs.{needs}
-use Rattle.sorting.proofs.rules.joined_sort.Statement.{statement}
-use Rattle.sorting.proofs.rules.joined_sort.Tie as tie
+use Rattle.term_sorts.proofs.rules.joined_sort.Statement.{statement}
+use Rattle.term_sorts.proofs.rules.joined_sort.Tie as tie
 
 returns : tie.Need-returns
 returns c = joined-wide (c .before .args .first) (c .before .args .second) (omega arith)

@@ -1,7 +1,7 @@
-use Rattle.sorting.proofs.OperatorSorts.{operator-fails, operator-gives, rule-asked}
+use Rattle.term_sorts.proofs.OperatorSorts.{operator-fails, operator-gives, rule-asked}
 use borrow.Author.Needs.{needs}
-use Rattle.sorting.proofs.rules.operator_sort.Statement.{statement}
-use Rattle.sorting.proofs.rules.operator_sort.Tie as tie
+use Rattle.term_sorts.proofs.rules.operator_sort.Statement.{statement}
+use Rattle.term_sorts.proofs.rules.operator_sort.Tie as tie
 
 operands-of-requires : tie.Need-operands-of-requires
 operands-of-requires c κs = search needs

@@ -1,9 +1,9 @@
-use Rattle.sorting.proofs.RuleSorts.{all-operands, choice-gives, cutting-gives, equality-gives, first-room, first-there, joining-gives, logic-gives, order-gives, other-operands, second-there, width-gives}
+use Rattle.term_sorts.proofs.RuleSorts.{all-operands, choice-gives, cutting-gives, equality-gives, first-room, first-there, joining-gives, logic-gives, order-gives, other-operands, second-there, width-gives}
 use mathlib.Core.Path.{refl}
 use native.Mathlib.Omega.{arith}
 use borrow.Author.Needs.{needs}
-use Rattle.sorting.proofs.rules.rule_sort.Statement.{statement}
-use Rattle.sorting.proofs.rules.rule_sort.Tie as tie
+use Rattle.term_sorts.proofs.rules.rule_sort.Statement.{statement}
+use Rattle.term_sorts.proofs.rules.rule_sort.Tie as tie
 
 sort-at-requires : tie.Need-sort-at-requires
 sort-at-requires c κs = search needs

@@ -1,7 +1,7 @@
 use Prim.Native.Nat.{_≤_, _-_}
 use borrow.Author.Needs.{needs}
-use Rattle.reporting.proofs.area.lists_in.Statement.{statement}
-use Rattle.reporting.proofs.area.lists_in.Tie as tie
+use Rattle.test_report.proofs.area.lists_in.Statement.{statement}
+use Rattle.test_report.proofs.area.lists_in.Tie as tie
 
 abbrev Inv-loop : tie.InvT-loop
 Inv-loop area k₀ k = k ≤ 8

@@ -1,7 +1,7 @@
 use Prim.Native.Nat.{_≤_, _-_}
 use borrow.Author.Needs.{needs}
-use Rattle.reporting.proofs.area.rest_unused.Statement.{statement}
-use Rattle.reporting.proofs.area.rest_unused.Tie as tie
+use Rattle.test_report.proofs.area.rest_unused.Statement.{statement}
+use Rattle.test_report.proofs.area.rest_unused.Tie as tie
 
 abbrev Inv-loop : tie.InvT-loop
 Inv-loop area count k₀ k = k ≤ count

@@ -1,7 +1,7 @@
 use Prim.Native.Nat.{_≤_, _-_}
 use borrow.Author.Needs.{needs}
-use Rattle.reporting.proofs.area.write_list.Statement.{statement}
-use Rattle.reporting.proofs.area.write_list.Tie as tie
+use Rattle.test_report.proofs.area.write_list.Statement.{statement}
+use Rattle.test_report.proofs.area.write_list.Tie as tie
 
 abbrev Inv-loop : tie.InvT-loop
 Inv-loop area start end stop i₀ t6 i = (start ≤ i) × (i ≤ stop)

@@ -1,7 +1,7 @@
 use borrow.Author.Needs.{needs}
 use Prim.Native.Nat.{_≤_, _-_}
-use Rattle.reporting.proofs.digest.digest_of.Statement.{statement}
-use Rattle.reporting.proofs.digest.digest_of.Tie as tie
+use Rattle.test_report.proofs.digest.digest_of.Statement.{statement}
+use Rattle.test_report.proofs.digest.digest_of.Tie as tie
 
 abbrev Inv-loop : tie.InvT-loop
 Inv-loop table values count digest₀ word₀ digest word = word ≤ count

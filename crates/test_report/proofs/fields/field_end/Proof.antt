@@ -1,8 +1,8 @@
 use borrow.Author.Needs.{needs}
 use Prim.Native.Nat.{_≤_, _-_}
 use lib.ListN.{length}
-use Rattle.reporting.proofs.fields.field_end.Statement.{statement}
-use Rattle.reporting.proofs.fields.field_end.Tie as tie
+use Rattle.test_report.proofs.fields.field_end.Statement.{statement}
+use Rattle.test_report.proofs.fields.field_end.Tie as tie
 
 abbrev Inv-loop : tie.InvT-loop
 Inv-loop text start separator i₀ i = (start ≤ i) × (i ≤ length text)

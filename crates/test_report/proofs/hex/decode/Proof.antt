@@ -5,8 +5,8 @@ use lib.Seq.{length-take-le}
 use lib.ListN.{length, length-set}
 use mathlib.Core.Path.{_≡_, sym}
 use borrow.Author.Needs.{needs}
-use Rattle.reporting.proofs.hex.decode.Statement.{statement}
-use Rattle.reporting.proofs.hex.decode.Tie as tie
+use Rattle.test_report.proofs.hex.decode.Statement.{statement}
+use Rattle.test_report.proofs.hex.decode.Tie as tie
 
 abbrev Inv-loop : tie.InvT-loop
 Inv-loop digits bytes₀ pairs i₀ bytes i = (i ≤ length bytes) × (length bytes ≡ length bytes₀)

@@ -5,8 +5,8 @@ use borrow.Author.Tests.{ltb-true}
 use lib.ListN.{length, length-set}
 use Prim.Native.Nat.{_≤_, _-_}
 use borrow.Author.Needs.{needs}
-use Rattle.reporting.proofs.hex.decode_numbers.Statement.{statement}
-use Rattle.reporting.proofs.hex.decode_numbers.Tie as tie
+use Rattle.test_report.proofs.hex.decode_numbers.Statement.{statement}
+use Rattle.test_report.proofs.hex.decode_numbers.Tie as tie
 
 abbrev Inv-loop : tie.InvT-loop
 Inv-loop digits numbers₀ at₀ i₀ numbers at i = (at ≤ length digits) × ((i ≤ length numbers) × (length numbers ≡ length numbers₀))

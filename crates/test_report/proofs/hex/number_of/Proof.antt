@@ -1,8 +1,8 @@
 use lib.ListN.{length}
 use Prim.Native.Nat.{_≤_, _-_}
 use borrow.Author.Needs.{needs}
-use Rattle.reporting.proofs.hex.number_of.Statement.{statement}
-use Rattle.reporting.proofs.hex.number_of.Tie as tie
+use Rattle.test_report.proofs.hex.number_of.Statement.{statement}
+use Rattle.test_report.proofs.hex.number_of.Tie as tie
 
 abbrev Inv-loop : tie.InvT-loop
 Inv-loop digits number₀ i₀ number i = i ≤ length digits

@@ -2,8 +2,8 @@ use mathlib.Core.Path.{sym}
 use lib.Seq.{length-take-le}
 use native.Mathlib.Omega.{arith}
 use borrow.Author.Needs.{needs}
-use Rattle.vectors.proofs.answers.area_size.Statement.{statement}
-use Rattle.vectors.proofs.answers.area_size.Tie as tie
+use Rattle.test_vectors.proofs.answers.area_size.Statement.{statement}
+use Rattle.test_vectors.proofs.answers.area_size.Tie as tie
 
 number-of-requires : tie.Need-number-of-requires
 number-of-requires c κs = search needs

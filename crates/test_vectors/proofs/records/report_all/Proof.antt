@@ -1,8 +1,8 @@
 use lib.ListN.{length}
 use Prim.Native.Nat.{_≤_, _-_, _+_}
 use borrow.Author.Needs.{needs}
-use Rattle.vectors.proofs.records.report_all.Statement.{statement}
-use Rattle.vectors.proofs.records.report_all.Tie as tie
+use Rattle.test_vectors.proofs.records.report_all.Statement.{statement}
+use Rattle.test_vectors.proofs.records.report_all.Tie as tie
 
 abbrev Inv-loop : tie.InvT-loop
 Inv-loop input at₀ at = at ≤ length input + 1

@@ -2,10 +2,10 @@ use Prim.Native.Nat.{_-_}
 use native.Mathlib.Omega.{arith}
 use borrow.Author.Needs.{needs}
 use borrow.Author.Tests.{not-false, not-true}
-use Rattle.derivations.specs.Steps.{Derivable}
-use Rattle.derivations.proofs.Turns.{Going, going-done, going-fails, going-start, going-turn, next-derivable}
-use Rattle.derivations.proofs.derive_all.Statement.{statement}
-use Rattle.derivations.proofs.derive_all.Tie as tie
+use Rattle.verdicts.specs.code.Deriving.{Derivable}
+use Rattle.verdicts.proofs.Turns.{Going, going-done, going-fails, going-start, going-turn, next-derivable}
+use Rattle.verdicts.proofs.derive.derive_all.Statement.{statement}
+use Rattle.verdicts.proofs.derive.derive_all.Tie as tie
 
 abbrev Inv-loop : tie.InvT-loop
 Inv-loop places nodes forms progress shown₀ function₀ shown function = (q : Derivable places nodes forms progress shown₀) → Going q shown function

@@ -1,8 +1,8 @@
 use native.Mathlib.Omega.{arith}
 use borrow.Author.Needs.{needs}
-use Rattle.derivations.proofs.Singles.{ends, one-judged, sought}
-use Rattle.derivations.proofs.derive_one.Statement.{statement}
-use Rattle.derivations.proofs.derive_one.Tie as tie
+use Rattle.verdicts.proofs.Singles.{ends, one-judged, sought}
+use Rattle.verdicts.proofs.derive.derive_one.Statement.{statement}
+use Rattle.verdicts.proofs.derive.derive_one.Tie as tie
 
 mul-numbers : tie.Need-mul-numbers
 mul-numbers c = search needs

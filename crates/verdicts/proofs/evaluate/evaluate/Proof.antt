@@ -1,8 +1,8 @@
 use mathlib.Core.Path.{_∙_}
 use borrow.Author.Needs.{needs}
-use Rattle.evaluation.proofs.Outcomes.{budget-left, constrained, outcome-by, run-evaluated, sorts-long, sorts-small}
-use Rattle.evaluation.proofs.evaluate.Statement.{statement}
-use Rattle.evaluation.proofs.evaluate.Tie as tie
+use Rattle.verdicts.proofs.Outcomes.{budget-left, constrained, outcome-by, run-evaluated, sorts-long, sorts-small}
+use Rattle.verdicts.proofs.evaluate.evaluate.Statement.{statement}
+use Rattle.verdicts.proofs.evaluate.evaluate.Tie as tie
 
 variable-sorts-requires : tie.Need-variable-sorts-requires
 variable-sorts-requires c κs = search needs

@@ -1,7 +1,7 @@
 use borrow.Author.Needs.{needs}
-use Rattle.evaluation.proofs.Constraints.{constraints-ran, part-whole, pricing, runnable, tail-whole}
-use Rattle.evaluation.proofs.run_constraints.Statement.{statement}
-use Rattle.evaluation.proofs.run_constraints.Tie as tie
+use Rattle.verdicts.proofs.Constraints.{constraints-ran, part-whole, pricing, runnable, tail-whole}
+use Rattle.verdicts.proofs.evaluate.run_constraints.Statement.{statement}
+use Rattle.verdicts.proofs.evaluate.run_constraints.Tie as tie
 
 sub-bodies : tie.Need-sub-bodies
 sub-bodies c = search needs

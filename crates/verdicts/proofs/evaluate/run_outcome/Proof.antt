@@ -1,8 +1,8 @@
 use mathlib.Core.Path.{_∙_}
 use borrow.Author.Needs.{needs}
-use Rattle.evaluation.proofs.Outcomes.{outcome-found}
-use Rattle.evaluation.proofs.run_outcome.Statement.{statement}
-use Rattle.evaluation.proofs.run_outcome.Tie as tie
+use Rattle.verdicts.proofs.Outcomes.{outcome-found}
+use Rattle.verdicts.proofs.evaluate.run_outcome.Statement.{statement}
+use Rattle.verdicts.proofs.evaluate.run_outcome.Tie as tie
 
 left-of-requires : tie.Need-left-of-requires
 left-of-requires c κs = search needs

@@ -2,9 +2,9 @@ use Prim.Native.Nat.{_-_, _≤_}
 use native.Mathlib.Omega.{arith}
 use mathlib.Core.Path.{_≡_, refl}
 use borrow.Author.Needs.{needs}
-use Rattle.evaluation.proofs.Variables.{SortsRead, sorts-more, sorts-start}
-use Rattle.evaluation.proofs.variable_sorts.Statement.{statement}
-use Rattle.evaluation.proofs.variable_sorts.Tie as tie
+use Rattle.verdicts.proofs.Variables.{SortsRead, sorts-more, sorts-start}
+use Rattle.verdicts.proofs.evaluate.variable_sorts.Statement.{statement}
+use Rattle.verdicts.proofs.evaluate.variable_sorts.Tie as tie
 
 abbrev Inv-loop : tie.InvT-loop
 Inv-loop names count sorts₀ k₀ sorts k = (k ≤ count) × SortsRead names sorts k

@@ -1,6 +1,6 @@
 use borrow.Author.Needs.{needs}
-use Rattle.spelling.proofs.bytes.in_symbol.Statement.{statement}
-use Rattle.spelling.proofs.bytes.in_symbol.Tie as tie
+use Rattle.word_kinds.proofs.bytes.in_symbol.Statement.{statement}
+use Rattle.word_kinds.proofs.bytes.in_symbol.Tie as tie
 
 is-letter-requires : tie.Need-is-letter-requires
 is-letter-requires c κs = search needs

@@ -1,6 +1,6 @@
 use borrow.Author.Needs.{needs}
-use Rattle.spelling.proofs.bytes.is_hex_digit.Statement.{statement}
-use Rattle.spelling.proofs.bytes.is_hex_digit.Tie as tie
+use Rattle.word_kinds.proofs.bytes.is_hex_digit.Statement.{statement}
+use Rattle.word_kinds.proofs.bytes.is_hex_digit.Tie as tie
 
 is-digit-requires : tie.Need-is-digit-requires
 is-digit-requires c κs = search needs

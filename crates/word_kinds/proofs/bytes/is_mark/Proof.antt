@@ -1,8 +1,8 @@
 use mathlib.Core.Bool.{false}
 use Rattle.forest.specs.Lists.{spelling}
 use Rattle.forest.proofs.Lists.{one-by-one}
-use Rattle.spelling.proofs.bytes.is_mark.Statement.{statement}
-use Rattle.spelling.proofs.bytes.is_mark.Tie as tie
+use Rattle.word_kinds.proofs.bytes.is_mark.Statement.{statement}
+use Rattle.word_kinds.proofs.bytes.is_mark.Tie as tie
 
 returns : tie.Need-returns
 returns c = one-by-one false (c .args .byte) (spelling "~!@$%^&*_-+=<>.?/")

@@ -3,10 +3,10 @@ use Prim.Native.Nat.{_-_}
 use native.Mathlib.Omega.{arith}
 use lib.ListN.{drop, length}
 use mathlib.Core.Path.{_≡_, refl}
-use Rattle.spelling.specs.Kinds.{allIn}
-use Rattle.spelling.proofs.Digits.{all-ends, all-goes, all-stops}
-use Rattle.spelling.proofs.kinds.all_in.Statement.{statement}
-use Rattle.spelling.proofs.kinds.all_in.Tie as tie
+use Rattle.word_kinds.specs.Kinds.{allIn}
+use Rattle.word_kinds.proofs.Digits.{all-ends, all-goes, all-stops}
+use Rattle.word_kinds.proofs.kinds.all_in.Statement.{statement}
+use Rattle.word_kinds.proofs.kinds.all_in.Tie as tie
 
 abbrev Inv-loop : tie.InvT-loop
 Inv-loop class word i₀ i = allIn class (drop i word) ≡ allIn class word

@@ -1,7 +1,7 @@
 use borrow.Author.Tests.{le-leb, lt-leb}
 use borrow.Author.Needs.{needs}
-use Rattle.spelling.proofs.kinds.digit_value.Statement.{statement}
-use Rattle.spelling.proofs.kinds.digit_value.Tie as tie
+use Rattle.word_kinds.proofs.kinds.digit_value.Statement.{statement}
+use Rattle.word_kinds.proofs.kinds.digit_value.Tie as tie
 
 less-requires : tie.Need-less-requires
 less-requires c κs = search needs

@@ -1,8 +1,8 @@
-use Rattle.spelling.specs.Steps.{binary, hex}
-use Rattle.spelling.proofs.Forms.{hashed-bad, hashed-binary, hashed-hex, hashed-none}
+use Rattle.word_kinds.specs.code.Digits.{binary, hex}
+use Rattle.word_kinds.proofs.Forms.{hashed-bad, hashed-binary, hashed-hex, hashed-none}
 use borrow.Author.Needs.{needs}
-use Rattle.spelling.proofs.kinds.hashed_of.Statement.{statement}
-use Rattle.spelling.proofs.kinds.hashed_of.Tie as tie
+use Rattle.word_kinds.proofs.kinds.hashed_of.Statement.{statement}
+use Rattle.word_kinds.proofs.kinds.hashed_of.Tie as tie
 
 returns : tie.Need-returns
 returns c = search hashed-none

@@ -1,6 +1,6 @@
 use borrow.Author.Needs.{needs}
-use Rattle.spelling.proofs.kinds.in_class.Statement.{statement}
-use Rattle.spelling.proofs.kinds.in_class.Tie as tie
+use Rattle.word_kinds.proofs.kinds.in_class.Statement.{statement}
+use Rattle.word_kinds.proofs.kinds.in_class.Tie as tie
 
 enum-told : tie.Need-enum-told
 enum-told c = search needs

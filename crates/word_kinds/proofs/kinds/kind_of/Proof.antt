@@ -1,7 +1,7 @@
-use Rattle.spelling.proofs.Forms.{kind-close, kind-hashed, kind-none, kind-numeral, kind-open, kind-symbol, kind-uncarried}
+use Rattle.word_kinds.proofs.Forms.{kind-close, kind-hashed, kind-none, kind-numeral, kind-open, kind-symbol, kind-uncarried}
 use borrow.Author.Needs.{needs}
-use Rattle.spelling.proofs.kinds.kind_of.Statement.{statement}
-use Rattle.spelling.proofs.kinds.kind_of.Tie as tie
+use Rattle.word_kinds.proofs.kinds.kind_of.Statement.{statement}
+use Rattle.word_kinds.proofs.kinds.kind_of.Tie as tie
 
 returns : tie.Need-returns
 returns c = search kind-none

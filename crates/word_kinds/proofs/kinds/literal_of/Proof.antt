@@ -1,8 +1,8 @@
 use native.Mathlib.Omega.{arith}
-use Rattle.spelling.proofs.Forms.{bits-fit, bits-some, literal-bad, literal-digits, literal-is, literal-long, literal-power}
+use Rattle.word_kinds.proofs.Forms.{bits-fit, bits-some, literal-bad, literal-digits, literal-is, literal-long, literal-power}
 use borrow.Author.Needs.{needs}
-use Rattle.spelling.proofs.kinds.literal_of.Statement.{statement}
-use Rattle.spelling.proofs.kinds.literal_of.Tie as tie
+use Rattle.word_kinds.proofs.kinds.literal_of.Statement.{statement}
+use Rattle.word_kinds.proofs.kinds.literal_of.Tie as tie
 
 all-in-requires : tie.Need-all-in-requires
 all-in-requires c κs = search needs

@@ -1,8 +1,8 @@
 use native.Mathlib.Omega.{arith}
-use Rattle.spelling.proofs.Forms.{numeral-bad, numeral-digits, numeral-is, numeral-long, numeral-power}
+use Rattle.word_kinds.proofs.Forms.{numeral-bad, numeral-digits, numeral-is, numeral-long, numeral-power}
 use borrow.Author.Needs.{needs}
-use Rattle.spelling.proofs.kinds.numeral_of.Statement.{statement}
-use Rattle.spelling.proofs.kinds.numeral_of.Tie as tie
+use Rattle.word_kinds.proofs.kinds.numeral_of.Statement.{statement}
+use Rattle.word_kinds.proofs.kinds.numeral_of.Tie as tie
 
 all-in-requires : tie.Need-all-in-requires
 all-in-requires c κs = search needs

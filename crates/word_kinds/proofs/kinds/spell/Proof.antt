@@ -5,11 +5,11 @@ use native.Mathlib.Omega.{arith}
 use lib.ListN.{drop, length}
 use mathlib.Core.Path.{_≡_, refl}
 use mathlib.Core.Bool.{true}
-use Rattle.spelling.specs.Steps.{digitsBelow}
-use Rattle.spelling.specs.Kinds.{spelled}
-use Rattle.spelling.proofs.Digits.{below-goes, spell-add, spell-ends, spell-goes, spell-more, spell-mul}
-use Rattle.spelling.proofs.kinds.spell.Statement.{statement}
-use Rattle.spelling.proofs.kinds.spell.Tie as tie
+use Rattle.word_kinds.specs.code.Digits.{digitsBelow}
+use Rattle.word_kinds.specs.Kinds.{spelled}
+use Rattle.word_kinds.proofs.Digits.{below-goes, spell-add, spell-ends, spell-goes, spell-more, spell-mul}
+use Rattle.word_kinds.proofs.kinds.spell.Statement.{statement}
+use Rattle.word_kinds.proofs.kinds.spell.Tie as tie
 
 abbrev Inv-loop : tie.InvT-loop
 Inv-loop base digits v₀ i₀ v i = (spelled base v (drop i digits) ≡ spelled base 0 digits) × (digitsBelow base (drop i digits) ≡ true) × (v < base ^ i)

@@ -1,7 +1,7 @@
-use Rattle.spelling.proofs.Forms.{symbol-bad, symbol-is, symbol-long}
+use Rattle.word_kinds.proofs.Forms.{symbol-bad, symbol-is, symbol-long}
 use borrow.Author.Needs.{needs}
-use Rattle.spelling.proofs.kinds.symbol_of.Statement.{statement}
-use Rattle.spelling.proofs.kinds.symbol_of.Tie as tie
+use Rattle.word_kinds.proofs.kinds.symbol_of.Statement.{statement}
+use Rattle.word_kinds.proofs.kinds.symbol_of.Tie as tie
 
 all-in-requires : tie.Need-all-in-requires
 all-in-requires c κs = search needs

@@ -1,8 +1,8 @@
 use borrow.Author.Needs.{needs}
 use Prim.Native.Nat.{_-_}
-use Rattle.scanning.proofs.Chains.{Inside, inside-begins, inside-closes, inside-ends, inside-goes, inside-less}
-use Rattle.scanning.proofs.links.close_of.Statement.{statement}
-use Rattle.scanning.proofs.links.close_of.Tie as tie
+use Rattle.words.proofs.Chains.{Inside, inside-begins, inside-closes, inside-ends, inside-goes, inside-less}
+use Rattle.words.proofs.links.close_of.Statement.{statement}
+use Rattle.words.proofs.links.close_of.Tie as tie
 
 abbrev Inv-loop : tie.InvT-loop
 Inv-loop table count at i₀ i = Inside table count at i

@@ -1,8 +1,8 @@
 use borrow.Author.Needs.{needs}
 use native.Mathlib.Omega.{arith}
-use Rattle.scanning.proofs.Chains.{Linkage, linkage-asks, linkage-begins, linkage-ends, linkage-goes, linkage-room, linkage-small}
-use Rattle.scanning.proofs.links.link.Statement.{statement}
-use Rattle.scanning.proofs.links.link.Tie as tie
+use Rattle.words.proofs.Chains.{Linkage, linkage-asks, linkage-begins, linkage-ends, linkage-goes, linkage-room, linkage-small}
+use Rattle.words.proofs.links.link.Statement.{statement}
+use Rattle.words.proofs.links.link.Tie as tie
 
 abbrev Inv-loop : tie.InvT-loop
 Inv-loop table₀ count i₀ table i = Linkage table₀ count table i

@@ -1,7 +1,7 @@
-use Rattle.scanning.proofs.Chains.{next-open, next-word}
+use Rattle.words.proofs.Chains.{next-open, next-word}
 use borrow.Author.Needs.{needs}
-use Rattle.scanning.proofs.links.next_of.Statement.{statement}
-use Rattle.scanning.proofs.links.next_of.Tie as tie
+use Rattle.words.proofs.links.next_of.Statement.{statement}
+use Rattle.words.proofs.links.next_of.Tie as tie
 
 kind-at-requires : tie.Need-kind-at-requires
 kind-at-requires c κs = search needs

@@ -1,9 +1,9 @@
 use native.Mathlib.Omega.{arith}
 use lib.ListN.{length-set}
-use Rattle.scanning.proofs.Turns.{word-written}
+use Rattle.words.proofs.Turns.{word-written}
 use borrow.Author.Needs.{needs}
-use Rattle.scanning.proofs.rows.put_word.Statement.{statement}
-use Rattle.scanning.proofs.rows.put_word.Tie as tie
+use Rattle.words.proofs.rows.put_word.Statement.{statement}
+use Rattle.words.proofs.rows.put_word.Tie as tie
 
 kind-number-requires : tie.Need-kind-number-requires
 kind-number-requires c κs = search needs

@@ -1,6 +1,6 @@
-use Rattle.scanning.proofs.Faults.{end-open, end-whole}
-use Rattle.scanning.proofs.scan.at_end.Statement.{statement}
-use Rattle.scanning.proofs.scan.at_end.Tie as tie
+use Rattle.words.proofs.Faults.{end-open, end-whole}
+use Rattle.words.proofs.scan.at_end.Statement.{statement}
+use Rattle.words.proofs.scan.at_end.Tie as tie
 
 returns : tie.Need-returns
 returns c = search end-whole

@@ -1,7 +1,7 @@
-use Rattle.scanning.proofs.Faults.{close-fault, close-well}
+use Rattle.words.proofs.Faults.{close-fault, close-well}
 use borrow.Author.Needs.{needs}
-use Rattle.scanning.proofs.scan.close_fault.Statement.{statement}
-use Rattle.scanning.proofs.scan.close_fault.Tie as tie
+use Rattle.words.proofs.scan.close_fault.Statement.{statement}
+use Rattle.words.proofs.scan.close_fault.Tie as tie
 
 kind-number-requires : tie.Need-kind-number-requires
 kind-number-requires c κs = search needs

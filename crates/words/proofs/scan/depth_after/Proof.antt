@@ -1,7 +1,7 @@
-use Rattle.scanning.proofs.Faults.{depth-close, depth-open, depth-same, depth-some}
+use Rattle.words.proofs.Faults.{depth-close, depth-open, depth-same, depth-some}
 use borrow.Author.Needs.{needs}
-use Rattle.scanning.proofs.scan.depth_after.Statement.{statement}
-use Rattle.scanning.proofs.scan.depth_after.Tie as tie
+use Rattle.words.proofs.scan.depth_after.Statement.{statement}
+use Rattle.words.proofs.scan.depth_after.Tie as tie
 
 kind-number-requires : tie.Need-kind-number-requires
 kind-number-requires c κs = search needs

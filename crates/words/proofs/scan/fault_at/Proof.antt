@@ -1,7 +1,7 @@
-use Rattle.scanning.proofs.Faults.{fault-is}
+use Rattle.words.proofs.Faults.{fault-is}
 use borrow.Author.Needs.{needs}
-use Rattle.scanning.proofs.scan.fault_at.Statement.{statement}
-use Rattle.scanning.proofs.scan.fault_at.Tie as tie
+use Rattle.words.proofs.scan.fault_at.Statement.{statement}
+use Rattle.words.proofs.scan.fault_at.Tie as tie
 
 close-fault-requires : tie.Need-close-fault-requires
 close-fault-requires c κs = search needs

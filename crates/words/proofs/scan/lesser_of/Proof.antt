@@ -1,7 +1,7 @@
-use Rattle.scanning.proofs.Faults.{lesser-first, lesser-second}
+use Rattle.words.proofs.Faults.{lesser-first, lesser-second}
 use borrow.Author.Needs.{needs}
-use Rattle.scanning.proofs.scan.lesser_of.Statement.{statement}
-use Rattle.scanning.proofs.scan.lesser_of.Tie as tie
+use Rattle.words.proofs.scan.lesser_of.Statement.{statement}
+use Rattle.words.proofs.scan.lesser_of.Tie as tie
 
 fault-number-requires : tie.Need-fault-number-requires
 fault-number-requires c κs = search needs

@@ -1,7 +1,7 @@
-use Rattle.scanning.proofs.Faults.{limit-fault, limit-well}
+use Rattle.words.proofs.Faults.{limit-fault, limit-well}
 use borrow.Author.Needs.{needs}
-use Rattle.scanning.proofs.scan.limit_fault.Statement.{statement}
-use Rattle.scanning.proofs.scan.limit_fault.Tie as tie
+use Rattle.words.proofs.scan.limit_fault.Statement.{statement}
+use Rattle.words.proofs.scan.limit_fault.Tie as tie
 
 cast-words : tie.Need-cast-words
 cast-words c = search needs

@@ -2,10 +2,10 @@ use borrow.Author.Needs.{needs}
 use Prim.Native.Nat.{_-_}
 use lib.ListN.{length}
 use native.Mathlib.Omega.{arith}
-use Rattle.scanning.proofs.Offsets.{end-past, end-within, next-less}
-use Rattle.scanning.proofs.Turns.{Scanning, scan-begins, scan-ends, scan-goes, scan-stops, word-fits}
-use Rattle.scanning.proofs.scan.scan_text.Statement.{statement}
-use Rattle.scanning.proofs.scan.scan_text.Tie as tie
+use Rattle.words.proofs.Offsets.{end-past, end-within, next-less}
+use Rattle.words.proofs.Turns.{Scanning, scan-begins, scan-ends, scan-goes, scan-stops, word-fits}
+use Rattle.words.proofs.scan.scan_text.Statement.{statement}
+use Rattle.words.proofs.scan.scan_text.Tie as tie
 
 abbrev Inv-loop : tie.InvT-loop
 Inv-loop text limits table₀ values₀ count₀ depth₀ start₀ table values count depth start = Scanning limits text table₀ values₀ table values count depth start

@@ -1,6 +1,6 @@
 use borrow.Author.Needs.{needs}
-use Rattle.scanning.proofs.spans.begins.Statement.{statement}
-use Rattle.scanning.proofs.spans.begins.Tie as tie
+use Rattle.words.proofs.spans.begins.Statement.{statement}
+use Rattle.words.proofs.spans.begins.Tie as tie
 
 is-bracket-requires : tie.Need-is-bracket-requires
 is-bracket-requires c κs = search needs

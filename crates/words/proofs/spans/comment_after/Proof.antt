@@ -1,6 +1,6 @@
 use borrow.Author.Needs.{needs}
-use Rattle.scanning.proofs.spans.comment_after.Statement.{statement}
-use Rattle.scanning.proofs.spans.comment_after.Tie as tie
+use Rattle.words.proofs.spans.comment_after.Statement.{statement}
+use Rattle.words.proofs.spans.comment_after.Tie as tie
 
 ends-comment-requires : tie.Need-ends-comment-requires
 ends-comment-requires c κs = search needs

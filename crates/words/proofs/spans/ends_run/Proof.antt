@@ -1,6 +1,6 @@
 use borrow.Author.Needs.{needs}
-use Rattle.scanning.proofs.spans.ends_run.Statement.{statement}
-use Rattle.scanning.proofs.spans.ends_run.Tie as tie
+use Rattle.words.proofs.spans.ends_run.Statement.{statement}
+use Rattle.words.proofs.spans.ends_run.Tie as tie
 
 is-white-requires : tie.Need-is-white-requires
 is-white-requires c κs = search needs

@@ -3,10 +3,10 @@ use Prim.Native.Nat.{_-_}
 use native.Mathlib.Omega.{arith}
 use lib.ListN.{drop, length}
 use mathlib.Core.Path.{_≡_, refl}
-use Rattle.scanning.specs.Steps.{firstFrom, firstStart}
-use Rattle.scanning.proofs.Offsets.{first-ends, first-goes, first-stops}
-use Rattle.scanning.proofs.spans.first_start.Statement.{statement}
-use Rattle.scanning.proofs.spans.first_start.Tie as tie
+use Rattle.words.specs.code.Scanning.{firstFrom, firstStart}
+use Rattle.words.proofs.Offsets.{first-ends, first-goes, first-stops}
+use Rattle.words.proofs.spans.first_start.Statement.{statement}
+use Rattle.words.proofs.spans.first_start.Tie as tie
 
 abbrev Inv-loop : tie.InvT-loop
 Inv-loop text at i₀ comment₀ i comment = firstFrom (drop i text) i comment ≡ firstStart text at

@@ -4,10 +4,10 @@ use native.Mathlib.Omega.{arith}
 use lib.ListN.{drop, getD, length}
 use mathlib.Core.Path.{_≡_, refl}
 use mathlib.Core.Bool.{false}
-use Rattle.scanning.specs.Spans.{bracket, runEnd}
-use Rattle.scanning.proofs.Offsets.{bracket-ends, run-ends, run-goes, run-stops}
-use Rattle.scanning.proofs.spans.word_end.Statement.{statement}
-use Rattle.scanning.proofs.spans.word_end.Tie as tie
+use Rattle.words.specs.Spans.{bracket, runEnd}
+use Rattle.words.proofs.Offsets.{bracket-ends, run-ends, run-goes, run-stops}
+use Rattle.words.proofs.spans.word_end.Statement.{statement}
+use Rattle.words.proofs.spans.word_end.Tie as tie
 
 abbrev Inv-loop : tie.InvT-loop
 Inv-loop text at i₀ i = (runEnd (drop i text) i ≡ runEnd (drop (at + 1) text) (at + 1)) × (bracket (getD text at 0) ≡ false)

@@ -1,10 +1,10 @@
 use Rattle.forest.proofs.Rows.{past}
-use Rattle.forest.specs.Rows.{numberAt}
+use Rattle.forest.specs.code.Rows.{numberAt}
 use mathlib.Core.Path.{refl}
 use native.Mathlib.Omega.{arith}
 use borrow.Author.Needs.{needs}
-use Rattle.readings.proofs.table.number_at.Statement.{statement}
-use Rattle.readings.proofs.table.number_at.Tie as tie
+use Rattle.words.proofs.table.number_at.Statement.{statement}
+use Rattle.words.proofs.table.number_at.Tie as tie
 
 returns : tie.Need-returns
 returns c = past _ _ _ _ (omega arith)

@@ -1,9 +1,9 @@
-use Rattle.sorts.proofs.Commands.{grammar-groups, grammar-pairs, grammar-place}
+use Rattle.written_sorts.proofs.Commands.{grammar-groups, grammar-pairs, grammar-place}
 use Rattle.lexemes.proofs.Listed.{list-room}
 use native.Mathlib.Omega.{arith}
 use borrow.Author.Needs.{needs}
-use Rattle.sorts.proofs.headers.grammar_place.Statement.{statement}
-use Rattle.sorts.proofs.headers.grammar_place.Tie as tie
+use Rattle.written_sorts.proofs.headers.grammar_place.Statement.{statement}
+use Rattle.written_sorts.proofs.headers.grammar_place.Tie as tie
 
 add-next-at : tie.Need-add-next-at
 add-next-at c = omega (arith, list-room (c .before .pre .here))

@@ -1,9 +1,9 @@
-use Rattle.sorts.proofs.Parts.{group-place, group-rules, group-sort}
+use Rattle.written_sorts.proofs.Parts.{group-place, group-rules, group-sort}
 use Rattle.lexemes.proofs.Listed.{item-room}
 use native.Mathlib.Omega.{arith}
 use borrow.Author.Needs.{needs}
-use Rattle.sorts.proofs.headers.group_place.Statement.{statement}
-use Rattle.sorts.proofs.headers.group_place.Tie as tie
+use Rattle.written_sorts.proofs.headers.group_place.Statement.{statement}
+use Rattle.written_sorts.proofs.headers.group_place.Tie as tie
 
 add-sort : tie.Need-add-sort
 add-sort c = omega (arith, item-room (c .before .pre .here))

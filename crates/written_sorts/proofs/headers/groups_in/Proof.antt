@@ -1,14 +1,14 @@
-use Rattle.sorts.proofs.Parts.{list-between, list-least}
-use Rattle.sorts.proofs.Least.{Seeking, seek-end, seek-item, seek-start, seek-turn}
+use Rattle.written_sorts.proofs.Parts.{list-between, list-least}
+use Rattle.written_sorts.proofs.Least.{Seeking, seek-end, seek-item, seek-start, seek-turn}
 use Rattle.lexemes.proofs.Along.{along-less}
-use Rattle.sorts.specs.Written.{groupPlace}
+use Rattle.written_sorts.specs.Written.{groupPlace}
 use Rattle.shapes.specs.Shapes.{groupShape}
 use Rattle.lexemes.proofs.Listed.{item-ahead, item-room}
 use borrow.Author.Needs.{needs}
 use native.Mathlib.Omega.{arith}
 use Prim.Native.Nat.{_-_, _+_}
-use Rattle.sorts.proofs.headers.groups_in.Statement.{statement}
-use Rattle.sorts.proofs.headers.groups_in.Tie as tie
+use Rattle.written_sorts.proofs.headers.groups_in.Statement.{statement}
+use Rattle.written_sorts.proofs.headers.groups_in.Tie as tie
 
 abbrev Inv-loop : tie.InvT-loop
 Inv-loop lexemes list fault nowhere close place₀ at₀ place at = Seeking groupShape (groupPlace fault nowhere) lexemes (list + 1) close nowhere place at

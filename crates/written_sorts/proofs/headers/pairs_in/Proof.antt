@@ -1,9 +1,9 @@
-use Rattle.sorts.proofs.Parts.{list-between, list-least}
+use Rattle.written_sorts.proofs.Parts.{list-between, list-least}
 use Rattle.lexemes.proofs.Listed.{item-ahead, item-room}
 use native.Mathlib.Omega.{arith}
 use borrow.Author.Needs.{needs}
-use Rattle.sorts.proofs.headers.pairs_in.Statement.{statement}
-use Rattle.sorts.proofs.headers.pairs_in.Tie as tie
+use Rattle.written_sorts.proofs.headers.pairs_in.Statement.{statement}
+use Rattle.written_sorts.proofs.headers.pairs_in.Tie as tie
 
 add-pairs-place : tie.Need-add-pairs-place
 add-pairs-place c = omega (arith, item-room (c .before .pre .here))

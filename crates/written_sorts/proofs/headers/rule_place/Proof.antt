@@ -1,9 +1,9 @@
-use Rattle.sorts.proofs.Parts.{no-rule-place, rule-place, rule-sort}
+use Rattle.written_sorts.proofs.Parts.{no-rule-place, rule-place, rule-sort}
 use Rattle.lexemes.proofs.Listed.{item-room}
 use native.Mathlib.Omega.{arith}
 use borrow.Author.Needs.{needs}
-use Rattle.sorts.proofs.headers.rule_place.Statement.{statement}
-use Rattle.sorts.proofs.headers.rule_place.Tie as tie
+use Rattle.written_sorts.proofs.headers.rule_place.Statement.{statement}
+use Rattle.written_sorts.proofs.headers.rule_place.Tie as tie
 
 is-pattern-requires : tie.Need-is-pattern-requires
 is-pattern-requires c κs = search needs

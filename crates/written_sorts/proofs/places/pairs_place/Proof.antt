@@ -1,13 +1,13 @@
-use Rattle.sorts.proofs.Parts.{pair-place, pair-sort}
-use Rattle.sorts.proofs.Least.{Seeking, seek-end, seek-item, seek-start, seek-turn}
+use Rattle.written_sorts.proofs.Parts.{pair-place, pair-sort}
+use Rattle.written_sorts.proofs.Least.{Seeking, seek-end, seek-item, seek-start, seek-turn}
 use Rattle.lexemes.proofs.Along.{along-less, along-room}
-use Rattle.sorts.specs.Written.{pairPlace}
+use Rattle.written_sorts.specs.Written.{pairPlace}
 use Rattle.shapes.specs.Shapes.{pairShape}
 use borrow.Author.Needs.{needs}
 use native.Mathlib.Omega.{arith}
 use Prim.Native.Nat.{_-_}
-use Rattle.sorts.proofs.places.pairs_place.Statement.{statement}
-use Rattle.sorts.proofs.places.pairs_place.Tie as tie
+use Rattle.written_sorts.proofs.places.pairs_place.Statement.{statement}
+use Rattle.written_sorts.proofs.places.pairs_place.Tie as tie
 
 abbrev Inv-loop : tie.InvT-loop
 Inv-loop lexemes first close fault nowhere place₀ at₀ place at = Seeking pairShape (pairPlace fault nowhere) lexemes first close nowhere place at

@@ -1,9 +1,9 @@
-use Rattle.sorts.proofs.Width.{sort-listed, sort-word}
+use Rattle.written_sorts.proofs.Width.{sort-listed, sort-word}
 use Rattle.lexemes.proofs.Listed.{item-room}
 use native.Mathlib.Omega.{arith}
 use borrow.Author.Needs.{needs}
-use Rattle.sorts.proofs.places.sort_of.Statement.{statement}
-use Rattle.sorts.proofs.places.sort_of.Tie as tie
+use Rattle.written_sorts.proofs.places.sort_of.Statement.{statement}
+use Rattle.written_sorts.proofs.places.sort_of.Tie as tie
 
 code-at-requires : tie.Need-code-at-requires
 code-at-requires c κs = search needs

@@ -1,0 +1,4 @@
+pub mod Tables
+pub mod Budget
+pub mod Evaluating
+pub mod Runs

@@ -1,0 +1,2 @@
+pub mod Heading
+pub mod Comparing

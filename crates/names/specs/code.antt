@@ -1,0 +1,3 @@
+pub mod Table
+pub mod Lookup
+pub mod NewNames

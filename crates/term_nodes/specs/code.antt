@@ -1,0 +1,3 @@
+pub mod Table
+pub mod Gathering
+pub mod RuleGathering

@@ -1,0 +1,2 @@
+pub mod Signatures
+pub mod Sorting

@@ -1,0 +1,3 @@
+pub mod Deriving
+pub mod Evaluating
+pub mod Held
