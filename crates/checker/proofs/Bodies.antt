@@ -4,7 +4,7 @@ use native.Mathlib.Omega.{arith}
 use mathlib.Core.Path.{_≡_, ap, refl, subst, subst⁻¹, _∙_}
 use mathlib.Core.List.{List}
 use lib.ListN.{drop, getD, length, take}
-use Rattle.script.specs.code.Tables.{firstsPlace, formsPlace}
+use Rattle.script.specs.code.Places.{firstsPlace, formsPlace}
 use Rattle.script_reader.proofs.Parts.{all-lent, formsLent}
 use Rattle.script.specs.declared.Progress.{Progress}
 use Rattle.response.proofs.Picked.{order-length}

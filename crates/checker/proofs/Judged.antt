@@ -8,7 +8,7 @@ use Rattle.evaluation.specs.Points.{pointsOf}
 use Rattle.evaluation.specs.declared.PointList.{PointList}
 use Rattle.evaluation.specs.declared.PointList.the-variants.{Good, Bad}
 use Rattle.names.specs.Scopes.{namedSorts}
-use Rattle.script.specs.code.Tables.{formsPlace}
+use Rattle.script.specs.code.Places.{formsPlace}
 use Rattle.script.specs.declared.Progress.{Progress}
 use Rattle.outcome.specs.Checked.{Judgement, evaluated, points-refused, underived}
 use Rattle.outcome.specs.Demands.{Showing}

@@ -12,7 +12,7 @@ use Rattle.words.specs.declared.Reading.{Reading}
 use Rattle.words.specs.declared.Reading.the-variants.{Whole, Refused}
 use Rattle.names.specs.code.Lookup.{Names}
 use Rattle.script.specs.Script.{Known}
-use Rattle.script.specs.code.Tables.{formsPlace}
+use Rattle.script.specs.code.Places.{formsPlace}
 use Rattle.script.specs.declared.Progress.{Progress}
 use Rattle.script.specs.declared.Verdict.{Verdict}
 use Rattle.script_reader.specs.declared.Step.{Step}

@@ -13,7 +13,7 @@ use verdicts::evaluate::evaluate;
 ghost use mathlib.Core.Path.{_≡_};
 ghost use lib.ListN.{drop, getD, length, take};
 ghost use Prim.Native.Nat.{_+_, _≤_, _<_};
-ghost use Rattle.script.specs.code.Tables.{firstsPlace, formsPlace};
+ghost use Rattle.script.specs.code.Places.{firstsPlace, formsPlace};
 ghost use Rattle.names.specs.code.Lookup.{Names};
 ghost use Rattle.texts.specs.code.Texts.{Ready, ResponseRead};
 ghost use Rattle.outcome.specs.Checked.{Checked};

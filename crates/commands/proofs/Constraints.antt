@@ -18,7 +18,7 @@ use Rattle.lexemes.proofs.ByCode.{codeFor}
 use Rattle.shapes.specs.Shapes.{commandShape, constraintShape, termShape}
 use Rattle.written_sorts.proofs.Walked.{named-word}
 use Rattle.term_nodes.specs.Terms.{rawTerm}
-use Rattle.headers.specs.Heads.{allowed}
+use Rattle.forest.specs.Limits.{allowed}
 use Rattle.term_sorts.specs.code.Signatures.{SortsAre}
 use Rattle.names.specs.code.Lookup.{Sees}
 use Rattle.names.specs.code.Table.{namesFrom}

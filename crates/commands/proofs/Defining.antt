@@ -5,7 +5,7 @@ use mathlib.Core.Path.{_≡_, refl, sym, ap, ap₂, _∙_}
 use mathlib.Core.List.{List}
 use Rattle.lexemes.specs.code.Table.{nextAt}
 use Rattle.written_sorts.specs.code.Places.{HeaderAt}
-use Rattle.headers.specs.Heads.{allowed}
+use Rattle.forest.specs.Limits.{allowed}
 use Rattle.headers.specs.code.Heading.{HeadLimited}
 use Rattle.bodies.specs.code.Bodies.{Limited, TermAt}
 use Rattle.bodies.specs.declared.Body.{Body}

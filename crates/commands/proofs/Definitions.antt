@@ -22,7 +22,8 @@ use Rattle.written_sorts.specs.code.Places.{HeaderAt}
 use Rattle.written_sorts.specs.Written.{headerPlace, sortOf}
 use Rattle.written_sorts.specs.declared.Fault.the-variants.{Empty}
 use Rattle.written_sorts.proofs.Walked.{symbol-word}
-use Rattle.headers.specs.Heads.{allowed, headerNames, headerPast}
+use Rattle.headers.specs.Heads.{headerNames, headerPast}
+use Rattle.forest.specs.Limits.{allowed}
 use Rattle.names.specs.Scopes.{Defined, namedSorts}
 use Rattle.names.specs.code.Lookup.{sourceOf}
 use Rattle.term_faults.specs.Faults.{bodyFault}

@@ -25,7 +25,8 @@ use Rattle.names.specs.code.NewNames.{namesIn}
 use Rattle.names.proofs.Members.{same-members, same-name}
 use Rattle.script.specs.code.Signing.{Signing}
 use Rattle.script.proofs.Signed.{back-kept}
-use Rattle.headers.specs.Heads.{allowed, headerNames}
+use Rattle.headers.specs.Heads.{headerNames}
+use Rattle.forest.specs.Limits.{allowed}
 use Rattle.headers.specs.code.Heading.{HeadAt, HeadNamed}
 use Rattle.headers.proofs.Parts.{items-between}
 use Rattle.term_faults.specs.Faults.{bodyFault}

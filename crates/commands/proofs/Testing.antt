@@ -9,7 +9,7 @@ use Rattle.lexemes.specs.Lists.{inside, item}
 use Rattle.written_sorts.specs.code.Places.{SortAt}
 use Rattle.written_sorts.specs.Written.{sortPlace}
 use Rattle.written_sorts.specs.declared.Fault.the-variants.{TooWide, Unknown, Empty}
-use Rattle.headers.specs.Heads.{allowed}
+use Rattle.forest.specs.Limits.{allowed}
 use Rattle.names.specs.code.Table.{argumentRow, namesFrom, variableRow}
 use Rattle.names.specs.code.NewNames.{NameTested, NewName}
 use Rattle.names.proofs.Members.{same-name}

@@ -7,7 +7,7 @@ use lib.Dec.{ltb}
 use borrow.Author.Tests.{le-ltb, ltb-true}
 use Rattle.words.specs.Trees.{Lexeme, wordOf}
 use Rattle.lexemes.specs.Lists.{Items}
-use Rattle.headers.specs.Heads.{Counts}
+use Rattle.forest.specs.Limits.{Counts}
 use Rattle.term_nodes.specs.Terms.{rawTerm}
 use Rattle.names.specs.Scopes.{View}
 use Rattle.term_faults.specs.Faults.{bodyFault, oneSort, rawSorts, termFault}

@@ -3,11 +3,11 @@ use crate::term_tests::command_past;
 use crate::term_tests::judge_body;
 use crate::term_tests::put_row;
 use bodies::read::body_limit;
+use forest::numbers::least;
 use names::Seen;
 use names::table::VARIABLES;
 use script::Progress;
 use script::Verdict;
-use written_sorts::places::least;
 ghost use Rattle.commands.specs.code.Defining.{Constrained, Constraining};
 
 // Where the numbers of constraints begin in the table of places.

@@ -1,4 +1,5 @@
 //! The command with its tests in their order.
+use forest::numbers::least;
 use names::Scope;
 use names::new::new_name;
 use names::spelled::bytes_at;
@@ -8,7 +9,6 @@ use names::table::put_name;
 use script::Progress;
 use script::Verdict;
 use written_sorts::Fault;
-use written_sorts::places::least;
 use written_sorts::places::sort_of;
 use written_sorts::places::sort_place;
 ghost use Rattle.commands.specs.code.Declaring.{Added, Adding, Declared, Declaring, LimitFound, NameFound};

@@ -1,9 +1,9 @@
 //! What the commands that say a term have in common: their number, the tests of the term, and its row.
 use bodies::read::body_names;
 use bodies::read::body_sort;
+use forest::numbers::least;
 use names::Seen;
 use script::Verdict;
-use written_sorts::places::least;
 ghost use mathlib.Core.Path.{_≡_};
 ghost use Prim.Native.Nat.{_<_};
 ghost use lib.ListN.{length, set};

@@ -14,7 +14,8 @@ use Rattle.terms.specs.Labels.{Terms}
 use Rattle.derivation.specs.Derivation.{nonTerminal, Derives, Simple, Grammar}
 use Rattle.derivation.specs.code.Columns.{has}
 use Rattle.derivation.specs.code.Search.{ExactAt, DerivesAt, Asks, AllExact, EmitPre, EmitPost, ShowPre, ShowPost, Shows}
-use Rattle.derivation.specs.Answer.{start, listOf, listSize, unused, DerivePre, DerivePost}
+use Rattle.derivation.specs.Answer.{start, listOf, unused, DerivePre, DerivePost}
+use Rattle.forest.specs.Limits.{listSize}
 use Rattle.derivation.proofs.Sweep.{body-size}
 
 -- for one tree, to derive the first tree is to derive it

@@ -9,18 +9,11 @@ use Rattle.forest.specs.Forest.{Forest, count, none, size, tree}
 use Rattle.terms.specs.Labels.{Terms}
 use Rattle.derivation.specs.Derivation.{Derives, Grammar, Item, Simple, nonTerminal}
 use Rattle.derivation.specs.code.Tables.{Given}
+use Rattle.forest.specs.Limits.{areaSize, listSize}
 
 -- The form that is the start alone: "The first is the start".
 abbrev pub start : Forest Item
 start = tree (nonTerminal 0) none none
-
--- "Function k's list starts at 4,096·k": how many rule numbers the list of one function has room for.
-abbrev pub listSize : ℕ
-listSize = 4096
-
--- "a lent area of exactly 32,768 16-bit numbers"
-abbrev pub areaSize : ℕ
-areaSize = 32768
 
 -- "every entry of the area that no list uses is 65,535"
 abbrev pub unused : ℕ

@@ -6,13 +6,14 @@ ghost use mathlib.Core.Path.{_≡_};
 ghost use Prim.Native.Nat.{_+_, _≤_};
 ghost use lib.ListN.{length, replicate};
 ghost use lib.Seq.{sets};
-ghost use Rattle.derivation.specs.Answer.{Decides, DerivePre, listSize, unused};
+ghost use Rattle.derivation.specs.Answer.{Decides, DerivePre, unused};
+ghost use Rattle.forest.specs.Limits.{listSize};
 use terms::ROW;
 
 mod filling;
 mod masks;
 mod matching;
-mod rules;
+pub mod rules;
 mod showing;
 
 // How many rule numbers the list of one function has room for.

@@ -13,7 +13,8 @@ use Rattle.terms.specs.Labels.{Terms}
 use Rattle.terms.specs.Sorts.{Definition}
 use Rattle.terms.specs.Values.{called, definedValue, functionValue}
 use Rattle.terms.specs.declared.Value.{Value}
-use Rattle.evaluation.specs.code.Tables.{BodiesAt, CallsDefined, CallsEarlier, CallsKnown, FewArguments, BodiesHold, TermStands, mostArguments, mostDefined}
+use Rattle.evaluation.specs.code.Tables.{BodiesAt, CallsDefined, CallsEarlier, CallsKnown, FewArguments, BodiesHold, TermStands}
+use Rattle.forest.specs.Limits.{mostArguments, mostDefined}
 
 -- `define-fun`s that a body sees stand in the tables.
 pub record Seen (all : Terms) (bodies : List ℕ) (defs : List Definition) : Type 0 where

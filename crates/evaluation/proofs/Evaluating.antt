@@ -20,7 +20,8 @@ use Rattle.terms.specs.code.Nodes.{Plain, codeAt, codeOf, literalKind, nameKind
 use Rattle.terms.specs.Values.{Meaning, definedValue, labelValue, meaningAt, numbersIn, sortsIn, value, valuesAt}
 use Rattle.terms.specs.declared.Value.{Value}
 use Rattle.evaluation.specs.code.Evaluating.{Evaluable, Evaluated, Names, OperandsAre, OperandsEvaluable, OperandsEvaluated, OperatorGave, OperatorReady}
-use Rattle.evaluation.specs.code.Tables.{TermStands, bodyPlace, mostArguments}
+use Rattle.evaluation.specs.code.Tables.{TermStands, bodyPlace}
+use Rattle.forest.specs.Limits.{mostArguments}
 use Rattle.evaluation.proofs.Arguments.{stored, stored-front}
 use Rattle.evaluation.proofs.LabelValues.{Operator, call-label, literal-label, name-label, no-functions, operator-few, operator-label, same-length}
 use Rattle.evaluation.proofs.Bodies.{Body, held-seen}

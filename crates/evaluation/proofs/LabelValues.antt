@@ -19,7 +19,8 @@ use Rattle.terms.specs.code.Nodes.{Plain, codeOf, literalKind, nameKind, operat
 use Rattle.terms.specs.Sorts.{Definition, sameSorts}
 use Rattle.terms.specs.Values.{Meaning, definedValue, functionValue, labelValue, meaningAt, numbersIn, operatorGives, sortsIn, value, valuesAt, valuesIn}
 use Rattle.terms.specs.declared.Value.{Value}
-use Rattle.evaluation.specs.code.Tables.{BodiesHold, Callable, bodyPlace, mostArguments, mostDefined, mostFunctions}
+use Rattle.evaluation.specs.code.Tables.{BodiesHold, Callable, bodyPlace}
+use Rattle.forest.specs.Limits.{mostArguments, mostDefined, mostFunctions}
 use Rattle.evaluation.proofs.Bodies.{Body, held-defined, held-function}
 
 -- The value of a literal is the one that its code and its value say.

@@ -17,7 +17,7 @@ use Rattle.terms.specs.code.Nodes.{sizeAt}
 use Rattle.terms.specs.Values.{Meaning, labelValue, meaningAt, numbersIn, sortsIn, valueOver, valuesAt, valuesIn, withValue}
 use Rattle.terms.specs.declared.Value.{Value}
 use Rattle.evaluation.specs.code.Evaluating.{Evaluable, Evaluated, OperandsAre, OperandsEvaluable}
-use Rattle.evaluation.specs.code.Tables.{mostArguments}
+use Rattle.forest.specs.Limits.{mostArguments}
 use Rattle.evaluation.proofs.Arguments.{number-more, sort-more}
 use Rattle.evaluation.proofs.Cursors.{tree-within}
 use Rattle.evaluation.proofs.Parts.{TreeParts, tree-parts}

@@ -12,7 +12,7 @@ use lib.Seq.{getD-set-other, getD-set-same}
 use Rattle.terms.specs.Costs.{definedCost, functionCost}
 use Rattle.evaluation.specs.code.Budget.{Priced, held}
 use Rattle.evaluation.specs.code.Evaluating.{Cost, FilledTo, Filling, Priceable, Pricing}
-use Rattle.evaluation.specs.code.Tables.{mostDefined, mostFunctions}
+use Rattle.forest.specs.Limits.{mostDefined, mostFunctions}
 use Rattle.evaluation.proofs.Bodies.{held-defined, held-function, held-seen}
 
 -- At the start nothing is filled in.

@@ -1,17 +1,30 @@
 -- Laws of tables, for rows of any width: reading a number, writing one, and adding a row.
-use Prim.Native.Nat.{ℕ, _+_, _*_, _≤_, _<_}
-use native.Mathlib.Nat.{mul-suc, mul-zero, suc-add, zero-add}
+use Prim.Native.Nat.{ℕ, zero, suc, _+_, _*_, _≤_, _<_}
+use native.Mathlib.Nat.{mul-le-mul-right, mul-suc, mul-zero, suc-add, zero-add}
 use native.Mathlib.Omega.{arith}
 use mathlib.Core.Path.{_≡_, refl, sym, ap, _∙_}
 use mathlib.Core.List.{List, [], _∷_, _++_, append-assoc}
 use lib.ListN.{length, getD, drop, take, set, length-append, length-drop, take-append-drop, List·getD-append, List·getD-eq-default}
 use lib.Seq.{sets, sets-eq, getD-append-add, take-append-seam, drop-append-add, drop-drop, length-take-le, set-append-left}
-use Rattle.forest.specs.code.Rows.{rows, numberAt, over}
+use Rattle.forest.specs.code.Rows.{rows, numberAt, over, widest}
 use Rattle.forest.proofs.Lists.{within}
 
 set-append-add : {A : Type 0} (xs ys : List A) (n : ℕ) (v : A) → set (xs ++ ys) (length xs + n) v ≡ xs ++ set ys n v
 set-append-add [] ys n v = rw zero-add
 set-append-add (x ∷ xs) ys n v = rw (suc-add, set-append-add xs ys n v)
+
+-- a row and a column of it, by the row alone: no lower than it, and below as many rows of the greatest width
+pub row-low : (width row column : ℕ) → column < width → row ≤ width * row + column
+row-low width row column h = let one : 1 ≤ width = omega arith in omega (arith, mul-le-mul-right row one)
+
+pub row-high : (width row column : ℕ) → column < width → width ≤ widest → width * row + column < widest * (row + 1)
+row-high width row column h w = omega (arith, mul-le-mul-right row w)
+
+-- nothing is put past the end of a list
+pub set-past : {A : Type 0} (l : List A) (i : ℕ) (v : A) → length l ≤ i → l ≡ set l i v
+set-past [] i v h = refl
+set-past (x ∷ xs) zero v h = absurd (omega arith)
+set-past {A = A} (x ∷ xs) (suc i) v h = ap (λ (r : List A). x ∷ r) (set-past xs i v (omega arith))
 
 -- past the end of a table
 pub past : (width : ℕ) (table : List ℕ) (i column : ℕ) → length table ≤ width * i + column → 0 ≡ numberAt width table i column

@@ -2,3 +2,4 @@ pub mod Forest
 pub mod Lists
 pub mod Search
 pub mod code
+pub mod Limits

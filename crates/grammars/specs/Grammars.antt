@@ -9,7 +9,7 @@ use Rattle.names.specs.New.{newPairs}
 use Rattle.names.specs.Scopes.{View, formsOf}
 use Rattle.names.specs.Unknown.{unknownIn}
 use Rattle.term_faults.specs.Faults.{ruleMisfit, termFault}
-use Rattle.headers.specs.Heads.{Counts}
+use Rattle.forest.specs.Limits.{Counts}
 use Rattle.grammars.specs.Listing.{listingMisfit, startMisfit}
 use Rattle.term_nodes.specs.Rules.{Ruled, itemPast, nodesPast, rulePast, rulesIn, sides}
 use Rattle.written_sorts.specs.Written.{grammarSorts, sortOf}

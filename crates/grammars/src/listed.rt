@@ -1,10 +1,10 @@
 //! The start of a grammar, and its non-terminals listed again.
+use forest::numbers::least;
 use lexemes::next_at;
 use names::spelled::bytes_at;
 use names::table::NON_TERMINALS;
 use names::table::find_name;
 use names::table::sort_in;
-use written_sorts::places::least;
 use written_sorts::places::sort_of;
 ghost use mathlib.Core.Path.{_≡_};
 ghost use lib.Dec.{eqb};

@@ -5,6 +5,7 @@ use crate::parts::close_at;
 use crate::parts::groups_at;
 use crate::parts::non_terminals_at;
 use crate::parts::result_at;
+use forest::numbers::least;
 use lexemes::items::count_items;
 use names::Scope;
 use names::Seen;
@@ -18,7 +19,6 @@ use term_nodes::rules::gather_rules;
 use term_nodes::sizes::count_nodes;
 use written_sorts::Fault;
 use written_sorts::headers::grammar_place;
-use written_sorts::places::least;
 use written_sorts::places::sort_of;
 ghost use Rattle.grammars.specs.code.Reading.{Declared, GrammarAt, GrammarNamed, Limited, ListsTested, Naming, Sorted, Sorting};
 

@@ -22,7 +22,7 @@ use Rattle.names.specs.code.Lookup.{bytesAt, sourceOf}
 use Rattle.names.specs.code.Table.{longest}
 use Rattle.names.specs.declared.Scope.{Scope}
 use Rattle.names.proofs.Testing.{SymbolAt, symbol-at}
-use Rattle.headers.specs.Heads.{allowed}
+use Rattle.forest.specs.Limits.{allowed}
 use Rattle.headers.specs.code.Heading.{HeadAt, HeadLimited}
 
 -- The name of a command with a header is a symbol.

@@ -6,22 +6,7 @@ use Rattle.names.specs.New.{newName, newPairs}
 use Rattle.term_nodes.specs.Rules.{itemPast}
 use Rattle.written_sorts.specs.Written.{headerPlace}
 use Rattle.written_sorts.specs.declared.Fault.the-variants.{TooWide, Unknown}
-
--- "8 synthesized functions, 32 `define-fun`s, 16 variables, 64 constraints, 8 arguments, 16 non-terminals and 128 rules a grammar, 256 nodes .. a body,
--- constraint or rule"
-pub record Counts : Type 0 where
-  pub functions : ℕ
-  pub defined : ℕ
-  pub variables : ℕ
-  pub constraints : ℕ
-  pub arguments : ℕ
-  pub nonTerminals : ℕ
-  pub rules : ℕ
-  pub nodes : ℕ
-
--- Document 01's numbers.
-abbrev pub allowed : Counts
-allowed = record { functions = 8; defined = 32; variables = 16; constraints = 64; arguments = 8; nonTerminals = 16; rules = 128; nodes = 256 }
+use Rattle.forest.specs.Limits.{Counts}
 
 -- 4, "past a limit", in a function's arguments and sort.
 abbrev pub headerPast : Counts → (nowhere : ℕ) → Items → ℕ

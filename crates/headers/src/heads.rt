@@ -1,4 +1,5 @@
 //! The tests of a head.
+use forest::numbers::least;
 use lexemes::next_at;
 use names::Scope;
 use names::new::new_name;
@@ -12,12 +13,11 @@ use names::table::put_name;
 use term_nodes::rule_limits::item_past;
 use written_sorts::Fault;
 use written_sorts::headers::header_place;
-use written_sorts::places::least;
 use written_sorts::places::sort_of;
 ghost use mathlib.Core.Path.{_≡_};
 ghost use Rattle.written_sorts.specs.code.Places.{HeaderAt};
 ghost use Rattle.names.specs.code.NewNames.{Few};
-ghost use Rattle.headers.specs.Heads.{allowed};
+ghost use Rattle.forest.specs.Limits.{allowed};
 ghost use Rattle.headers.specs.code.Heading.{HeadAt, HeadLimited, HeadNamed, OwnNamed, firstRow, grownBy, ownRow};
 
 // The least word past a limit in the head of the command at a word: its ninth argument, or the width of a sort; `nowhere` where there is none.

@@ -5,9 +5,8 @@ pub mod items;
 pub mod numbering;
 pub mod reserved;
 
+use forest::numbers::number_at;
 ghost use mathlib.Core.Path.{_≡_};
-ghost use Prim.Native.Nat.{_<_};
-ghost use Rattle.forest.specs.code.Rows.{numberAt};
 ghost use Rattle.lexemes.specs.code.Table.{codeAt, endAt, nextAt, startAt, valueAt, widthAt};
 
 // How many numbers a row has.
@@ -24,59 +23,44 @@ pub const LITERAL: u64 = 4;
 
 pub const SYMBOL: u64 = 5;
 
-// Number `column` of a word.
-fn number_at(lexemes: &[u64], word: usize, column: usize) -> u64
-    requires { ⌜ column < 6 ⌝ }
-    ensures { λ r. ⌜ r ≡ numberAt 6 (now (lexemes .entry)) word column ⌝ }
-{
-    if word >= lexemes.len() {
-        return 0;
-    }
-    let place = ROW * word + column;
-    if place >= lexemes.len() {
-        return 0;
-    }
-    lexemes[place]
-}
-
 // The code of a word.
 pub fn code_at(lexemes: &[u64], word: usize) -> u64
     ensures { λ r. ⌜ r ≡ codeAt (now (lexemes .entry)) word ⌝ }
 {
-    number_at(lexemes, word, 0)
+    number_at(lexemes, ROW, word, 0)
 }
 
 // The word past a word, or past the list that it begins.
 pub fn next_at(lexemes: &[u64], word: usize) -> usize
     ensures { λ r. ⌜ r ≡ nextAt (now (lexemes .entry)) word ⌝ }
 {
-    number_at(lexemes, word, 1) as usize
+    number_at(lexemes, ROW, word, 1) as usize
 }
 
 // The value of a numeral or a literal, 0 of another word.
 pub fn value_at(lexemes: &[u64], word: usize) -> u64
     ensures { λ r. ⌜ r ≡ valueAt (now (lexemes .entry)) word ⌝ }
 {
-    number_at(lexemes, word, 2)
+    number_at(lexemes, ROW, word, 2)
 }
 
 // Where a word starts in its text.
 pub fn start_at(lexemes: &[u64], word: usize) -> usize
     ensures { λ r. ⌜ r ≡ startAt (now (lexemes .entry)) word ⌝ }
 {
-    number_at(lexemes, word, 3) as usize
+    number_at(lexemes, ROW, word, 3) as usize
 }
 
 // Where a word ends in its text.
 pub fn end_at(lexemes: &[u64], word: usize) -> usize
     ensures { λ r. ⌜ r ≡ endAt (now (lexemes .entry)) word ⌝ }
 {
-    number_at(lexemes, word, 4) as usize
+    number_at(lexemes, ROW, word, 4) as usize
 }
 
 // The width of a literal, 0 of another word.
 pub fn width_at(lexemes: &[u64], word: usize) -> u64
     ensures { λ r. ⌜ r ≡ widthAt (now (lexemes .entry)) word ⌝ }
 {
-    number_at(lexemes, word, 5)
+    number_at(lexemes, ROW, word, 5)
 }

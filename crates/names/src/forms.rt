@@ -1,9 +1,9 @@
 //! The forms that terms say, node by node, and the first name in them that is not known.
 use crate::Meaning;
 use crate::Seen;
-use crate::lesser;
 use crate::nodes::node_means;
 use crate::nodes::unknown_word;
+use forest::numbers::least;
 use term_nodes::first_at;
 use term_nodes::head_at;
 use term_nodes::operands_at;
@@ -56,7 +56,7 @@ pub fn write_forms(
             operands_at(raw, node),
             size_at(raw, node),
         );
-        unknown = lesser(
+        unknown = least(
             unknown,
             unknown_word(meaning.known, lexemes, first, head, nowhere),
         );

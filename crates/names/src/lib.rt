@@ -27,13 +27,6 @@ pub struct Meaning {
     pub value: u64,
 }
 
-// The lesser of two numbers.
-fn lesser(one: usize, other: usize) -> usize
-    ensures { λ r. ⌜ r ≡ min one other ⌝ }
-{
-    if one < other { one } else { other }
-}
-
 // How many names of each kind are in scope: variables, `define-fun`s, synthesized functions, and arguments, which stand from row `first` on.
 pub struct Scope {
     pub variables: usize,

@@ -6,23 +6,23 @@ use crate::table::FUNCTIONS;
 use crate::table::VARIABLES;
 use crate::table::find_name;
 use crate::table::put_name;
+use forest::numbers::least;
 use lexemes::code_at;
 use lexemes::codes::OTHER;
 use lexemes::codes::SET_LOGIC;
 use lexemes::next_at;
-use written_sorts::places::least;
 use written_sorts::places::sort_of;
 ghost use mathlib.Core.Path.{_≡_};
 ghost use Prim.Native.Nat.{_+_, _≤_};
 ghost use Rattle.names.specs.Scopes.{isNamed};
 ghost use Rattle.names.specs.code.Lookup.{Names};
-ghost use Rattle.names.specs.code.Table.{namesFrom};
+ghost use Rattle.names.specs.code.Table.{namesFrom, rowCount};
 ghost use Rattle.names.specs.code.NewNames.{Few, NameTested, NewName, NewPairs, PairAt, PairPut, PairsNamed, namesIn};
 
 // Whether a word is one of the names in so many rows from a row on.
 fn is_named(names: &[u8], first: usize, count: usize, word: &[u8]) -> bool
     requires { ⌜ Names (now names) ⌝ }
-    requires { ⌜ first + count ≤ 144 ⌝ }
+    requires { ⌜ first + count ≤ rowCount ⌝ }
     ensures { λ r. ⌜ r ≡ isNamed (namesFrom (now (names .entry)) first count) (now (word .entry)) ⌝ }
 {
     find_name(names, first, count, word) < count

@@ -1,5 +1,5 @@
 //! The bytes of a word.
-use crate::lesser;
+use forest::numbers::least;
 use lexemes::end_at;
 use lexemes::start_at;
 ghost use mathlib.Core.Path.{_≡_};
@@ -10,7 +10,7 @@ pub fn bytes_at<'a>(text: &'a [u8], lexemes: &[u64], word: usize) -> &'a [u8]
     ensures { λ r. ⌜ now r ≡ bytesAt (now (text .entry)) (now (lexemes .entry)) word ⌝ }
 {
     let start = start_at(lexemes, word);
-    let end = lesser(end_at(lexemes, word), text.len());
+    let end = least(end_at(lexemes, word), text.len());
     if start < end {
         return &text[start..end];
     }

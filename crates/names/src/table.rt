@@ -1,4 +1,6 @@
 //! The table of names: 66 bytes for each, its sort, its length, and its bytes with zeros behind them.
+use forest::limits;
+use word_kinds::kinds::SYMBOL_BYTES;
 ghost use mathlib.Core.Path.{_≡_};
 ghost use Prim.Native.Nat.{_+_, _*_, _<_, _≤_};
 ghost use lib.ListN.{length};
@@ -6,31 +8,31 @@ ghost use lib.Seq.{sets};
 ghost use Rattle.forest.specs.Lists.{sameBytes};
 ghost use Rattle.forest.specs.Search.{placeIn};
 ghost use Rattle.names.specs.code.Lookup.{Names};
-ghost use Rattle.names.specs.code.Table.{nameIn, nameRow, namesFrom, sortIn};
+ghost use Rattle.names.specs.code.Table.{longest, nameIn, nameRow, namesFrom, rowCount, rowWidth, sortIn};
 
 // How many bytes a row has.
-pub const ROW: usize = 66;
+pub const ROW: usize = 2 + SYMBOL_BYTES;
 
 // The rows of the first variable, `define-fun`, synthesized function, argument of a `define-fun` and non-terminal; the row of the first argument of the first
-// synthesized function, with 8 rows for each; and how many rows there are.
+// synthesized function, with a row for each argument that it may have; and how many rows there are.
 pub const VARIABLES: usize = 0;
 
-pub const DEFINED: usize = 16;
+pub const DEFINED: usize = VARIABLES + limits::VARIABLES;
 
-pub const FUNCTIONS: usize = 48;
+pub const FUNCTIONS: usize = DEFINED + limits::DEFINED;
 
-pub const ARGUMENTS: usize = 56;
+pub const ARGUMENTS: usize = FUNCTIONS + limits::FUNCTIONS;
 
-pub const NON_TERMINALS: usize = 64;
+pub const NON_TERMINALS: usize = ARGUMENTS + limits::ARGUMENTS;
 
-pub const OWN_ARGUMENTS: usize = 80;
+pub const OWN_ARGUMENTS: usize = NON_TERMINALS + limits::NON_TERMINALS;
 
-pub const ROWS: usize = 144;
+pub const ROWS: usize = OWN_ARGUMENTS + limits::ARGUMENTS * limits::FUNCTIONS;
 
 // The sort in a row.
 pub fn sort_in(names: &[u8], row: usize) -> u64
     requires { ⌜ Names (now names) ⌝ }
-    requires { ⌜ row < 144 ⌝ }
+    requires { ⌜ row < rowCount ⌝ }
     ensures { λ r. ⌜ r ≡ sortIn (now (names .entry)) row ⌝ }
 {
     names[ROW * row] as u64
@@ -39,7 +41,7 @@ pub fn sort_in(names: &[u8], row: usize) -> u64
 // Whether the name in a row is the word.
 fn is_name(names: &[u8], row: usize, word: &[u8]) -> bool
     requires { ⌜ Names (now names) ⌝ }
-    requires { ⌜ row < 144 ⌝ }
+    requires { ⌜ row < rowCount ⌝ }
     ensures { λ r. ⌜ r ≡ sameBytes (nameIn (now (names .entry)) row) (now (word .entry)) ⌝ }
 {
     let at = ROW * row;
@@ -59,7 +61,7 @@ fn is_name(names: &[u8], row: usize, word: &[u8]) -> bool
 // The place of the word among the names in so many rows from a row on; past the last of them where it is none of them.
 pub fn find_name(names: &[u8], first: usize, count: usize, word: &[u8]) -> usize
     requires { ⌜ Names (now names) ⌝ }
-    requires { ⌜ first + count ≤ 144 ⌝ }
+    requires { ⌜ first + count ≤ rowCount ⌝ }
     ensures { λ r. ⌜ r ≡ placeIn (namesFrom (now (names .entry)) first count) 0 (now (word .entry)) ⌝ }
 {
     let mut place = 0;
@@ -75,15 +77,15 @@ pub fn find_name(names: &[u8], first: usize, count: usize, word: &[u8]) -> usize
 // Writes a name and its sort into a row.
 pub fn put_name(names: &mut [u8], row: usize, sort: u8, word: &[u8])
     requires { ⌜ Names (now names) ⌝ }
-    requires { ⌜ row < 144 ⌝ }
-    requires { ⌜ length (now word) ≤ 64 ⌝ }
-    ensures { λ r. ⌜ now (names .exit) ≡ sets (now (names .entry)) (66 * row) (nameRow sort (now (word .entry))) ⌝ }
+    requires { ⌜ row < rowCount ⌝ }
+    requires { ⌜ length (now word) ≤ longest ⌝ }
+    ensures { λ r. ⌜ now (names .exit) ≡ sets (now (names .entry)) (rowWidth * row) (nameRow sort (now (word .entry))) ⌝ }
 {
     let at = ROW * row;
     names[at] = sort;
     names[at + 1] = word.len() as u8;
     let mut k = 0;
-    while k < 64 {
+    while k < SYMBOL_BYTES {
         names[at + 2 + k] = if k < word.len() { word[k] } else { 0 };
         k += 1;
     }

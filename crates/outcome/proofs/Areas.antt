@@ -4,7 +4,8 @@ use mathlib.Core.List.{List}
 use mathlib.Core.Path.{_≡_}
 use borrow.Author.Tests.{eq-eqb, ne-eqb}
 use lib.ListN.{length, length-replicate}
-use Rattle.derivation.specs.Answer.{areaSize, unused}
+use Rattle.derivation.specs.Answer.{unused}
+use Rattle.forest.specs.Limits.{areaSize}
 use Rattle.outcome.specs.Checked.{unshown}
 use Rattle.outcome.specs.Derived.{blankArea}
 

@@ -9,7 +9,7 @@ use Rattle.words.specs.declared.Reading.{Reading}
 use Rattle.words.specs.declared.Reading.the-variants.{Whole, Refused}
 use Rattle.lexemes.specs.code.Standing.{itemsOf}
 use Rattle.lexemes.proofs.Wholes.{text-stands}
-use Rattle.headers.specs.Heads.{allowed}
+use Rattle.forest.specs.Limits.{allowed}
 use Rattle.script.specs.Script.{Known, Read, passed, readAll, refused, nothingKnown}
 use Rattle.outcome.specs.Sorted.{Sorted}
 use Rattle.outcome.proofs.Sorted.{passed-sorted}

@@ -12,7 +12,8 @@ use Rattle.term_nodes.specs.Rules.{itemPast, rulePast, rulesIn}
 use Rattle.written_sorts.specs.Written.{grammarSorts, groupPlace, leastIn, pairPlace}
 use Rattle.written_sorts.specs.declared.Fault.the-variants.{TooWide}
 use Rattle.names.specs.Scopes.{Defined, Function, Named}
-use Rattle.headers.specs.Heads.{allowed, headerPast}
+use Rattle.headers.specs.Heads.{headerPast}
+use Rattle.forest.specs.Limits.{allowed}
 use Rattle.grammars.specs.Grammars.{grammarPast}
 use Rattle.script.specs.Script.{Known, knownAfter, limitPlace, viewOf}
 use Rattle.script.proofs.Places.{Below, inside-below}

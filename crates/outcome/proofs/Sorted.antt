@@ -20,7 +20,7 @@ use Rattle.lexemes.specs.code.Standing.{Source, Stands}
 use Rattle.names.specs.Scopes.{Defined, Function, Named}
 use Rattle.shapes.specs.Carried.{notCarried}
 use Rattle.shapes.specs.Shapes.{commandShape}
-use Rattle.headers.specs.Heads.{Counts}
+use Rattle.forest.specs.Limits.{Counts}
 use Rattle.script.specs.Script.{Known, Read, andThen, grammarPlace, judged, tested, knownAfter, limitPlace, namePlace, outOfPlace, passed, readAll, refused}
 use Rattle.script.specs.Script.{sortingPlace, nothingKnown}
 use Rattle.outcome.specs.Sorted.{AllBool, AllRulesSorted, RulesSorted, Sorted, grammarScope}

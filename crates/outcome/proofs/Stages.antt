@@ -9,14 +9,14 @@ use lib.Dec.{eqb, ltb}
 use lib.ListN.{length}
 use Rattle.forest.proofs.Options.{never}
 use Rattle.words.specs.Limits.{responseLimits, scriptLimits}
-use Rattle.derivation.specs.Answer.{areaSize}
+use Rattle.forest.specs.Limits.{areaSize, mostNumbers}
 use Rattle.evaluation.specs.declared.Ran.{Ran}
 use Rattle.evaluation.specs.declared.Ran.the-variants.{Passed, False, Ended}
 use Rattle.script.specs.Script.{Known}
 use Rattle.script.specs.Response.{Body}
 use Rattle.script.specs.Outcome.{ResponseOutcome, ScriptOutcome, given, responseOutcome, said, scriptOutcome}
 use Rattle.script.proofs.Numbers.{Numbered, inResponse, inScript, response-numbered, script-numbered}
-use Rattle.outcome.specs.Checked.{Checked, Passing, Judgement, judged, missized, mostNumbers, refusal, response-refused, script-refused, sizeAnswer}
+use Rattle.outcome.specs.Checked.{Checked, Passing, Judgement, judged, missized, refusal, response-refused, script-refused, sizeAnswer}
 use Rattle.outcome.specs.Checked.{unshown}
 use Rattle.outcome.specs.Demands.{Showing, accepted, budget-ended, constraint-false}
 use Rattle.outcome.specs.Derived.{blankArea}

@@ -10,7 +10,7 @@ use Rattle.lexemes.specs.Lists.{Items, inside, is, item, nameOf}
 use Rattle.written_sorts.specs.Written.{sortOf, sortPlace}
 use Rattle.written_sorts.specs.declared.Fault.the-variants.{TooWide}
 use Rattle.names.specs.Scopes.{Named, namedSorts}
-use Rattle.headers.specs.Heads.{allowed}
+use Rattle.forest.specs.Limits.{allowed}
 use Rattle.script.specs.Script.{Known, knownAfter, limitPlace}
 use Rattle.script.proofs.Places.{Below, inside-below, item-below, sort-narrow}
 use Rattle.script.specs.Outcome.{said, scriptOutcome}

@@ -3,7 +3,8 @@ use Prim.Native.Nat.{ℕ, zero, suc, _-_, _≤_}
 use mathlib.Core.List.{List, [], _∷_, _++_, map}
 use lib.ListN.{length, replicate}
 use Rattle.terms.specs.Labels.{Terms}
-use Rattle.derivation.specs.Answer.{areaSize, listOf, listSize, start, unused}
+use Rattle.derivation.specs.Answer.{listOf, start, unused}
+use Rattle.forest.specs.Limits.{areaSize, listSize}
 use Rattle.derivation.specs.Derivation.{Derives, Simple}
 use Rattle.names.specs.Scopes.{Function}
 use Rattle.script.specs.Response.{Body}

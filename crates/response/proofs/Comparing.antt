@@ -32,7 +32,8 @@ use Rattle.term_faults.proofs.Rising.{rising-wider, terms-rise}
 use Rattle.bodies.specs.code.Bodies.{Named, Naming, noSorts}
 use Rattle.headers.specs.code.Comparing.{Compared, Differs}
 use Rattle.script.specs.Script.{Known, termOf}
-use Rattle.script.specs.code.Tables.{GrammarHeld, functionsPlace}
+use Rattle.script.specs.code.Tables.{GrammarHeld}
+use Rattle.script.specs.code.Places.{functionsPlace}
 use Rattle.script.specs.declared.Progress.{Progress}
 use Rattle.script.specs.declared.Verdict.{Verdict}
 use Rattle.script.proofs.Nodes.{length-table}

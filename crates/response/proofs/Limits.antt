@@ -19,7 +19,8 @@ use Rattle.written_sorts.specs.code.Places.{HeaderAt}
 use Rattle.term_nodes.specs.Terms.{nodeWord, rawTerm}
 use Rattle.bodies.specs.code.Bodies.{Limited, TermAt}
 use Rattle.bodies.specs.declared.Body.{Body as Rows}
-use Rattle.headers.specs.Heads.{allowed, headerPast}
+use Rattle.headers.specs.Heads.{headerPast}
+use Rattle.forest.specs.Limits.{allowed}
 use Rattle.headers.specs.code.Heading.{HeadLimited}
 use Rattle.script.specs.Response.{Answered, judgedExtra, refused}
 use Rattle.response.specs.code.Responding.{Extra, Gathered, ListIn, Outlined, bodyAt, outlined}

@@ -8,12 +8,14 @@ use lib.ListN.{drop, getD, length, length-append, length-map}
 use lib.Seq.{drop-nil}
 use Rattle.forest.proofs.Lists.{within as below}
 use Rattle.terms.specs.Labels.{Terms}
-use Rattle.evaluation.specs.code.Tables.{TermStands, mostDefined}
+use Rattle.evaluation.specs.code.Tables.{TermStands}
+use Rattle.forest.specs.Limits.{mostDefined}
 use Rattle.term_sorts.specs.code.Signatures.{RowIs, RowsAre}
 use Rattle.names.specs.Scopes.{Defined, Function, definedNames, functionNames, inOrder, namesOf, signatureOf, namedSorts}
 use Rattle.names.specs.code.Table.{nameIn, namesFrom, ownArgumentRow, sortsFrom}
 use Rattle.names.proofs.Putting.{last-row}
-use Rattle.script.specs.code.Tables.{ArgumentsHold, GrammarHeld, GrammarsHold, bodiesPlace, definedSignatures, firstsPlace}
+use Rattle.script.specs.code.Tables.{ArgumentsHold, GrammarHeld, GrammarsHold, definedSignatures}
+use Rattle.script.specs.code.Places.{bodiesPlace, firstsPlace}
 use Rattle.script.specs.Response.{Body, inScriptOrder}
 use Rattle.response.specs.code.Responding.{ResponseAt}
 

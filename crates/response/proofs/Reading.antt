@@ -18,7 +18,7 @@ use Rattle.lexemes.proofs.Standing.{some-left}
 use Rattle.written_sorts.proofs.Walked.{placed}
 use Rattle.names.specs.Scopes.{Defined, Function}
 use Rattle.names.specs.code.Lookup.{sourceOf}
-use Rattle.headers.specs.Heads.{allowed}
+use Rattle.forest.specs.Limits.{allowed}
 use Rattle.script.specs.Script.{Known}
 use Rattle.script.specs.declared.Progress.{Progress}
 use Rattle.script.specs.declared.Verdict.{Verdict}

@@ -15,9 +15,10 @@ use Rattle.lexemes.proofs.Standing.{by-itself}
 use Rattle.term_nodes.proofs.Saying.{say-terms}
 use Rattle.names.specs.Scopes.{Defined, Function}
 use Rattle.names.specs.code.Lookup.{sourceOf}
-use Rattle.headers.specs.Heads.{allowed}
+use Rattle.forest.specs.Limits.{allowed}
 use Rattle.script.specs.Script.{termOf}
-use Rattle.script.specs.code.Tables.{PlacesHold, bodiesPlace, firstsPlace, functionsPlace}
+use Rattle.script.specs.code.Tables.{PlacesHold}
+use Rattle.script.specs.code.Places.{bodiesPlace, firstsPlace, functionsPlace}
 use Rattle.script.specs.declared.Progress.{Progress}
 use Rattle.script.specs.declared.Verdict.{Verdict}
 use Rattle.script.proofs.Answered.{body-held, body-places, first-put, grammars-kept, node-put, other-place}

@@ -20,9 +20,10 @@ use Rattle.lexemes.proofs.Standing.{forward, none-left, some-left}
 use Rattle.written_sorts.proofs.Walked.{placed}
 use Rattle.names.specs.Scopes.{Defined, Function}
 use Rattle.names.specs.code.Lookup.{sourceOf}
-use Rattle.headers.specs.Heads.{allowed}
+use Rattle.forest.specs.Limits.{allowed}
 use Rattle.script.specs.Script.{Known}
-use Rattle.script.specs.code.Tables.{GrammarsHold, PlacesHold, functionsPlace}
+use Rattle.script.specs.code.Tables.{GrammarsHold, PlacesHold}
+use Rattle.script.specs.code.Places.{functionsPlace}
 use Rattle.script.specs.declared.Progress.{Progress}
 use Rattle.script.specs.declared.Verdict.{Verdict}
 use Rattle.script.specs.Response.{Answered, Body, answered, bodies, nothingBehind, inScriptOrder, judgedAll, refused, withBody}

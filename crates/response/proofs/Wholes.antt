@@ -19,7 +19,7 @@ use Rattle.lexemes.proofs.Standing.{none-left, some-left}
 use Rattle.written_sorts.proofs.Walked.{placed}
 use Rattle.names.specs.Scopes.{Defined, Function}
 use Rattle.names.specs.code.Lookup.{sourceOf}
-use Rattle.headers.specs.Heads.{allowed}
+use Rattle.forest.specs.Limits.{allowed}
 use Rattle.script.specs.declared.Progress.{Progress}
 use Rattle.script.specs.Response.{Answered, answered, inScriptOrder, isAlone, refused}
 use Rattle.response.specs.code.Responding.{Answers, Responded, Responding}

@@ -4,16 +4,16 @@ use crate::outlines::outline;
 use crate::outlines::verdict;
 use bodies::read::body_names;
 use bodies::read::body_sort;
+use forest::numbers::least;
 use headers::compare::header_differs;
 use names::Seen;
 use names::table::OWN_ARGUMENTS;
 use script::Progress;
 use script::Verdict;
-use written_sorts::places::least;
 ghost use Prim.Native.Nat.{_<_};
 ghost use mathlib.Core.Path.{_≡_};
 ghost use lib.ListN.{length};
-ghost use Rattle.script.specs.code.Tables.{placesLength};
+ghost use Rattle.script.specs.code.Places.{placesLength};
 ghost use Rattle.response.specs.code.Responding.{Answering, Comparing, Matched, Taken, seenBy};
 
 // Where the signatures of functions begin, ten numbers for each.

@@ -1,5 +1,6 @@
 //! The shape and the limits of a `define-fun` in a response.
 use bodies::read::body_limit;
+use forest::numbers::least;
 use headers::heads::head_past;
 use lexemes::code_at;
 use lexemes::codes::DEFINE_FUN;
@@ -7,7 +8,6 @@ use lexemes::next_at;
 use script::Verdict;
 use shapes::carried::any_uncarried;
 use shapes::commands::define_fun_shape;
-use written_sorts::places::least;
 ghost use mathlib.Core.Path.{_≡_};
 ghost use Rattle.lexemes.specs.code.Standing.{ListAt};
 ghost use Rattle.response.specs.code.Responding.{Extra, ListIn, Outlined, bodyAt};

@@ -6,59 +6,51 @@ use mathlib.Core.List.{List, [], _∷_}
 use mathlib.Core.Path.{_≡_, refl, sym, ap, _∙_}
 use lib.ListN.{drop, getD, length, length-drop, length-map, length-set, length-take, set, take}
 use lib.Seq.{ext-getD, getD-drop, getD-set-other, getD-set-same, getD-take}
+use Rattle.forest.specs.Limits.{mostDefined, mostFunctions}
 use Rattle.forest.specs.Forest.{join}
 use Rattle.terms.specs.Labels.{Terms}
 use Rattle.terms.specs.code.Nodes.{nodeTable}
 use Rattle.term_sorts.specs.code.Signatures.{functionSignature}
 use Rattle.names.specs.Scopes.{Defined, Function, signatureOf}
 use Rattle.script.specs.Script.{Known}
-use Rattle.script.specs.code.Tables.{
-  GrammarHeld,
-  GrammarsHold,
-  PlacesHold,
-  bodiesPlace,
-  constraintsPlace,
-  definitionsOf,
-  firstsPlace,
-  functionsPlace,
-  rulesPlace,
-}
+use Rattle.script.specs.code.Tables.{GrammarHeld, GrammarsHold, PlacesHold, definitionsOf}
+use Rattle.script.specs.code.Places.{bodiesPlace, constraintsPlace, firstsPlace, functionBodiesPlace, functionWidth, functionsPlace, rulesPlace}
 use Rattle.script.proofs.Nodes.{Grown, bodies-wider, constraints-wider, nodes-grow, rows-elsewhere, rows-grown}
 use Rattle.terms.proofs.Bodies.{plain-join}
 
 -- The numbers of two tables of places are the same, but for those of the bodies of functions.
 pub record SamePlaces (places placesAfter : List ℕ) : Type 0 where
   pub long : length placesAfter ≡ length places
-  pub front : (n : ℕ) → n < bodiesPlace + 32 → getD placesAfter n 0 ≡ getD places n 0
+  pub front : (n : ℕ) → n < functionBodiesPlace → getD placesAfter n 0 ≡ getD places n 0
   pub middle : (n : ℕ) → constraintsPlace ≤ n → n < firstsPlace → getD placesAfter n 0 ≡ getD places n 0
 
 -- A table in which nothing is put.
 pub same-places : {places : List ℕ} → SamePlaces places places
 same-places = record { long = refl; front = λ n h. refl; middle = λ n l h. refl }
 
-module _ (places : List ℕ) {placesAfter : List ℕ} (j node first : ℕ) (low : j < 8)
-    (put : placesAfter ≡ set (set places (bodiesPlace + 32 + j) node) (firstsPlace + j) first) where
+module _ (places : List ℕ) {placesAfter : List ℕ} (j node first : ℕ) (low : j < mostFunctions)
+    (put : placesAfter ≡ set (set places (functionBodiesPlace + j) node) (firstsPlace + j) first) where
   -- A number other than the two that are put is what it was.
-  pub other-place : (n : ℕ) → (n ≡ bodiesPlace + 32 + j → ⊥) → (n ≡ firstsPlace + j → ⊥) → getD placesAfter n 0 ≡ getD places n 0
+  pub other-place : (n : ℕ) → (n ≡ functionBodiesPlace + j → ⊥) → (n ≡ firstsPlace + j → ⊥) → getD placesAfter n 0 ≡ getD places n 0
   other-place n one other =
-      rw put (getD-set-other (set places (bodiesPlace + 32 + j) node) (firstsPlace + j) n first 0 other ∙ getD-set-other places
-      (bodiesPlace + 32 + j) n node 0 one)
+      rw put (getD-set-other (set places (functionBodiesPlace + j) node) (firstsPlace + j) n first 0 other ∙ getD-set-other places
+      (functionBodiesPlace + j) n node 0 one)
 
   -- The first of them is the node.
-  pub node-put : bodiesPlace + 32 + j < length places → getD placesAfter (bodiesPlace + 32 + j) 0 ≡ node
+  pub node-put : functionBodiesPlace + j < length places → getD placesAfter (functionBodiesPlace + j) 0 ≡ node
   node-put h =
-      rw put (getD-set-other (set places (bodiesPlace + 32 + j) node) (firstsPlace + j) (bodiesPlace + 32 + j) first 0 (λ e. omega arith)
-      ∙ getD-set-same places (bodiesPlace + 32 + j) node 0 h)
+      rw put (getD-set-other (set places (functionBodiesPlace + j) node) (firstsPlace + j) (functionBodiesPlace + j) first 0 (λ e. omega arith)
+      ∙ getD-set-same places (functionBodiesPlace + j) node 0 h)
 
   -- The other is the first word.
   pub first-put : firstsPlace + j < length places → getD placesAfter (firstsPlace + j) 0 ≡ first
   first-put h =
-      rw put (getD-set-same (set places (bodiesPlace + 32 + j) node) (firstsPlace + j) first 0 (omega (arith, length-set places (bodiesPlace + 32 + j) node)))
+      rw put (getD-set-same (set places (functionBodiesPlace + j) node) (firstsPlace + j) first 0 (omega (arith, length-set places (functionBodiesPlace + j) node)))
 
-  -- Where the two are put for one of 8 functions, the others are the same.
+  -- Where the two are put for one of the functions, the others are the same.
   pub body-places : SamePlaces places placesAfter
   body-places = record {
-    long = ap length put ∙ length-set (set places (bodiesPlace + 32 + j) node) (firstsPlace + j) first ∙ length-set places (bodiesPlace + 32 + j) node;
+    long = ap length put ∙ length-set (set places (functionBodiesPlace + j) node) (firstsPlace + j) first ∙ length-set places (functionBodiesPlace + j) node;
     front = λ n h. other-place n (λ e. omega arith) (λ e. omega arith);
     middle = λ n l h. other-place n (λ e. omega arith) (λ e. omega arith);
   }
@@ -82,15 +74,15 @@ module _ {places placesAfter : List ℕ} (same : SamePlaces places placesAfter) 
       ) (number-same (k + i) (omega arith)))
 
   -- The grammar of a function is what it was.
-  grammar-kept : (forms : List ℕ) (rows j : ℕ) (f : Function) → j < 8 → GrammarHeld (drop functionsPlace places) forms rows j f
+  grammar-kept : (forms : List ℕ) (rows j : ℕ) (f : Function) → j < mostFunctions → GrammarHeld (drop functionsPlace places) forms rows j f
       → GrammarHeld (drop functionsPlace placesAfter) forms rows j f
   grammar-kept forms rows j f low g =
-      let start = number-same (4 * j) (omega arith) in
-      let taken = number-same (4 * j + 1) (omega arith) in
+      let start = number-same (functionWidth * j) (omega arith) in
+      let taken = number-same (functionWidth * j + 1) (omega arith) in
       record {
-        rules-are = number-same (4 * j + 2) (omega arith) ∙ g .rules-are;
+        rules-are = number-same (functionWidth * j + 2) (omega arith) ∙ g .rules-are;
         few-rules = g .few-rules;
-        before-is = number-same (4 * j + 3) (omega arith) ∙ g .before-is;
+        before-is = number-same (functionWidth * j + 3) (omega arith) ∙ g .before-is;
         table-is = part-same (rulesPlace j) (2 * length (f .grammar .rules)) (omega (arith, g .few-rules)) ∙ g .table-is;
         forms-are = rw (start, taken) (g .forms-are);
         within = rw (start, taken) (g .within);
@@ -98,7 +90,7 @@ module _ {places placesAfter : List ℕ} (same : SamePlaces places placesAfter) 
       }
 
   -- The grammars of functions are what they were.
-  pub grammars-kept : (forms : List ℕ) (rows : ℕ) (fs : List Function) → length fs ≤ 8 → GrammarsHold (drop functionsPlace places) forms rows fs
+  pub grammars-kept : (forms : List ℕ) (rows : ℕ) (fs : List Function) → length fs ≤ mostFunctions → GrammarsHold (drop functionsPlace places) forms rows fs
       → GrammarsHold (drop functionsPlace placesAfter) forms rows fs
   unfolding GrammarsHold
   grammars-kept forms rows [] few held = tt
@@ -106,7 +98,7 @@ module _ {places placesAfter : List ℕ} (same : SamePlaces places placesAfter) 
       (grammar-kept forms rows (length earlier) f (omega arith) (held .0), grammars-kept forms rows earlier (omega arith) (held .1))
 
   module _ {nodes nodesAfter : List ℕ} {rows more : ℕ} {k : Known} (p : PlacesHold places nodes rows k) {t : Terms}
-      (g : Grown nodes rows more t nodesAfter) (few-defined : length (k .defined) ≤ 32) (few-functions : length (k .functions) ≤ 8)
+      (g : Grown nodes rows more t nodesAfter) (few-defined : length (k .defined) ≤ mostDefined) (few-functions : length (k .functions) ≤ mostFunctions)
       (few-constraints : length (k .constraints) ≤ 64) where
     -- The tables hold what they held, with one term more.
     abbrev pub body-held : PlacesHold placesAfter nodesAfter (rows + more) k

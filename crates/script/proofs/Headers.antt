@@ -13,7 +13,8 @@ use Rattle.written_sorts.specs.Written.{leastIn, pairPlace, sortOf}
 use Rattle.written_sorts.specs.declared.Fault.the-variants.{TooWide}
 use Rattle.term_nodes.specs.Rules.{itemPast}
 use Rattle.names.specs.code.NewNames.{AllNarrow}
-use Rattle.headers.specs.Heads.{allowed, headerPast}
+use Rattle.headers.specs.Heads.{headerPast}
+use Rattle.forest.specs.Limits.{allowed}
 use Rattle.script.proofs.Places.{Below, inside-below, item-below, sort-narrow}
 
 -- Items are at most so many, where none is past the limit.

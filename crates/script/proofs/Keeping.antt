@@ -17,7 +17,7 @@ use Rattle.lexemes.specs.code.Standing.{itemsOf}
 use Rattle.lexemes.proofs.Wholes.{text-stands}
 use Rattle.shapes.specs.Carried.{notCarried}
 use Rattle.shapes.specs.Shapes.{commandShape}
-use Rattle.headers.specs.Heads.{allowed}
+use Rattle.forest.specs.Limits.{allowed}
 use Rattle.script.specs.Script.{Known, Read, andThen, grammarPlace, judged, knownAfter, limitPlace, namePlace, outOfPlace, passed, readAll, refused}
 use Rattle.script.specs.Script.{sortingPlace, nothingKnown, tested}
 use Rattle.script.proofs.Places.{Below, stands-below}

@@ -6,6 +6,7 @@ use mathlib.Core.List.{List, [], _∷_, _++_, append-assoc}
 use mathlib.Core.Path.{_≡_, refl, sym, ap, _∙_}
 use lib.ListN.{drop, getD, length, length-map, length-set, set, take}
 use lib.Seq.{getD-drop, getD-set-other, getD-set-same, sets, sets-eq, take-append-seam}
+use Rattle.forest.specs.Limits.{mostConstraints, mostDefined, mostFunctions}
 use Rattle.forest.specs.Forest.{Forest, from, join, nodesOf, none, size, tree}
 use Rattle.forest.specs.code.Rows.{numberAt, rows}
 use Rattle.forest.proofs.Laws.{from-past, join-assoc, size-join}
@@ -23,7 +24,8 @@ use Rattle.names.specs.code.Table.{sortsFrom}
 use Rattle.script.specs.code.Signing.{SignedIn, Signing}
 use Rattle.script.proofs.Signed.{back-kept, long-kept, row-same, rows-grow, rows-kept, rows-same}
 use Rattle.script.specs.Script.{Known}
-use Rattle.script.specs.code.Tables.{ConstraintsAt, PlacesHold, bodiesPlace, constraintsPlace, definitionsOf, placesLength}
+use Rattle.script.specs.code.Tables.{ConstraintsAt, PlacesHold, definitionsOf}
+use Rattle.script.specs.code.Places.{bodiesPlace, constraintsPlace, placesLength}
 
 -- ---- forests
 
@@ -133,7 +135,7 @@ module _ {places nodes nodesAfter : List ℕ} {rows more : ℕ} {k : Known} (p :
   rows-grown = omega (arith, p .rows-are, g .sized, size-join (p .all) t)
 
   -- One constraint more.
-  pub constraint-held : {m : ℕ} → m ≡ length (k .constraints) → m < 64 → length (k .defined) ≤ 32 → length (k .functions) ≤ 8
+  pub constraint-held : {m : ℕ} → m ≡ length (k .constraints) → m < mostConstraints → length (k .defined) ≤ mostDefined → length (k .functions) ≤ mostFunctions
       → {placesAfter : List ℕ} → placesAfter ≡ set places (constraintsPlace + m) rows
       → {after : Known} → after .defined ≡ k .defined → after .functions ≡ k .functions → after .constraints ≡ k .constraints ++ t ∷ []
       → PlacesHold placesAfter nodesAfter (rows + more) after
@@ -167,7 +169,7 @@ module _ {places nodes nodesAfter : List ℕ} {rows more : ℕ} {k : Known} (p :
     behind-kept : (j : ℕ) → getD signed (bodiesPlace + j) 0 ≡ getD places (bodiesPlace + j) 0
     behind-kept j = sym (getD-drop bodiesPlace signed j 0) ∙ ap (λ (l : List ℕ). getD l j 0) (back-kept given is-signed) ∙ getD-drop bodiesPlace places j 0
 
-    pub definition-held : n ≡ length (k .defined) → n < 32 → length (k .functions) ≤ 8 → length (k .constraints) ≤ 64
+    pub definition-held : n ≡ length (k .defined) → n < mostDefined → length (k .functions) ≤ mostFunctions → length (k .constraints) ≤ mostConstraints
         → {placesAfter : List ℕ} → placesAfter ≡ set signed (bodiesPlace + n) rows
         → (d : Defined) → d .definition .signature .arguments ≡ sortsFrom names first arguments → d .definition .signature .result ≡ result → result ≤ maxWidth
         → d .definition .body ≡ t
@@ -199,6 +201,6 @@ module _ {places nodes nodesAfter : List ℕ} {rows more : ℕ} {k : Known} (p :
                 (λ j h. rw (getD-drop, getD-drop) (other _ (λ e. omega arith) ∙ behind-kept _)) (p .bodies-at),
           );
           constraints-at = rw same-constraints (constraints-wider (p .all) t places placesAfter 0 (k .constraints) (λ j h.
-              let far : constraintsPlace + j ≡ bodiesPlace + (40 + j) = omega arith in
+              let far : constraintsPlace + j ≡ bodiesPlace + (mostDefined + mostFunctions + j) = omega arith in
               rw far (other _ (λ e. omega arith) ∙ behind-kept _)) (p .constraints-at));
         }

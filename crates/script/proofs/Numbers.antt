@@ -23,7 +23,8 @@ use Rattle.shapes.specs.Carried.{anyUncarried, notCarried}
 use Rattle.shapes.specs.Shapes.{commandShape, defineFunShape}
 use Rattle.headers.specs.Tokens.{differing, headerOf, headerTokens, wordsIn}
 use Rattle.term_faults.specs.Faults.{bodyFault}
-use Rattle.headers.specs.Heads.{Counts, allowed, headerPast}
+use Rattle.headers.specs.Heads.{headerPast}
+use Rattle.forest.specs.Limits.{Counts, allowed}
 use Rattle.script.specs.Limits.{nodePast}
 use Rattle.script.specs.Naming.{termNames}
 use Rattle.names.specs.Scopes.{Defined, Function}

@@ -3,7 +3,7 @@ use Prim.Native.Nat.{ℕ, _≤_, _<_}
 use mathlib.Core.Path.{_≡_, refl}
 use borrow.Author.Tests.{le-ltb, lt-ltb}
 use Rattle.lexemes.specs.Lists.{Items}
-use Rattle.headers.specs.Heads.{Counts}
+use Rattle.forest.specs.Limits.{Counts}
 use Rattle.script.specs.Script.{Known, grammarPlace, limitPlace, namePlace, sortingPlace, tested}
 use Rattle.script.specs.code.Tables.{Says}
 use Rattle.script.specs.declared.Verdict.{Verdict}

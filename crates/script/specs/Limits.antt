@@ -5,7 +5,7 @@ use lib.Dec.{ltb}
 use Rattle.forest.specs.Forest.{nodesOf}
 use Rattle.words.specs.Trees.{Lexeme}
 use Rattle.lexemes.specs.Lists.{Items}
-use Rattle.headers.specs.Heads.{Counts}
+use Rattle.forest.specs.Limits.{Counts}
 use Rattle.term_nodes.specs.Terms.{nodeWord, rawTerm}
 
 -- The node past the limit of a term.

@@ -9,7 +9,8 @@ use Rattle.terms.specs.Labels.{Terms}
 use Rattle.words.specs.Trees.{wordOf}
 use Rattle.headers.specs.Tokens.{differing, headerOf, headerTokens, wordsIn}
 use Rattle.shapes.specs.Carried.{anyUncarried}
-use Rattle.headers.specs.Heads.{Counts, headerPast}
+use Rattle.headers.specs.Heads.{headerPast}
+use Rattle.forest.specs.Limits.{Counts}
 use Rattle.script.specs.Limits.{nodePast}
 use Rattle.lexemes.specs.Lists.{Items, closeOf, inside, is, isList, item}
 use Rattle.script.specs.Naming.{termNames}

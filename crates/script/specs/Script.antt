@@ -11,7 +11,8 @@ use Rattle.terms.specs.Sorts.{Definition, Signature}
 use Rattle.derivation.specs.Derivation.{Item, anyArgument, anyLiteral, nonTerminal, the}
 use Rattle.words.specs.Trees.{Lexeme, wordOf}
 use Rattle.shapes.specs.Carried.{notCarried}
-use Rattle.headers.specs.Heads.{Counts, headerNames, headerPast}
+use Rattle.headers.specs.Heads.{headerNames, headerPast}
+use Rattle.forest.specs.Limits.{Counts}
 use Rattle.grammars.specs.Grammars.{grammarFault, grammarMisfit, grammarNames, grammarOf, grammarPast}
 use Rattle.script.specs.Limits.{commandPast, nodePast}
 use Rattle.lexemes.specs.Lists.{Items, inside, is, isList, item, nameOf}

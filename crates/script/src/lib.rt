@@ -1,10 +1,18 @@
 //! Scripts: what is known after each command, in tables.
 //! The table of signatures: ten numbers for each `define-fun`, synthesized function and non-terminal, how many arguments it has, its sort, and the sorts of its
 //! arguments.
+pub mod places;
 pub mod signatures;
 
-// Where the forms of rules begin in the table of nodes, behind the terms of 4,096 words of a script and 2,048 of a response.
-pub const FORMS: usize = 24576;
+use forest::limits::RESPONSE_WORDS;
+use forest::limits::SCRIPT_WORDS;
+use terms::ROW;
+
+// Where the forms of rules begin in the table of nodes, behind the terms of a script's and a response's words.
+pub const FORMS: usize = ROW * (SCRIPT_WORDS + RESPONSE_WORDS);
+
+// How many numbers the table of nodes has: the forms take a row for each word of a script.
+pub const NODES: usize = FORMS + ROW * SCRIPT_WORDS;
 
 // What the commands before have said: whether the logic was set and `check-synth` was met, how many there are of each kind, and how many rows of nodes and of
 // forms are taken.
@@ -24,4 +32,11 @@ pub struct Verdict {
     pub number: usize,
     pub place: usize,
     pub rows: usize,
+}
+
+// A command that is read: what those before it have said, the word of its bracket, and how many words the text has.
+pub struct Command {
+    pub progress: Progress,
+    pub at: usize,
+    pub nowhere: usize,
 }

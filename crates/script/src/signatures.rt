@@ -1,13 +1,21 @@
 //! Rows of the table of signatures, written from the table of names.
+use forest::limits;
+use forest::limits::ARGUMENTS;
+use forest::limits::DEFINED;
+use forest::limits::FUNCTIONS;
 use names::table::NON_TERMINALS;
 use names::table::sort_in;
 ghost use Rattle.script.specs.code.Signing.{Listed, Listing, SignedIn, Signing};
 
 // How many numbers a row has.
-const ROW: usize = 10;
+pub const ROW: usize = 2 + ARGUMENTS;
 
-// The row of the first non-terminal.
-const NON_TERMINAL_ROW: usize = 40;
+// The row of the first synthesized function, behind those of `define-fun`s; of the first non-terminal, behind these; and how many rows there are.
+pub const FUNCTION_ROW: usize = DEFINED;
+
+const NON_TERMINAL_ROW: usize = FUNCTION_ROW + FUNCTIONS;
+
+pub const ROWS: usize = NON_TERMINAL_ROW + limits::NON_TERMINALS;
 
 // Writes the row of a function whose arguments stand in the rows of the table of names from `first` on.
 pub fn put_signature(

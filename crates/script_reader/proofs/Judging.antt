@@ -10,7 +10,7 @@ use borrow.Author.Tests.{le-ltb, ltb-false, ltb-true}
 use Rattle.lexemes.specs.Lists.{Items}
 use Rattle.shapes.specs.Carried.{notCarried}
 use Rattle.shapes.specs.Shapes.{commandShape}
-use Rattle.headers.specs.Heads.{Counts}
+use Rattle.forest.specs.Limits.{Counts}
 use Rattle.script.specs.Limits.{commandPast}
 use Rattle.script.specs.Script.{Known, Read, grammarPlace, judged, limitPlace, namePlace, outOfPlace, passed, refused, sortingPlace, tested}
 use Rattle.script.specs.code.Tables.{KnownHeld, Says}

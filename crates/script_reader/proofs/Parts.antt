@@ -5,7 +5,7 @@ use mathlib.Core.List.{List, _++_, append-nil}
 use mathlib.Core.Path.{_≡_, refl, ap, subst⁻¹, _∙_}
 use lib.ListN.{drop, drop-of-length-le, length, length-append, length-drop, take}
 use lib.Seq.{drop-at, length-take-le, take-all, take-at}
-use Rattle.script.specs.code.Tables.{formsPlace}
+use Rattle.script.specs.code.Places.{formsPlace}
 
 -- The parts of a table that is as long as another.
 pub record Parts (nodes nodesAfter terms forms : List ℕ) : Type 0 where

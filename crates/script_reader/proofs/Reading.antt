@@ -10,7 +10,7 @@ use Rattle.lexemes.specs.code.Table.{codeAt}
 use Rattle.lexemes.specs.code.Standing.{ListAt}
 use Rattle.shapes.specs.Carried.{notCarried}
 use Rattle.shapes.specs.Shapes.{commandShape}
-use Rattle.headers.specs.Heads.{allowed}
+use Rattle.forest.specs.Limits.{allowed}
 use Rattle.script.specs.Script.{Read, judged, knownAfter, outOfPlace, refused}
 use Rattle.script.specs.code.Tables.{KnownHeld}
 use Rattle.script.specs.declared.Progress.{Progress}

@@ -9,9 +9,10 @@ use lib.ListN.{drop, length, length-drop, take}
 use lib.Seq.{length-take-le}
 use borrow.Author.Tests.{ne-eqb}
 use Rattle.lexemes.specs.Lists.{Items, is, item}
-use Rattle.headers.specs.Heads.{allowed}
+use Rattle.forest.specs.Limits.{allowed}
 use Rattle.script.specs.Script.{Known, knownAfter, limitPlace, tested}
-use Rattle.script.specs.code.Tables.{CommandOf, Says, TablesHold, formsPlace}
+use Rattle.script.specs.code.Tables.{CommandOf, Says, TablesHold}
+use Rattle.script.specs.code.Places.{formsPlace}
 use Rattle.script.specs.declared.Progress.{Progress}
 use Rattle.script.specs.declared.Verdict.{Verdict}
 use Rattle.commands.specs.code.Declaring.{Declared, Declaring}

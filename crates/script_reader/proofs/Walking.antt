@@ -20,9 +20,10 @@ use Rattle.term_sorts.specs.code.Signatures.{RowsAre}
 use Rattle.names.specs.Scopes.{inOrder}
 use Rattle.names.specs.code.Lookup.{Names, sourceOf}
 use Rattle.names.specs.code.Table.{namesFrom, sortsFrom}
-use Rattle.headers.specs.Heads.{allowed}
+use Rattle.forest.specs.Limits.{allowed}
 use Rattle.script.specs.Script.{Known, Read, andThen, judged, knownAfter, passed, readAll, refused, nothingKnown}
-use Rattle.script.specs.code.Tables.{ArgumentsHold, ConstraintsAt, GrammarsHold, KnownHeld, formsPlace, placesLength}
+use Rattle.script.specs.code.Tables.{ArgumentsHold, ConstraintsAt, GrammarsHold, KnownHeld}
+use Rattle.script.specs.code.Places.{formsPlace, placesLength}
 use Rattle.script.specs.declared.Progress.{Progress}
 use Rattle.script_reader.specs.code.Commands.{CommandRead, Commanded, Reads, Roomy, ScriptAt, ScriptRead, lastStep, nothingSaid}
 use Rattle.script_reader.specs.declared.Step.{Step}

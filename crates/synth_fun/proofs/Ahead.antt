@@ -18,7 +18,8 @@ use Rattle.written_sorts.specs.declared.Fault.the-variants.{TooWide}
 use Rattle.term_nodes.specs.Terms.{Raw, firstWord, isNode, nodeWord}
 use Rattle.term_faults.specs.code.Seeking.{AllSingle, Rising}
 use Rattle.term_nodes.specs.Rules.{Ruled, itemPast, nodesPast, rulePast, sides}
-use Rattle.headers.specs.Heads.{allowed, headerPast}
+use Rattle.headers.specs.Heads.{headerPast}
+use Rattle.forest.specs.Limits.{allowed}
 use Rattle.grammars.specs.Grammars.{grammarPast}
 use Rattle.script.specs.Script.{limitPlace}
 use Rattle.script.specs.code.Tables.{CommandOf}

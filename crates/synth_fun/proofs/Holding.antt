@@ -18,8 +18,9 @@ use Rattle.script.proofs.Signed.{back-kept, rows-grow, rows-kept}
 use Rattle.script.proofs.Sorted.{rows-before}
 use Rattle.script.proofs.Written.{before-written, drop-written, read-written}
 use Rattle.script.specs.Script.{argumentsOf, viewOf}
-use Rattle.script.specs.code.Tables.{ArgumentsHold, GrammarHeld, GrammarsHold, PlacesHold, bodiesPlace, constraintsPlace, definedSignatures, definitionsOf}
-use Rattle.script.specs.code.Tables.{functionsPlace, placesLength, rulesPlace}
+use Rattle.script.specs.code.Tables.{ArgumentsHold, GrammarHeld, GrammarsHold, PlacesHold, definedSignatures, definitionsOf}
+use Rattle.script.specs.code.Places.{bodiesPlace, constraintsPlace}
+use Rattle.script.specs.code.Places.{functionsPlace, placesLength, rulesPlace}
 use Rattle.script.specs.declared.Progress.{Progress}
 use Rattle.synth_fun.specs.code.Synthesizing.{Put, Putting, Unsorted, formsSaid, numbersOf, ownRules, ruledBy}
 use Rattle.synth_fun.specs.declared.Header.{Header}

@@ -14,8 +14,9 @@ use Rattle.term_sorts.specs.code.Signatures.{RowsAre, allRows}
 use Rattle.names.specs.Scopes.{Defined, Function, signatureOf}
 use Rattle.script.proofs.Signed.{row-same, rows-same}
 use Rattle.script.specs.Script.{Known}
-use Rattle.script.specs.code.Tables.{ConstraintsAt, Counted, GrammarHeld, GrammarsHold, PlacesHold, bodiesPlace, constraintsPlace, definedSignatures, definitionsOf}
-use Rattle.script.specs.code.Tables.{functionsPlace, rulesPlace}
+use Rattle.script.specs.code.Tables.{ConstraintsAt, Counted, GrammarHeld, GrammarsHold, PlacesHold, definedSignatures, definitionsOf}
+use Rattle.script.specs.code.Places.{bodiesPlace, constraintsPlace}
+use Rattle.script.specs.code.Places.{functionsPlace, rulesPlace}
 use Rattle.script.specs.declared.Progress.{Progress}
 
 -- A part of a list before a number that is written.

@@ -9,7 +9,7 @@ use Rattle.written_sorts.specs.code.Places.{HeaderAt}
 use Rattle.written_sorts.specs.Written.{headerPlace}
 use Rattle.written_sorts.specs.declared.Fault.the-variants.{Empty}
 use Rattle.term_faults.specs.code.Seeking.{RulesFound, RulesSought}
-use Rattle.headers.specs.Heads.{allowed}
+use Rattle.forest.specs.Limits.{allowed}
 use Rattle.grammars.specs.code.Reading.{Declared, ListsTested, Sorted, Sorting}
 use Rattle.term_nodes.specs.declared.Gathered.{Gathered}
 use Rattle.script.specs.code.Signing.{Listed}

@@ -8,7 +8,7 @@ use lib.Seq.{sets}
 use Rattle.names.specs.code.Table.{ownArgumentRow}
 use Rattle.term_nodes.specs.declared.Gathered.{Gathered}
 use Rattle.script.specs.code.Signing.{SignedIn}
-use Rattle.script.specs.code.Tables.{functionsPlace}
+use Rattle.script.specs.code.Places.{functionsPlace}
 use Rattle.script.specs.declared.Progress.{Progress}
 use Rattle.synth_fun.specs.code.Synthesizing.{Put, numbersOf}
 use Rattle.synth_fun.specs.declared.Header.{Header}

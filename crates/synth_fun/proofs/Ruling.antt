@@ -7,7 +7,7 @@ use mathlib.Core.List.{List, _++_, append-assoc}
 use lib.ListN.{drop, length, take}
 use lib.Seq.{drop-drop, getD-drop, length-sets, sets, sets-eq}
 use Rattle.script.proofs.Written.{before-written}
-use Rattle.script.specs.code.Tables.{functionsPlace, rulesPlace}
+use Rattle.script.specs.code.Places.{functionsPlace, rulesPlace}
 use Rattle.script.specs.declared.Progress.{Progress}
 use Rattle.script.specs.declared.Verdict.{Verdict}
 use Rattle.synth_fun.specs.code.Synthesizing.{Synthesized, Synthesizing, ownRules}

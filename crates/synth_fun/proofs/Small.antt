@@ -22,7 +22,8 @@ use Rattle.written_sorts.proofs.Commands.{synth-fun-parts}
 use Rattle.names.specs.Scopes.{namesOf}
 use Rattle.names.specs.code.Lookup.{sourceOf}
 use Rattle.names.specs.code.NewNames.{AllNarrow}
-use Rattle.headers.specs.Heads.{allowed, headerNames, headerPast}
+use Rattle.headers.specs.Heads.{headerNames, headerPast}
+use Rattle.forest.specs.Limits.{allowed}
 use Rattle.grammars.specs.Grammars.{grammarFault, grammarMisfit, grammarNames, grammarPast}
 use Rattle.term_nodes.specs.Rules.{itemPast, rulePast, sides}
 use Rattle.term_faults.specs.code.Seeking.{AllSingle, Rising}

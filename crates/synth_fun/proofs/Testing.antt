@@ -12,7 +12,7 @@ use Rattle.term_nodes.specs.code.Table.{rawRow, rawTable, uncounted, uncountedT
 use Rattle.term_nodes.specs.Terms.{Raw}
 use Rattle.written_sorts.specs.code.Places.{HeaderAt, SynthFunAt}
 use Rattle.written_sorts.proofs.Commands.{header}
-use Rattle.headers.specs.Heads.{allowed}
+use Rattle.forest.specs.Limits.{allowed}
 use Rattle.headers.specs.code.Heading.{HeadLimited}
 use Rattle.grammars.specs.code.Reading.{GrammarAt, Limited}
 use Rattle.term_nodes.specs.Rules.{sides, startTable}

@@ -1,11 +1,11 @@
 //! The command, with the test of its limits before the others.
 use crate::name_tests::names_tested;
 use crate::rows::RULES;
+use forest::numbers::least;
 use grammars::read::grammar_past;
 use headers::heads::head_past;
 use script::Progress;
 use script::Verdict;
-use written_sorts::places::least;
 ghost use Rattle.synth_fun.specs.code.Synthesizing.{Synthesized, Synthesizing};
 
 // The `synth-fun` at a word: its name, signature, arguments, rules and forms stand in the tables where it passes.

@@ -1,6 +1,7 @@
 //! The test of the names of the command, before those of its sorts.
 use crate::Header;
 use crate::sort_tests::sorts_tested;
+use forest::numbers::least;
 use grammars::read::grammar_names;
 use headers::heads::head_names;
 use lexemes::items::count_items;
@@ -10,7 +11,6 @@ use names::table::OWN_ARGUMENTS;
 use script::Progress;
 use script::Verdict;
 use term_nodes::Gathered;
-use written_sorts::places::least;
 use written_sorts::places::sort_of;
 ghost use Rattle.written_sorts.specs.code.Places.{SynthFunAt};
 ghost use Rattle.synth_fun.specs.code.Synthesizing.{Gathering, HeaderOf, NamesFound, Synthesized, Unnamed};

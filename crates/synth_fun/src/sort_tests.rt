@@ -2,6 +2,7 @@
 use crate::Header;
 use crate::rows::RULES;
 use crate::rows::put_function;
+use forest::numbers::least;
 use grammars::read::grammar_sorts;
 use grammars::read::lists_misfit;
 use script::Progress;
@@ -11,7 +12,6 @@ use term_faults::grammars::rules_misfit;
 use term_nodes::Gathered;
 use written_sorts::Fault;
 use written_sorts::headers::header_place;
-use written_sorts::places::least;
 ghost use mathlib.Core.Path.{_≡_};
 ghost use Rattle.bodies.specs.code.Bodies.{noSorts};
 ghost use Rattle.synth_fun.specs.code.Synthesizing.{Synthesized, Unsorted};

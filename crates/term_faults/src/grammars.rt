@@ -1,6 +1,6 @@
 //! Rules that are not of their non-terminal's sort.
 use crate::roots::root_misfit;
-use written_sorts::places::least;
+use forest::numbers::least;
 ghost use Rattle.term_faults.specs.code.Seeking.{HeadSort, Heads, RulesFound, RulesSought};
 
 // How many numbers a signature has.

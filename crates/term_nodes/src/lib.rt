@@ -7,55 +7,39 @@ pub mod rule_limits;
 pub mod rules;
 pub mod sizes;
 
+use forest::numbers::number_at;
 ghost use mathlib.Core.Path.{_≡_};
-ghost use Prim.Native.Nat.{_<_};
-ghost use Rattle.forest.specs.code.Rows.{numberAt};
 ghost use Rattle.term_nodes.specs.code.Table.{firstAt, headAt, operandsAt, sizeAt};
 
 // How many numbers a row has.
 pub const ROW: usize = 4;
 
-// Number `column` of a node.
-fn number_at(raw: &[u64], node: usize, column: usize) -> u64
-    requires { ⌜ column < 4 ⌝ }
-    ensures { λ r. ⌜ r ≡ numberAt 4 (now (raw .entry)) node column ⌝ }
-{
-    if node >= raw.len() {
-        return 0;
-    }
-    let place = ROW * node + column;
-    if place >= raw.len() {
-        return 0;
-    }
-    raw[place]
-}
-
 // The first word of a node.
 pub fn first_at(raw: &[u64], node: usize) -> usize
     ensures { λ r. ⌜ r ≡ firstAt (now (raw .entry)) node ⌝ }
 {
-    number_at(raw, node, 0) as usize
+    number_at(raw, ROW, node, 0) as usize
 }
 
 // The word that says what a node is.
 pub fn head_at(raw: &[u64], node: usize) -> usize
     ensures { λ r. ⌜ r ≡ headAt (now (raw .entry)) node ⌝ }
 {
-    number_at(raw, node, 1) as usize
+    number_at(raw, ROW, node, 1) as usize
 }
 
 // How many operands a node has.
 pub fn operands_at(raw: &[u64], node: usize) -> usize
     ensures { λ r. ⌜ r ≡ operandsAt (now (raw .entry)) node ⌝ }
 {
-    number_at(raw, node, 2) as usize
+    number_at(raw, ROW, node, 2) as usize
 }
 
 // How many nodes the tree of a node has.
 pub fn size_at(raw: &[u64], node: usize) -> usize
     ensures { λ r. ⌜ r ≡ sizeAt (now (raw .entry)) node ⌝ }
 {
-    number_at(raw, node, 3) as usize
+    number_at(raw, ROW, node, 3) as usize
 }
 
 // What is gathered so far: how many rows and rules, and the least word past a limit.

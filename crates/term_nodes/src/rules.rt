@@ -2,8 +2,8 @@
 use crate::Gathered;
 use crate::gather::gather_rule;
 use crate::limits::node_past;
+use forest::numbers::least;
 use lexemes::next_at;
-use written_sorts::places::least;
 ghost use mathlib.Core.List.{[], _∷_};
 ghost use mathlib.Core.Path.{_≡_};
 ghost use Prim.Native.Nat.{_+_, _*_, _≤_};

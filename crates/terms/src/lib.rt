@@ -1,7 +1,6 @@
 //! Terms in node tables: four numbers for each node. A node past the end of a table has zeros.
+use forest::numbers::number_at;
 ghost use mathlib.Core.Path.{_≡_};
-ghost use Prim.Native.Nat.{_<_};
-ghost use Rattle.forest.specs.code.Rows.{numberAt};
 ghost use Rattle.terms.specs.code.Nodes.{codeAt, operandsAt, sizeAt, valueAt};
 
 // A value of a sort: 0 is Bool, else the width; and its number.
@@ -24,45 +23,30 @@ pub const FUNCTION: u64 = 4;
 // How many numbers a row has.
 pub const ROW: usize = 4;
 
-// Number `column` of a node.
-fn number_at(nodes: &[u64], node: usize, column: usize) -> u64
-    requires { ⌜ column < 4 ⌝ }
-    ensures { λ r. ⌜ r ≡ numberAt 4 (now (nodes .entry)) node column ⌝ }
-{
-    if node >= nodes.len() {
-        return 0;
-    }
-    let place = ROW * node + column;
-    if place >= nodes.len() {
-        return 0;
-    }
-    nodes[place]
-}
-
 // The code of a node's label.
 pub fn code_at(nodes: &[u64], node: usize) -> u64
     ensures { λ r. ⌜ r ≡ codeAt (now (nodes .entry)) node ⌝ }
 {
-    number_at(nodes, node, 0)
+    number_at(nodes, ROW, node, 0)
 }
 
 // The value of a node's label.
 pub fn value_at(nodes: &[u64], node: usize) -> u64
     ensures { λ r. ⌜ r ≡ valueAt (now (nodes .entry)) node ⌝ }
 {
-    number_at(nodes, node, 1)
+    number_at(nodes, ROW, node, 1)
 }
 
 // How many operands a node has.
 pub fn operands_at(nodes: &[u64], node: usize) -> u64
     ensures { λ r. ⌜ r ≡ operandsAt (now (nodes .entry)) node ⌝ }
 {
-    number_at(nodes, node, 2)
+    number_at(nodes, ROW, node, 2)
 }
 
 // How many nodes the tree at a node has.
 pub fn size_at(nodes: &[u64], node: usize) -> usize
     ensures { λ r. ⌜ r ≡ sizeAt (now (nodes .entry)) node ⌝ }
 {
-    number_at(nodes, node, 3) as usize
+    number_at(nodes, ROW, node, 3) as usize
 }

@@ -9,7 +9,7 @@ use Rattle.forest.specs.Forest.{count, join, nodesOf}
 use Rattle.forest.specs.Lists.{sameBytes}
 use Rattle.forest.specs.Search.{placeIn}
 use Rattle.grammars.specs.Listing.{listingMisfit}
-use Rattle.headers.specs.Heads.{allowed}
+use Rattle.forest.specs.Limits.{allowed}
 use Rattle.headers.specs.Tokens.{argumentTokens, differing, wordsIn}
 use Rattle.lexemes.specs.Lists.{after, allNumerals, inside, item}
 use Rattle.lexemes.specs.Reserved.{isOneOf, isReserved, reservedWords}

@@ -9,7 +9,8 @@ use Rattle.forest.specs.code.Rows.{rows}
 use Rattle.terms.specs.code.Nodes.{AllPlain, nodeTable}
 use Rattle.derivation.specs.Derivation.{LeavesFit, Proper, formOf, headOf}
 use Rattle.derivation.specs.code.Tables.{formTable, rightSides, ruleTable}
-use Rattle.derivation.specs.Answer.{DerivePre, areaSize}
+use Rattle.derivation.specs.Answer.{DerivePre}
+use Rattle.forest.specs.Limits.{areaSize}
 use Rattle.derivation.proofs.Bench.{ring, ringBody}
 
 low : (r : ℕ) → r < 3 → headOf (ring .rules) r < 16

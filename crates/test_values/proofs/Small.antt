@@ -17,7 +17,8 @@ use Rattle.terms.specs.Values.{called, definedValue, functionValue, labelValue,
 use Rattle.terms.specs.Values.{withValue}
 use Rattle.evaluation.specs.code.Budget.{Priced, held}
 use Rattle.evaluation.specs.code.Evaluating.{Costing, Evaluable, Pricing}
-use Rattle.evaluation.specs.code.Tables.{BodiesAt, CallsDefined, CallsEarlier, CallsKnown, FewArguments, BodiesHold, TermStands, mostDefined}
+use Rattle.evaluation.specs.code.Tables.{BodiesAt, CallsDefined, CallsEarlier, CallsKnown, FewArguments, BodiesHold, TermStands}
+use Rattle.forest.specs.Limits.{mostDefined}
 use Rattle.test_values.specs.Case.{all, constraints, d0, defs, f0, funs, numbers, places, shifted, small, sorts}
 use Rattle.evaluation.specs.Points.{pointAt, valuesBy}
 use Rattle.evaluation.specs.Running.{isTrue, runPoints, runTerms}

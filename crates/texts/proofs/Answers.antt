@@ -14,7 +14,7 @@ use Rattle.words.specs.declared.Reading.the-variants.{Whole, Refused}
 use Rattle.lexemes.specs.code.Standing.{itemsOf}
 use Rattle.lexemes.proofs.Wholes.{text-stands}
 use Rattle.term_faults.proofs.Texts.{text-lawful}
-use Rattle.headers.specs.Heads.{allowed}
+use Rattle.forest.specs.Limits.{allowed}
 use Rattle.script.specs.declared.Progress.{Progress}
 use Rattle.script.specs.declared.Verdict.{Verdict}
 use Rattle.script.specs.Response.{Answered, answered, bodies, inScriptOrder, refused}

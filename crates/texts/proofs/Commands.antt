@@ -12,7 +12,7 @@ use Rattle.words.specs.declared.Reading.the-variants.{Whole, Refused}
 use Rattle.lexemes.specs.code.Standing.{itemsOf}
 use Rattle.lexemes.proofs.Wholes.{text-stands}
 use Rattle.term_faults.proofs.Texts.{text-lawful}
-use Rattle.headers.specs.Heads.{allowed}
+use Rattle.forest.specs.Limits.{allowed}
 use Rattle.script.specs.Script.{Read, passed, readAll, refused, nothingKnown}
 use Rattle.script_reader.specs.code.Commands.{Reads, ScriptAt, ScriptRead as CommandsRead}
 use Rattle.script_reader.specs.declared.Step.{Step}

@@ -5,7 +5,8 @@ use mathlib.Core.Path.{_≡_, refl, sym, ap, _∙_}
 use mathlib.Core.List.{List, [], _∷_, _++_, append-assoc, append-nil}
 use lib.ListN.{drop, length, length-append, length-replicate, replicate, replicate-append-replicate}
 use lib.Seq.{drop-append-add, drop-at, sets, sets-eq, take-at}
-use Rattle.derivation.specs.Answer.{areaSize, listOf, listSize, unused}
+use Rattle.derivation.specs.Answer.{listOf, unused}
+use Rattle.forest.specs.Limits.{areaSize, listSize}
 use Rattle.outcome.specs.Derived.{blankArea, listsOf, shownArea}
 
 -- A list has its size.

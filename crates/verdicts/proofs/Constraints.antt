@@ -17,7 +17,8 @@ use Rattle.evaluation.specs.code.Evaluating.{Pricing}
 use Rattle.evaluation.specs.Points.{pointAt, pointCount}
 use Rattle.evaluation.specs.code.Runs.{AllValued, PointsRan, PointsRunnable, TermsAt, mostConstraints}
 use Rattle.evaluation.specs.declared.Ran.{Ran}
-use Rattle.script.specs.code.Tables.{ConstraintsAt, bodiesPlace, constraintsPlace, definitionsOf}
+use Rattle.script.specs.code.Tables.{ConstraintsAt, definitionsOf}
+use Rattle.script.specs.code.Places.{bodiesPlace, constraintsPlace}
 use Rattle.script.specs.declared.Progress.{Progress}
 use Rattle.outcome.specs.Sorted.{AllBool}
 use Rattle.script.specs.Response.{inScriptOrder}

@@ -18,7 +18,8 @@ use Rattle.lexemes.proofs.Wholes.{text-stands}
 use Rattle.shapes.specs.Carried.{anyUncarried}
 use Rattle.shapes.specs.Shapes.{defineFunShape}
 use Rattle.names.specs.Scopes.{Defined, Function}
-use Rattle.headers.specs.Heads.{allowed, headerPast}
+use Rattle.headers.specs.Heads.{headerPast}
+use Rattle.forest.specs.Limits.{allowed}
 use Rattle.headers.specs.Tokens.{differing, headerOf, headerTokens, wordsIn}
 use Rattle.term_faults.specs.Faults.{bodyFault, scopeOf}
 use Rattle.script.specs.Limits.{nodePast}

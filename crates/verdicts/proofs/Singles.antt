@@ -10,7 +10,7 @@ use Rattle.forest.specs.Forest.{size}
 use Rattle.terms.specs.code.Nodes.{nodeTable, sizeAt}
 use Rattle.derivation.specs.Answer.{Decides, DerivePre}
 use Rattle.derivation.specs.code.Tables.{formTable, rightSides, ruleTable}
-use Rattle.script.specs.code.Tables.{functionsPlace, rulesPlace}
+use Rattle.script.specs.code.Places.{functionsPlace, rulesPlace}
 use Rattle.verdicts.specs.code.Deriving.{OneDerivable, OneJudged}
 use Rattle.verdicts.proofs.Bodies.{body-one, body-plain, body-rows, body-size, body-within}
 

@@ -8,11 +8,13 @@ use lib.ListN.{drop, getD, length, length-map}
 use lib.Seq.{getD-drop}
 use Rattle.terms.specs.Labels.{Terms}
 use Rattle.terms.specs.Sorts.{Definition, signatures}
-use Rattle.evaluation.specs.code.Tables.{BodiesAt, CallsDefined, CallsEarlier, FewArguments, TermStands, BodiesHold, mostDefined, mostFunctions}
+use Rattle.evaluation.specs.code.Tables.{BodiesAt, CallsDefined, CallsEarlier, FewArguments, TermStands, BodiesHold}
+use Rattle.forest.specs.Limits.{mostDefined, mostFunctions}
 use Rattle.term_sorts.specs.code.Signatures.{RowsAre, functionSignature}
 use Rattle.names.specs.Scopes.{Defined, Function, signatureOf}
 use Rattle.script.specs.Script.{Known}
-use Rattle.script.specs.code.Tables.{bodiesPlace, definitionsOf}
+use Rattle.script.specs.code.Tables.{definitionsOf}
+use Rattle.script.specs.code.Places.{bodiesPlace}
 use Rattle.script.specs.declared.Progress.{Progress}
 use Rattle.script.specs.Response.{Body, inScriptOrder}
 use Rattle.response.specs.code.Responding.{ResponseAt}

@@ -7,7 +7,8 @@ use mathlib.Core.Bool.{Bool, true, false}
 use mathlib.Core.List.{List, [], _∷_, _++_, append-assoc, append-nil}
 use lib.ListN.{drop, drop-of-length-le, length}
 use lib.Seq.{length-sets, sets}
-use Rattle.derivation.specs.Answer.{listOf, listSize}
+use Rattle.derivation.specs.Answer.{listOf}
+use Rattle.forest.specs.Limits.{listSize}
 use Rattle.derivation.specs.Derivation.{Admitted, LeavesFit}
 use Rattle.derivation.proofs.Leaves.{sorted-fit}
 use Rattle.derivation.proofs.Simple.{simple-derives}

@@ -19,7 +19,7 @@ const NUMERAL_DIGITS: usize = 9;
 
 const LITERAL_BITS: usize = 64;
 
-const SYMBOL_BYTES: usize = 64;
+pub const SYMBOL_BYTES: usize = 64;
 
 // Whether a byte belongs to a class.
 fn in_class(class: Class, byte: u8) -> bool

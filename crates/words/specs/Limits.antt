@@ -1,10 +1,11 @@
 -- What a text may hold. "The limit itself passes; one more is refused."
+use Rattle.forest.specs.Limits.{mostNesting, responseBytes, responseWords, scriptBytes, scriptWords}
 use Rattle.words.specs.declared.Limits.{Limits}
 
 -- "Script 32,768 bytes and 4,096 words, brackets counted; .. nesting 64"
 abbrev pub scriptLimits : Limits
-scriptLimits = record { bytes = 32768; words = 4096; nesting = 64 }
+scriptLimits = record { bytes = scriptBytes; words = scriptWords; nesting = mostNesting }
 
 -- "response 8,192 and 2,048; nesting 64"
 abbrev pub responseLimits : Limits
-responseLimits = record { bytes = 8192; words = 2048; nesting = 64 }
+responseLimits = record { bytes = responseBytes; words = responseWords; nesting = mostNesting }

@@ -16,10 +16,15 @@ use crate::scan::scan_text;
 use crate::spans::first_start;
 use crate::spans::word_end;
 use crate::table::ROW;
+use forest::limits::NESTING;
+use forest::limits::RESPONSE_BYTES;
+use forest::limits::RESPONSE_WORDS;
+use forest::limits::SCRIPT_BYTES;
+use forest::limits::SCRIPT_WORDS;
+use forest::numbers::least;
 use word_kinds::Fault;
 ghost use mathlib.Core.Path.{_≡_};
 ghost use lib.ListN.{length};
-ghost use Prim.Native.Nat.{min};
 ghost use Rattle.words.specs.Limits.{responseLimits, scriptLimits};
 ghost use Rattle.words.specs.Reading.{ReadWords, WordsForC, roomFor};
 ghost use Rattle.words.specs.Words.{enquired};
@@ -42,9 +47,9 @@ pub fn script_limits() -> Limits
     ensures { λ r. ⌜ r ≡ scriptLimits ⌝ }
 {
     Limits {
-        bytes: 32768,
-        words: 4096,
-        nesting: 64,
+        bytes: SCRIPT_BYTES as u32,
+        words: SCRIPT_WORDS as u32,
+        nesting: NESTING as u32,
     }
 }
 
@@ -53,17 +58,10 @@ pub fn response_limits() -> Limits
     ensures { λ r. ⌜ r ≡ responseLimits ⌝ }
 {
     Limits {
-        bytes: 8192,
-        words: 2048,
-        nesting: 64,
+        bytes: RESPONSE_BYTES as u32,
+        words: RESPONSE_WORDS as u32,
+        nesting: NESTING as u32,
     }
-}
-
-// The lesser of two numbers.
-fn least(first: usize, second: usize) -> usize
-    ensures { λ r. ⌜ r ≡ min first second ⌝ }
-{
-    if first <= second { first } else { second }
 }
 
 // The limits of a caller who lends so many rows and values.

@@ -1,8 +1,8 @@
 //! The least word at fault in the sorts of a function's header, and of its grammar.
 use crate::Fault;
-use crate::places::least;
 use crate::places::pairs_place;
 use crate::places::sort_place;
+use forest::numbers::least;
 use lexemes::next_at;
 use shapes::rules::is_pattern;
 ghost use mathlib.Core.Path.{_≡_};

@@ -1,5 +1,6 @@
 //! The sort that an item says, and the word at fault in it.
 use crate::Fault;
+use forest::numbers::least;
 use lexemes::OPEN;
 use lexemes::SYMBOL;
 use lexemes::code_at;
@@ -8,17 +9,9 @@ use lexemes::next_at;
 use lexemes::value_at;
 ghost use mathlib.Core.Bool.{cond};
 ghost use mathlib.Core.Path.{_≡_};
-ghost use Prim.Native.Nat.{min};
 ghost use Rattle.shapes.specs.Shapes.{pairShape};
 ghost use Rattle.written_sorts.specs.code.Places.{AllBetween, SortAt};
 ghost use Rattle.written_sorts.specs.Written.{leastIn, pairPlace, sortOf, sortPlace};
-
-// The lesser of two words.
-pub fn least(one: usize, other: usize) -> usize
-    ensures { λ r. ⌜ r ≡ min one other ⌝ }
-{
-    if one <= other { one } else { other }
-}
 
 // The word where a test passes, else `nowhere`.
 fn word_if(test: bool, word: usize, nowhere: usize) -> usize

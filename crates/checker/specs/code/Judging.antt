@@ -5,7 +5,7 @@ use mathlib.Core.Option.{none as nothing}
 use mathlib.Core.Path.{_≡_}
 use lib.ListN.{drop, length, take}
 use Rattle.script.specs.Script.{Known}
-use Rattle.script.specs.code.Tables.{formsPlace}
+use Rattle.script.specs.code.Places.{formsPlace}
 use Rattle.script.specs.declared.Progress.{Progress}
 use Rattle.script.specs.Response.{Body, inScriptOrder}
 use Rattle.script.specs.Outcome.{given, offsetOf, responseOutcome, said, scriptOutcome}

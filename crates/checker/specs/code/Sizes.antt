@@ -4,7 +4,7 @@ use mathlib.Core.List.{List}
 use mathlib.Core.Option.{none as nothing, some}
 use mathlib.Core.Path.{_≡_}
 use lib.ListN.{length}
-use Rattle.derivation.specs.Answer.{areaSize}
+use Rattle.forest.specs.Limits.{areaSize}
 use Rattle.outcome.specs.Checked.{sizeAnswer}
 use Rattle.outcome.specs.declared.Outcome.{Outcome}
 

@@ -13,7 +13,7 @@ use Rattle.shapes.specs.Shapes.{declareVarShape}
 use Rattle.written_sorts.specs.code.Places.{SortAt}
 use Rattle.written_sorts.specs.Written.{sortOf, sortPlace}
 use Rattle.written_sorts.specs.declared.Fault.the-variants.{TooWide, Unknown}
-use Rattle.headers.specs.Heads.{allowed}
+use Rattle.forest.specs.Limits.{allowed}
 use Rattle.names.specs.code.Lookup.{Names, ShortNames, sourceOf}
 use Rattle.names.specs.code.Table.{nameRow, rowCount, rowWidth}
 use Rattle.names.specs.New.{newName}

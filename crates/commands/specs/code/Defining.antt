@@ -18,12 +18,13 @@ use Rattle.names.specs.Unknown.{unknownIn}
 use Rattle.names.specs.declared.Seen.{Seen}
 use Rattle.names.specs.declared.Scope.{Scope}
 use Rattle.script.specs.code.Signing.{SignedIn, Signing}
-use Rattle.headers.specs.Heads.{allowed}
+use Rattle.forest.specs.Limits.{allowed}
 use Rattle.term_faults.specs.Faults.{bodyFault}
 use Rattle.term_faults.specs.code.Seeking.{Signed}
 use Rattle.bodies.specs.code.Bodies.{Naming}
 use Rattle.script.specs.Script.{limitPlace}
-use Rattle.script.specs.code.Tables.{After, CommandOf, NamesHold, PlacesHold, Tested, bodiesPlace, functionsPlace}
+use Rattle.script.specs.code.Tables.{After, CommandOf, NamesHold, PlacesHold, Tested}
+use Rattle.script.specs.code.Places.{bodiesPlace, functionsPlace}
 use Rattle.script.specs.declared.Progress.{Progress}
 use Rattle.script.specs.declared.Verdict.{Verdict}
 

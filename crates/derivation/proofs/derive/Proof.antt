@@ -1,6 +1,7 @@
 use borrow.Author.Needs.{needs}
 use Rattle.derivation.proofs.Top.{masks-fit, show-pre, derive-no, derive-yes}
-use Rattle.derivation.specs.Answer.{listSize, unused}
+use Rattle.derivation.specs.Answer.{unused}
+use Rattle.forest.specs.Limits.{listSize}
 use lib.ListN.{length, length-take, length-replicate}
 use mathlib.Core.Path.{refl, sym, ap, _∙_}
 use Prim.Native.Nat.{ℕ, _/_}

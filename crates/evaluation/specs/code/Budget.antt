@@ -5,7 +5,7 @@ use mathlib.Core.Path.{_≡_}
 use lib.ListN.{getD, length}
 use Rattle.terms.specs.Costs.{definedCost, functionCost}
 use Rattle.terms.specs.Sorts.{Definition}
-use Rattle.evaluation.specs.code.Tables.{mostDefined}
+use Rattle.forest.specs.Limits.{mostDefined}
 
 -- A cost as it is held: one less, and at most 2^64 - 1. A cost is at least 1, so that it is at most a 64-bit budget exactly where what is held is
 -- less than the budget.

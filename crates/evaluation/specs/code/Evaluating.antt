@@ -14,7 +14,8 @@ use Rattle.terms.specs.Sorts.{Definition}
 use Rattle.terms.specs.Values.{numbersIn, sortsIn, value, valuesAt}
 use Rattle.terms.specs.declared.Value.{Value}
 use Rattle.evaluation.specs.code.Budget.{Priced, held}
-use Rattle.evaluation.specs.code.Tables.{CallsKnown, BodiesHold, TermStands, mostArguments, mostDefined, mostFunctions}
+use Rattle.evaluation.specs.code.Tables.{CallsKnown, BodiesHold, TermStands}
+use Rattle.forest.specs.Limits.{mostArguments, mostDefined, mostFunctions}
 
 -- The numbers at the front of `env` are those of the point.
 abbrev pub Names : (env : List ℕ) (point : List Value) → Type 0

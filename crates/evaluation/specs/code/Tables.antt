@@ -9,18 +9,7 @@ use Rattle.forest.specs.Forest.{from, none, tree}
 use Rattle.terms.specs.Labels.{Label, Terms, defined, function, literal, name, operator}
 use Rattle.terms.specs.code.Nodes.{AllPlain, definedKind, functionKind, nodeTable}
 use Rattle.terms.specs.Sorts.{Definition}
-
--- "32 `define-fun`s": the bodies of the synthesized functions have their places behind these.
-abbrev pub mostDefined : ℕ
-mostDefined = 32
-
--- "8 synthesized functions"
-abbrev pub mostFunctions : ℕ
-mostFunctions = 8
-
--- "8 arguments"
-abbrev pub mostArguments : ℕ
-mostArguments = 8
+use Rattle.forest.specs.Limits.{mostArguments, mostDefined, mostFunctions}
 
 -- The term t begins at node i of the terms `all`.
 pub record TermStands (all : Terms) (i : ℕ) (t : Terms) : Type 0 where

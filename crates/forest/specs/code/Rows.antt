@@ -12,6 +12,10 @@ rows row (a ∷ more) = row a ++ rows row more
 unfoldable pub numberAt : (width : ℕ) → List ℕ → ℕ → ℕ → ℕ
 numberAt width table i column = getD table (width * i + column) 0
 
+-- How many numbers a row may have where the code reads a table.
+abbrev pub widest : ℕ
+widest = 8
+
 -- What was lent, with the numbers `front` written over its front, where it has room.
 abbrev pub over : (front lent : List ℕ) → List ℕ
 over front lent = front ++ drop (length front) lent

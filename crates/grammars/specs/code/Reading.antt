@@ -24,7 +24,7 @@ use Rattle.names.specs.code.NewNames.{AllNarrow, Few, namesIn}
 use Rattle.names.specs.declared.Scope.{Scope}
 use Rattle.term_faults.specs.Faults.{scopeOf}
 use Rattle.term_faults.specs.code.Seeking.{Lawful, Sought}
-use Rattle.headers.specs.Heads.{allowed}
+use Rattle.forest.specs.Limits.{allowed}
 use Rattle.term_nodes.specs.Rules.{rulesIn, sides, startTable}
 use Rattle.term_nodes.specs.declared.Gathered.{Gathered}
 use Rattle.grammars.specs.Grammars.{grammarFault, grammarNames, grammarPast, listMisfit}

@@ -18,7 +18,8 @@ use Rattle.names.specs.code.Table.{argumentRow, definedRow, functionRow, nameIn
 use Rattle.names.specs.New.{namedBy, newName}
 use Rattle.names.specs.code.NewNames.{AllNarrow, Few, namesIn}
 use Rattle.names.specs.declared.Scope.{Scope}
-use Rattle.headers.specs.Heads.{Counts, headerNames, headerPast}
+use Rattle.headers.specs.Heads.{headerNames, headerPast}
+use Rattle.forest.specs.Limits.{Counts}
 
 -- The word past a limit in the head of the command at a word is found.
 abbrev pub HeadLimited : {lexemes : List ℕ} {i : ℕ} → HeaderAt lexemes i → (counts : Counts) → (nowhere r : ℕ) → Type 0

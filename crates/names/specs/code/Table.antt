@@ -2,14 +2,16 @@
 use Prim.Native.Nat.{ℕ, zero, suc, _+_, _-_, _*_}
 use mathlib.Core.List.{List, [], _∷_, _++_}
 use lib.ListN.{drop, getD, length, replicate, take}
+use Rattle.word_kinds.specs.Limits.{symbolBytes}
+use Rattle.forest.specs.Limits.{mostArguments, mostDefined, mostFunctions, mostNonTerminals, mostVariables}
 
 -- How many bytes a row has.
 abbrev pub rowWidth : ℕ
-rowWidth = 66
+rowWidth = 2 + symbolBytes
 
 -- "at most 64 bytes"
 abbrev pub longest : ℕ
-longest = 64
+longest = symbolBytes
 
 -- The row of the first variable.
 abbrev pub variableRow : ℕ
@@ -17,27 +19,27 @@ variableRow = 0
 
 -- The row of the first `define-fun`.
 abbrev pub definedRow : ℕ
-definedRow = 16
+definedRow = variableRow + mostVariables
 
 -- The row of the first synthesized function.
 abbrev pub functionRow : ℕ
-functionRow = 48
+functionRow = definedRow + mostDefined
 
 -- The row of the first argument of a `define-fun`.
 abbrev pub argumentRow : ℕ
-argumentRow = 56
+argumentRow = functionRow + mostFunctions
 
 -- The row of the first non-terminal.
 abbrev pub nonTerminalRow : ℕ
-nonTerminalRow = 64
+nonTerminalRow = argumentRow + mostArguments
 
--- The row of the first argument of synthesized function j: "8 arguments".
+-- The row of the first argument of synthesized function j.
 abbrev pub ownArgumentRow : (j : ℕ) → ℕ
-ownArgumentRow j = 80 + 8 * j
+ownArgumentRow j = nonTerminalRow + mostNonTerminals + mostArguments * j
 
--- How many rows there are: "8 synthesized functions".
+-- How many rows there are.
 abbrev pub rowCount : ℕ
-rowCount = 144
+rowCount = ownArgumentRow mostFunctions
 
 -- The row of a name and its sort.
 abbrev pub nameRow : (sort : ℕ) → (name : List ℕ) → List ℕ

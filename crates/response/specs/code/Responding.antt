@@ -9,7 +9,7 @@ use lib.Seq.{sets}
 use Rattle.forest.specs.Forest.{size, tree}
 use Rattle.words.specs.Trees.{list, wordOf}
 use Rattle.terms.specs.Labels.{Terms}
-use Rattle.evaluation.specs.code.Tables.{mostDefined, TermStands}
+use Rattle.evaluation.specs.code.Tables.{TermStands}
 use Rattle.derivation.specs.code.Tables.{formTable}
 use Rattle.lexemes.specs.Lists.{Items, inside, is, item}
 use Rattle.lexemes.specs.code.Standing.{ListAt, Stands}
@@ -23,12 +23,14 @@ use Rattle.names.specs.code.Lookup.{sourceOf}
 use Rattle.names.specs.declared.Seen.{Seen}
 use Rattle.term_faults.specs.Faults.{bodyFault}
 use Rattle.term_faults.specs.code.Seeking.{Lawful}
-use Rattle.headers.specs.Heads.{Counts, allowed, headerPast}
+use Rattle.headers.specs.Heads.{headerPast}
+use Rattle.forest.specs.Limits.{Counts, allowed, mostDefined}
 use Rattle.headers.specs.Tokens.{differing, headerOf, headerTokens, wordsIn}
 use Rattle.script.specs.Limits.{nodePast}
 use Rattle.script.specs.Naming.{termNames}
 use Rattle.script.specs.Script.{Known, termOf}
-use Rattle.script.specs.code.Tables.{Counted, GrammarsHold, NamesHold, PlacesHold, TablesHold, bodiesPlace, firstsPlace, functionsPlace}
+use Rattle.script.specs.code.Tables.{Counted, GrammarsHold, NamesHold, PlacesHold, TablesHold}
+use Rattle.script.specs.code.Places.{bodiesPlace, firstsPlace, functionsPlace}
 use Rattle.script.specs.declared.Progress.{Progress}
 use Rattle.script.specs.declared.Verdict.{Verdict}
 use Rattle.script.specs.Response.{Answered, Body, answered, bodies, inScriptOrder, judgedAll, judgedBody, judgedExtra, refused, responseView, withBody}

@@ -4,6 +4,7 @@ use mathlib.Core.List.{List, [], _∷_}
 use mathlib.Core.Path.{_≡_}
 use lib.ListN.{drop, length, take}
 use lib.Seq.{sets}
+use Rattle.forest.specs.Limits.{mostArguments, mostNonTerminals}
 use Rattle.operators.specs.Sorts.{maxWidth}
 use Rattle.term_sorts.specs.code.Signatures.{SortsAre, allRows, nonTerminalSignature, signatureWidth}
 use Rattle.names.specs.code.Lookup.{Names}
@@ -13,7 +14,7 @@ use Rattle.names.specs.code.Table.{nonTerminalRow as firstNonTerminal, rowCount
 pub record Signing (names places : List ℕ) (row first arguments result : ℕ) : Type 0 where
   pub table : Names names
   pub fits : first + arguments ≤ rowCount
-  pub few : arguments ≤ 8
+  pub few : arguments ≤ mostArguments
   pub low : row < allRows
   pub room : signatureWidth * allRows ≤ length places
 
@@ -28,7 +29,7 @@ SignedIn names places row first arguments result placesAfter = placesAfter ≡ s
 -- The non-terminals stand in the table of names, so many of them.
 pub record Listing (names places : List ℕ) (listed : ℕ) : Type 0 where
   pub table : Names names
-  pub few : listed ≤ 16
+  pub few : listed ≤ mostNonTerminals
   pub room : signatureWidth * allRows ≤ length places
   pub narrow : (k : ℕ) → k < listed → (s : ℕ) → sortsFrom names (firstNonTerminal + k) 1 ≡ s ∷ [] → s ≤ maxWidth
 

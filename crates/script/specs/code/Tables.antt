@@ -11,13 +11,14 @@ use Rattle.forest.specs.Forest.{size, tree}
 use Rattle.words.specs.Trees.{list}
 use Rattle.lexemes.specs.Lists.{Items, is, item}
 use Rattle.shapes.specs.Shapes.{commandShape}
-use Rattle.headers.specs.Heads.{allowed}
+use Rattle.forest.specs.Limits.{allowed, mostArguments, mostConstraints, mostDefined, mostFunctions, mostRules, mostVariables, scriptWords}
 use Rattle.lexemes.specs.code.Standing.{Stands as Standing}
 use Rattle.term_faults.specs.code.Seeking.{Lawful}
 use Rattle.terms.specs.Labels.{Terms}
-use Rattle.terms.specs.code.Nodes.{AllPlain, nodeTable}
+use Rattle.terms.specs.code.Nodes.{AllPlain, nodeTable, rowWidth as nodeWidth}
 use Rattle.terms.specs.Sorts.{Definition, Signature}
 use Rattle.evaluation.specs.code.Tables.{BodiesAt, TermStands}
+use Rattle.derivation.specs.code.Columns.{ruleWidth}
 use Rattle.derivation.specs.code.Tables.{formTable, rightSides, ruleTable}
 use Rattle.term_sorts.specs.code.Signatures.{RowsAre, functionSignature}
 use Rattle.names.specs.Scopes.{Defined, Function, definedNames, functionNames, inOrder, namesOf, signatureOf, namedSorts}
@@ -26,34 +27,7 @@ use Rattle.names.specs.code.Table.{definedRow, functionRow, namesFrom, ownArgum
 use Rattle.script.specs.Script.{Known, Read, knownAfter, passed, refused, tested}
 use Rattle.script.specs.declared.Progress.{Progress}
 use Rattle.script.specs.declared.Verdict.{Verdict}
-
--- Where the numbers of bodies begin, behind 56 rows of signatures: 32 of `define-fun`s, 8 of synthesized functions and 16 of non-terminals.
-abbrev pub bodiesPlace : ℕ
-bodiesPlace = 560
-
--- Where the numbers of constraints begin, 64 of them.
-abbrev pub constraintsPlace : ℕ
-constraintsPlace = 600
-
--- Where the numbers of synthesized functions begin, four for each of 8.
-abbrev pub functionsPlace : ℕ
-functionsPlace = 664
-
--- Where the rules of synthesized function j begin, behind the numbers of functions: two numbers for each of 128 rules.
-abbrev pub rulesPlace : (j : ℕ) → ℕ
-rulesPlace j = 32 + 256 * j
-
--- Where the first words of the bodies of synthesized functions begin, behind their rules.
-abbrev pub firstsPlace : ℕ
-firstsPlace = 2744
-
--- How many numbers the table of places has.
-abbrev pub placesLength : ℕ
-placesLength = 2752
-
--- Where the forms of rules begin in the table of nodes, behind the terms of 4,096 words of a script and 2,048 of a response.
-abbrev pub formsPlace : ℕ
-formsPlace = 24576
+use Rattle.script.specs.code.Places.{bodiesPlace, constraintsPlace, formsPlace, functionWidth, functionsPlace, placesLength, rulesPlace}
 
 -- The numbers of each kind are those of what is known, and within the limits.
 pub record Counted (p : Progress) (k : Known) : Type 0 where
@@ -63,10 +37,10 @@ pub record Counted (p : Progress) (k : Known) : Type 0 where
   pub defined-are : p .defined ≡ length (k .defined)
   pub functions-are : p .functions ≡ length (k .functions)
   pub constraints-are : p .constraints ≡ length (k .constraints)
-  pub few-variables : p .variables ≤ 16
-  pub few-defined : p .defined ≤ 32
-  pub few-functions : p .functions ≤ 8
-  pub few-constraints : p .constraints ≤ 64
+  pub few-variables : p .variables ≤ mostVariables
+  pub few-defined : p .defined ≤ mostDefined
+  pub few-functions : p .functions ≤ mostFunctions
+  pub few-constraints : p .constraints ≤ mostConstraints
 
 -- The arguments of functions, the last first, stand in their own rows.
 unfoldable pub ArgumentsHold : (names : List ℕ) → List Function → Type 0
@@ -74,7 +48,7 @@ ArgumentsHold names [] = Unit {0}
 ArgumentsHold names (f ∷ earlier) =
     (namesFrom names (ownArgumentRow (length earlier)) (length (f .arguments)) ≡ namesOf (f .arguments))
     × (sortsFrom names (ownArgumentRow (length earlier)) (length (f .arguments)) ≡ namedSorts (f .arguments))
-    × (length (f .arguments) ≤ 8)
+    × (length (f .arguments) ≤ mostArguments)
     × ArgumentsHold names earlier
 
 -- The table of names has the names that are known.
@@ -115,13 +89,13 @@ pub record PlacesHold (places nodes : List ℕ) (rows : ℕ) (k : Known) : Type 
 -- The numbers of function j, in the part of the table of places that begins with those of functions, and its rules and forms, in the first `rows` rows: where
 -- its forms begin, how many rows they take, how many rules there are, and how many `define-fun`s stand before it.
 pub record GrammarHeld (numbers forms : List ℕ) (rows : ℕ) (j : ℕ) (f : Function) : Type 0 where
-  pub rules-are : getD numbers (4 * j + 2) 0 ≡ length (f .grammar .rules)
-  pub few-rules : length (f .grammar .rules) ≤ 128
-  pub before-is : getD numbers (4 * j + 3) 0 ≡ f .before
-  pub table-is : take (2 * length (f .grammar .rules)) (drop (rulesPlace j) numbers) ≡ ruleTable 0 (f .grammar .rules)
-  pub forms-are : take (4 * getD numbers (4 * j + 1) 0) (drop (4 * getD numbers (4 * j) 0) forms) ≡ formTable (rightSides (f .grammar .rules))
-  pub within : getD numbers (4 * j) 0 + getD numbers (4 * j + 1) 0 ≤ rows
-  pub sized : getD numbers (4 * j + 1) 0 ≡ size (rightSides (f .grammar .rules))
+  pub rules-are : getD numbers (functionWidth * j + 2) 0 ≡ length (f .grammar .rules)
+  pub few-rules : length (f .grammar .rules) ≤ mostRules
+  pub before-is : getD numbers (functionWidth * j + 3) 0 ≡ f .before
+  pub table-is : take (ruleWidth * length (f .grammar .rules)) (drop (rulesPlace j) numbers) ≡ ruleTable 0 (f .grammar .rules)
+  pub forms-are : take (nodeWidth * getD numbers (functionWidth * j + 1) 0) (drop (nodeWidth * getD numbers (functionWidth * j) 0) forms) ≡ formTable (rightSides (f .grammar .rules))
+  pub within : getD numbers (functionWidth * j) 0 + getD numbers (functionWidth * j + 1) 0 ≤ rows
+  pub sized : getD numbers (functionWidth * j + 1) 0 ≡ size (rightSides (f .grammar .rules))
 
 -- The same of every function, the last first.
 unfoldable pub GrammarsHold : (numbers forms : List ℕ) → (rows : ℕ) → List Function → Type 0
@@ -134,7 +108,7 @@ pub record TablesHold (names places nodes forms : List ℕ) (p : Progress) (k : 
   pub names-hold : NamesHold names k
   pub places-hold : PlacesHold places nodes (p .nodes) k
   pub grammars-hold : GrammarsHold (drop functionsPlace places) forms (p .forms) (k .functions)
-  pub forms-room : 4 * p .forms ≤ length forms
+  pub forms-room : nodeWidth * p .forms ≤ length forms
 
 -- The same of one table of nodes, the terms in front and the forms behind them.
 abbrev pub KnownHeld : (names places nodes : List ℕ) → Progress → Known → Type 0
@@ -145,7 +119,7 @@ abbrev pub Says : Verdict → Read → Type 0
 Says v (refused number place) = (v .number ≡ number) × (v .place ≡ place)
 Says v (passed k) = v .number ≡ 0
 
--- A command stands at word i of a lawful text of so many words, at most 4,096.
+-- A command stands at word i of a lawful text of so many words, no more than a script may have.
 pub record CommandAt (text lexemes : List ℕ) (i nowhere : ℕ) : Type 0 where
   pub close : ℕ
   pub command : Items
@@ -153,7 +127,7 @@ pub record CommandAt (text lexemes : List ℕ) (i nowhere : ℕ) : Type 0 where
   pub end : ℕ
   pub stands : Standing (sourceOf text lexemes) i (tree (list i close) command more) end
   pub lawful : Lawful (sourceOf text lexemes) nowhere
-  pub few : nowhere ≤ 4096
+  pub few : nowhere ≤ scriptWords
 
 -- A command of the word, of its shape, stands at word i, and what is known before it.
 pub record CommandOf (word : String) (text lexemes : List ℕ) (p : Progress) (i nowhere : ℕ) : Type 0 where

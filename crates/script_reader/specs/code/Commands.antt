@@ -11,9 +11,10 @@ use Rattle.lexemes.specs.Lists.{Items}
 use Rattle.lexemes.specs.code.Standing.{Stands}
 use Rattle.names.specs.code.Lookup.{Names, sourceOf}
 use Rattle.term_faults.specs.code.Seeking.{Lawful}
-use Rattle.headers.specs.Heads.{allowed}
+use Rattle.forest.specs.Limits.{allowed}
 use Rattle.script.specs.Script.{Known, Read, judged, knownAfter, passed, readAll, refused, nothingKnown, tested}
-use Rattle.script.specs.code.Tables.{CommandAt, KnownHeld, Says, formsPlace, placesLength}
+use Rattle.script.specs.code.Tables.{CommandAt, KnownHeld, Says}
+use Rattle.script.specs.code.Places.{formsPlace, placesLength}
 use Rattle.script.specs.declared.Progress.{Progress}
 use Rattle.script.specs.declared.Verdict.{Verdict}
 use Rattle.script_reader.specs.declared.Step.{Step}

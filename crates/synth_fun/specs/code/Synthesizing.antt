@@ -15,10 +15,11 @@ use Rattle.names.specs.code.Table.{namesFrom, nonTerminalRow, ownArgumentRow, s
 use Rattle.names.specs.New.{namedBy}
 use Rattle.term_nodes.specs.Rules.{Ruled, rulesIn, sides, startTable}
 use Rattle.term_nodes.specs.declared.Gathered.{Gathered}
-use Rattle.headers.specs.Heads.{allowed}
+use Rattle.forest.specs.Limits.{allowed}
 use Rattle.script.specs.code.Signing.{Signing, signatureRow}
 use Rattle.script.specs.Script.{Known, limitPlace, namePlace, viewOf}
-use Rattle.script.specs.code.Tables.{After, CommandOf, GrammarsHold, NamesHold, PlacesHold, Tested, functionsPlace, placesLength}
+use Rattle.script.specs.code.Tables.{After, CommandOf, GrammarsHold, NamesHold, PlacesHold, Tested}
+use Rattle.script.specs.code.Places.{functionsPlace, placesLength}
 use Rattle.script.specs.declared.Progress.{Progress}
 use Rattle.script.specs.declared.Verdict.{Verdict}
 use Rattle.synth_fun.specs.declared.Header.{Header}

@@ -5,6 +5,7 @@ use mathlib.Core.List.{List, [], _∷_, _++_}
 use mathlib.Core.Path.{_≡_}
 use lib.ListN.{getD, length}
 use Rattle.forest.specs.Forest.{Forest, none, tree}
+use Rattle.forest.specs.Limits.{mostArguments, mostDefined, mostFunctions, mostNonTerminals}
 use Rattle.forest.specs.code.Rows.{numberAt}
 use Rattle.operators.specs.Sorts.{Fit, maxWidth}
 use Rattle.derivation.specs.Derivation.{Item, anyArgument, anyLiteral, nonTerminal, the}
@@ -15,26 +16,26 @@ use Rattle.term_sorts.specs.Forms.{FormScope}
 
 -- How many numbers a row has.
 abbrev pub signatureWidth : ℕ
-signatureWidth = 10
+signatureWidth = 2 + mostArguments
 
--- The row of the first synthesized function: 32 `define-fun`s stand before it.
+-- The row of the first synthesized function, behind those of `define-fun`s.
 abbrev pub functionSignature : ℕ
-functionSignature = 32
+functionSignature = mostDefined
 
--- The row of the first non-terminal: 8 synthesized functions stand before it.
+-- The row of the first non-terminal, behind those of synthesized functions.
 abbrev pub nonTerminalSignature : ℕ
-nonTerminalSignature = 40
+nonTerminalSignature = functionSignature + mostFunctions
 
--- How many rows there are: 16 non-terminals stand last.
+-- How many rows there are.
 abbrev pub allRows : ℕ
-allRows = 56
+allRows = nonTerminalSignature + mostNonTerminals
 
 -- Row r is that of a signature.
 pub record RowIs (signatures : List ℕ) (r : ℕ) (f : Signature) : Type 0 where
   pub counted : numberAt signatureWidth signatures r 0 ≡ length (f .arguments)
   pub result-is : numberAt signatureWidth signatures r 1 ≡ f .result
   pub arguments-are : (k : ℕ) → k < length (f .arguments) → numberAt signatureWidth signatures r (2 + k) ≡ getD (f .arguments) k 0
-  pub few : length (f .arguments) ≤ 8
+  pub few : length (f .arguments) ≤ mostArguments
   pub sort : f .result ≤ maxWidth
 
 -- Functions, the last first, have the rows from `base` on.
@@ -74,6 +75,6 @@ pub record Sortable (forms signatures : List ℕ) : Type 0 where
   pub defined-are : RowsAre signatures 0 (scope .terms .defined)
   pub functions-are : RowsAre signatures functionSignature (scope .terms .functions)
   pub nonTerminals-are : SortsAre signatures nonTerminalSignature (scope .nonTerminals)
-  pub few-defined : length (scope .terms .defined) ≤ 32
-  pub few-functions : length (scope .terms .functions) ≤ 8
-  pub few-nonTerminals : length (scope .nonTerminals) ≤ 16
+  pub few-defined : length (scope .terms .defined) ≤ mostDefined
+  pub few-functions : length (scope .terms .functions) ≤ mostFunctions
+  pub few-nonTerminals : length (scope .nonTerminals) ≤ mostNonTerminals

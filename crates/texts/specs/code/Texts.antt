@@ -13,7 +13,8 @@ use Rattle.words.specs.declared.Reading.{Reading}
 use Rattle.words.specs.declared.Reading.the-variants.{Whole}
 use Rattle.names.specs.code.Lookup.{Names}
 use Rattle.script.specs.Script.{Known}
-use Rattle.script.specs.code.Tables.{GrammarsHold, KnownHeld, TablesHold, formsPlace, functionsPlace, placesLength}
+use Rattle.script.specs.code.Tables.{GrammarsHold, KnownHeld, TablesHold}
+use Rattle.script.specs.code.Places.{formsPlace, functionsPlace, placesLength}
 use Rattle.script.specs.declared.Progress.{Progress}
 use Rattle.script.specs.declared.Verdict.{Verdict}
 use Rattle.script_reader.specs.declared.Step.{Step}

@@ -7,12 +7,14 @@ use lib.ListN.{drop, getD, length}
 use Rattle.forest.specs.Forest.{size}
 use Rattle.terms.specs.Labels.{Terms}
 use Rattle.terms.specs.code.Nodes.{AllPlain, nodeTable}
-use Rattle.evaluation.specs.code.Tables.{TermStands, mostDefined, mostFunctions}
-use Rattle.derivation.specs.Answer.{NotDerived, Shown as ShownIn, areaSize}
+use Rattle.evaluation.specs.code.Tables.{TermStands}
+use Rattle.forest.specs.Limits.{mostDefined, mostFunctions, areaSize}
+use Rattle.derivation.specs.Answer.{NotDerived, Shown as ShownIn}
 use Rattle.derivation.specs.Derivation.{Admitted, LeavesFit}
 use Rattle.names.specs.Scopes.{Function}
 use Rattle.script.specs.Script.{Known}
-use Rattle.script.specs.code.Tables.{GrammarHeld, bodiesPlace, firstsPlace, functionsPlace, placesLength}
+use Rattle.script.specs.code.Tables.{GrammarHeld}
+use Rattle.script.specs.code.Places.{bodiesPlace, firstsPlace, functionsPlace, placesLength}
 use Rattle.script.specs.declared.Progress.{Progress}
 use Rattle.script.specs.Response.{Body, inScriptOrder}
 use Rattle.verdicts.specs.code.Held.{Held}

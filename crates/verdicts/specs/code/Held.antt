@@ -3,7 +3,8 @@ use Prim.Native.Nat.{ℕ, _*_, _≤_}
 use mathlib.Core.List.{List}
 use lib.ListN.{drop, length}
 use Rattle.script.specs.Script.{Known}
-use Rattle.script.specs.code.Tables.{Counted, GrammarsHold, NamesHold, functionsPlace}
+use Rattle.script.specs.code.Tables.{Counted, GrammarsHold, NamesHold}
+use Rattle.script.specs.code.Places.{functionsPlace}
 use Rattle.script.specs.declared.Progress.{Progress}
 use Rattle.script.specs.Response.{Body, inScriptOrder}
 use Rattle.response.specs.code.Responding.{BodiesHeld}

@@ -1,6 +1,6 @@
 use native.Mathlib.Omega.{arith}
 use lib.ListN.{length-take}
-use Rattle.script.specs.code.Tables.{formsPlace}
+use Rattle.script.specs.code.Places.{formsPlace}
 use Rattle.checker.proofs.Bodies.{lent-searched, lent-tables}
 use borrow.Author.Needs.{needs}
 use Rattle.checker.proofs.judge.derive_tables.Statement.{statement}

@@ -1,7 +1,7 @@
 use native.Mathlib.Omega.{arith}
 use mathlib.Core.Path.{refl}
 use lib.ListN.{length-take}
-use Rattle.script.specs.code.Tables.{formsPlace}
+use Rattle.script.specs.code.Places.{formsPlace}
 use borrow.Author.Needs.{needs}
 use Rattle.checker.proofs.judge.judge_points.Statement.{statement}
 use Rattle.checker.proofs.judge.judge_points.Tie as tie

@@ -40,8 +40,8 @@ put-form-requires c κs = let going = c .before .before .before .before .before 
 unknown-word-requires : tie.Need-unknown-word-requires Inv-loop μ-loop
 unknown-word-requires c κs = search needs
 
-lesser-requires : tie.Need-lesser-requires Inv-loop μ-loop
-lesser-requires c κs = search needs
+least-requires : tie.Need-least-requires Inv-loop μ-loop
+least-requires c κs = search needs
 
 add-node : tie.Need-add-node Inv-loop μ-loop
 add-node c = let inside = c .before .before .before .before .before .before .before .before .before .before .before .loop-test .taken in let fits = c .before .before .before .before .before .before .before .before .before .before .before .before .before .before .before .before .before .before .good .1 .1 .1 .1 .1 .0 in omega arith
@@ -50,7 +50,7 @@ loop-less : tie.Need-loop-less Inv-loop μ-loop
 loop-less c = omega arith
 
 loop-again : tie.Need-loop-again Inv-loop μ-loop
-loop-again c = turn (c .before .before .before .before .before .before .before .before .before .before .before .before .loop .inv) (c .before .before .before .before .before .before .before .before .before .before .before .loop-test .taken) (c .before .before .before .before .before .before .before .before .before .before .first-at .ensures) (c .before .before .before .before .before .before .before .before .before .head-at .ensures) (c .before .before .before .before .before .before .before .before .node-means .ensures) (c .before .before .before .before .before .before .operands-at .ensures) (c .before .before .before .before .before .size-at .ensures) (c .before .before .before .before .put-form .ensures) (c .before .unknown-word .ensures) (c .lesser .ensures)
+loop-again c = turn (c .before .before .before .before .before .before .before .before .before .before .before .before .loop .inv) (c .before .before .before .before .before .before .before .before .before .before .before .loop-test .taken) (c .before .before .before .before .before .before .before .before .before .before .first-at .ensures) (c .before .before .before .before .before .before .before .before .before .head-at .ensures) (c .before .before .before .before .before .before .before .before .node-means .ensures) (c .before .before .before .before .before .before .operands-at .ensures) (c .before .before .before .before .before .size-at .ensures) (c .before .before .before .before .put-form .ensures) (c .before .unknown-word .ensures) (c .least .ensures)
 
 same-length : tie.Need-same-length Inv-loop μ-loop
 same-length c = c .before .loop .inv .long
@@ -73,7 +73,7 @@ write-forms-spec =
     size-at-requires
     put-form-requires
     unknown-word-requires
-    lesser-requires
+    least-requires
     add-node
     loop-less
     loop-again

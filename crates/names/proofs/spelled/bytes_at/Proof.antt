@@ -9,8 +9,8 @@ start-at-requires c κs = search needs
 end-at-requires : tie.Need-end-at-requires
 end-at-requires c κs = search needs
 
-lesser-requires : tie.Need-lesser-requires
-lesser-requires c κs = search needs
+least-requires : tie.Need-least-requires
+least-requires c κs = search needs
 
 sub-result : tie.Need-sub-result
 sub-result c = search needs
@@ -36,7 +36,7 @@ bytes-at-spec =
     (tie.spec
     start-at-requires
     end-at-requires
-    lesser-requires
+    least-requires
     sub-result
     part-result-start
     part-result-end

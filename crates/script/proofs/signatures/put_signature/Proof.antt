@@ -1,4 +1,5 @@
 use Rattle.names.specs.code.Table.{sortsFrom}
+use Rattle.term_sorts.specs.code.Signatures.{signatureWidth}
 use Prim.Native.Nat.{_*_, _-_}
 use mathlib.Core.Path.{_∙_}
 use lib.ListN.{length-set}
@@ -68,7 +69,7 @@ returns : tie.Need-returns Inv-loop μ-loop
 returns c =
     let given = c .before .before .before .before .args in
     let sorts = sortsFrom (given .names .now) (given .first) (given .arguments) in
-    all-written (c .before .loop .inv) (omega arith) ∙ row-written (given .places .now) sorts (10 * given .row) (given .arguments) (given .result)
+    all-written (c .before .loop .inv) (omega arith) ∙ row-written (given .places .now) sorts (signatureWidth * given .row) (given .arguments) (given .result)
 
 pub put-signature-spec : {M : Type 1} → statement M
 put-signature-spec =

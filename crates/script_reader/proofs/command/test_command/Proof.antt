@@ -1,6 +1,6 @@
 use native.Mathlib.Omega.{arith}
 use lib.ListN.{length-take}
-use Rattle.script.specs.code.Tables.{formsPlace}
+use Rattle.script.specs.code.Places.{formsPlace}
 use Rattle.script_reader.proofs.Testing.{constrained, constraining, declared, declaring, defined, defining, others, synthesized, synthesizing}
 use borrow.Author.Needs.{needs}
 use Rattle.script_reader.proofs.command.test_command.Statement.{statement}
