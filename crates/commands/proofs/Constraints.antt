@@ -35,7 +35,7 @@ use Rattle.script.specs.declared.Progress.{Progress}
 use Rattle.script.specs.declared.Verdict.{Verdict}
 use Rattle.script.proofs.Commands.{Chosen, chosen}
 use Rattle.script.proofs.Nodes.{constraint-held}
-use Rattle.script.proofs.Places.{command-word}
+use Rattle.script.proofs.WordsBelow.{command-word}
 use Rattle.script.proofs.Verdicts.{says-limit}
 use Rattle.commands.specs.code.Defining.{Constrained, Constraining, Judged, Judging, verdictOf}
 use Rattle.commands.proofs.Bodies.{BodyAt, behind-word, body-below, body-grown, body-judging, body-term, body-within, close-below, item-stands}

@@ -39,7 +39,7 @@ use Rattle.script.specs.declared.Verdict.{Verdict}
 use Rattle.script.proofs.Headers.{Narrow, head-narrow}
 use Rattle.script.proofs.Names.{few-before, names-kept, one-more-in-order, same-before, same-behind, same-scope, same-through}
 use Rattle.script.proofs.Nodes.{definition-held}
-use Rattle.script.proofs.Places.{command-below, command-word}
+use Rattle.script.proofs.WordsBelow.{command-below, command-word}
 use Rattle.commands.specs.code.Defining.{DefinitionPut, Judged, Judging, Putting, Settled, Within, scopeBefore, verdictOf}
 use Rattle.commands.proofs.Bodies.{body-grown, body-judging}
 use Rattle.commands.proofs.Definitions.{body-here, definedBy, first-symbol, headed, header-here, is-definition, limit-is, long-enough}

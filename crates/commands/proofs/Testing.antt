@@ -19,7 +19,7 @@ use Rattle.script.specs.code.Tables.{Tested}
 use Rattle.script.specs.declared.Progress.{Progress}
 use Rattle.script.specs.declared.Verdict.{Verdict}
 use Rattle.script.proofs.Names.{few-before, same-scope, scopeBefore}
-use Rattle.script.proofs.Places.{command-below, command-word, inside-below, item-below, no-fault, sort-narrow}
+use Rattle.script.proofs.WordsBelow.{command-below, command-word, inside-below, item-below, no-fault, sort-narrow}
 use Rattle.script.proofs.Verdicts.{says-limit, says-name, says-passed, says-sorting}
 use Rattle.commands.specs.code.Declaring.{Added, Adding, Declared, Declaring, LimitFound, NameFound}
 use Rattle.commands.proofs.Parts.{is-declaring, name-item, parts, sort-here, variable-here}

@@ -15,7 +15,7 @@ use Rattle.script.specs.Script.{Known, argumentsOf, bodyView, constraintView, g
 use Rattle.outcome.proofs.BodiesPromised.{body-sorted}
 use Rattle.outcome.proofs.Commands.{Command, Tests, another, constraining, declaring, defining, synthesizing}
 use Rattle.outcome.proofs.Growing.{Sound, the-same, with-constraint, with-definition, with-function, with-variable}
-use Rattle.script.proofs.Places.{Below, inside-below, item-below}
+use Rattle.script.proofs.WordsBelow.{Below, inside-below, item-below}
 use Rattle.outcome.proofs.Rules.{groups-placed, heads-below, listed, rules-sorted, starts}
 
 -- It is sound where what was known before is.

@@ -22,7 +22,7 @@ use Rattle.term_nodes.specs.Terms.{Raw, constant, cut, number, pattern, rawTerm
 use Rattle.names.specs.Scopes.{Named, View, definedNames, formsOf, functionNames, isNamed, itemOr, means, namesOf, namedSorts as sortsIn, symbolMeans}
 use Rattle.term_faults.specs.Faults.{bodyFault, oneSort, rawSorts, scopeOf, termFault}
 use Rattle.script.specs.Script.{labelOf, termOf, termsIn}
-use Rattle.script.proofs.Places.{WordsBelow, no-fault}
+use Rattle.script.proofs.WordsBelow.{WordsBelow, no-fault}
 use Rattle.script.proofs.Terms.{AllWritten, Written, also-written, none-written, terms-written}
 
 -- What a node stands for, or nothing, has the sort of the label that it is read as, where no non-terminal is seen.

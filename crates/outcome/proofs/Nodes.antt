@@ -18,7 +18,7 @@ use Rattle.term_nodes.specs.Terms.{Raw, constant, cut, firstWord, isNode, nodeW
 use Rattle.names.specs.Scopes.{View, formsOf, itemOr, means}
 use Rattle.term_faults.proofs.Rising.{first-raw}
 use Rattle.script.specs.Script.{labelOf, termOf, termsIn}
-use Rattle.script.proofs.Places.{Below, WordsBelow}
+use Rattle.script.proofs.WordsBelow.{Below, WordsBelow}
 use Rattle.script.proofs.Terms.{term-size}
 
 -- All nodes count, and their first words are below nowhere.

@@ -20,7 +20,7 @@ use Rattle.term_faults.specs.Faults.{oneSort, rawSorts, ruleMisfit, scopeOf}
 use Rattle.written_sorts.specs.Written.{sortOf}
 use Rattle.grammars.specs.Listing.{listingMisfit}
 use Rattle.outcome.proofs.BodiesPromised.{one-sort}
-use Rattle.script.proofs.Places.{Below, inside-below, item-below, no-fault}
+use Rattle.script.proofs.WordsBelow.{Below, inside-below, item-below, no-fault}
 
 -- A rule's first word is below nowhere, and its non-terminal is one of the first `most`.
 pub record Placed (nowhere most : ℕ) (r : Ruled) : Type 0 where

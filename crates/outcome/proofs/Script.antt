@@ -16,7 +16,7 @@ use Rattle.headers.specs.Heads.{headerPast}
 use Rattle.forest.specs.Limits.{allowed}
 use Rattle.grammars.specs.Grammars.{grammarPast}
 use Rattle.script.specs.Script.{Known, knownAfter, limitPlace, viewOf}
-use Rattle.script.proofs.Places.{Below, inside-below}
+use Rattle.script.proofs.WordsBelow.{Below, inside-below}
 use Rattle.names.proofs.PairNames.{named-long}
 use Rattle.script.proofs.Within.{items-few, past-neither, past-none}
 use Rattle.outcome.specs.Sorted.{AllRulesSorted, RulesSorted, grammarScope}

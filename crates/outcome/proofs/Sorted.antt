@@ -27,7 +27,7 @@ use Rattle.outcome.specs.Sorted.{AllBool, AllRulesSorted, RulesSorted, S
 use Rattle.outcome.proofs.After.{after-command}
 use Rattle.outcome.proofs.Commands.{command}
 use Rattle.outcome.proofs.Growing.{AllBefore, Sound}
-use Rattle.script.proofs.Places.{Below, stands-below}
+use Rattle.script.proofs.WordsBelow.{Below, stands-below}
 
 -- A refusal is not what passes.
 never-passed : {A : Type 0} (number place : ℕ) {k : Known} → refused number place ≡ passed k → A

@@ -12,7 +12,7 @@ use Rattle.written_sorts.specs.declared.Fault.the-variants.{TooWide}
 use Rattle.names.specs.Scopes.{Named, namedSorts}
 use Rattle.forest.specs.Limits.{allowed}
 use Rattle.script.specs.Script.{Known, knownAfter, limitPlace}
-use Rattle.script.proofs.Places.{Below, inside-below, item-below, sort-narrow}
+use Rattle.script.proofs.WordsBelow.{Below, inside-below, item-below, sort-narrow}
 use Rattle.script.specs.Outcome.{said, scriptOutcome}
 use Rattle.script.proofs.Keeping.{script-keeps}
 

@@ -15,7 +15,7 @@ use Rattle.term_nodes.specs.Rules.{itemPast}
 use Rattle.names.specs.code.NewNames.{AllNarrow}
 use Rattle.headers.specs.Heads.{headerPast}
 use Rattle.forest.specs.Limits.{allowed}
-use Rattle.script.proofs.Places.{Below, inside-below, item-below, sort-narrow}
+use Rattle.script.proofs.WordsBelow.{Below, inside-below, item-below, sort-narrow}
 
 -- Items are at most so many, where none is past the limit.
 few-items : (nowhere most : ℕ) (F : Items) → wordOf (item most F) < nowhere → nowhere ≤ itemPast nowhere most F → count F ≤ most

@@ -20,7 +20,7 @@ use Rattle.shapes.specs.Shapes.{commandShape}
 use Rattle.forest.specs.Limits.{allowed}
 use Rattle.script.specs.Script.{Known, Read, andThen, grammarPlace, judged, knownAfter, limitPlace, namePlace, outOfPlace, passed, readAll, refused}
 use Rattle.script.specs.Script.{sortingPlace, nothingKnown, tested}
-use Rattle.script.proofs.Places.{Below, stands-below}
+use Rattle.script.proofs.WordsBelow.{Below, stands-below}
 use Rattle.script.specs.Outcome.{ScriptOutcome, byCommands, byWords, said, scriptOutcome}
 
 -- Every command within its limits keeps to P.

@@ -3,7 +3,8 @@ pub mod Writing
 pub mod Signed
 pub mod Sorted
 pub mod Names
-pub mod Places
+pub mod WordsBelow
+pub mod TableParts
 pub mod Commands
 pub mod Verdicts
 pub mod Nodes

@@ -13,7 +13,7 @@ use Rattle.lexemes.specs.code.Standing.{Source, Stands, bracketed, ends, word}
 use Rattle.lexemes.proofs.Standing.{forward}
 use Rattle.term_faults.specs.code.Seeking.{AllSingle, Rising}
 use Rattle.term_nodes.specs.Rules.{Ruled, itemPast, rulePast, sides}
-use Rattle.script.proofs.Places.{Below, item-below, no-fault}
+use Rattle.script.proofs.WordsBelow.{Below, item-below, no-fault}
 
 -- Items stand somewhere between word i and word e.
 pub record Amid (s : Source) (i e : ℕ) (F : Items) : Type 0 where

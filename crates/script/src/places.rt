@@ -170,7 +170,8 @@ pub fn put_body(places: &mut [u64], function: usize, node: usize, first: usize)
     put_entry(places, FIRSTS + function, first as u64);
 }
 
-// Puts the numbers of a synthesized function: the row at which its forms begin, how many rows they take, how many rules it has, and how many `define-fun`s stand before it.
+// Puts the numbers of a synthesized function: the row at which its forms begin, how many rows they take, how many rules it has, and how many `define-fun`s stand
+// before it.
 pub fn put_numbers(
     places: &mut [u64],
     function: usize,

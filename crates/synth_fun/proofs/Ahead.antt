@@ -24,7 +24,7 @@ use Rattle.grammars.specs.Grammars.{grammarPast}
 use Rattle.script.specs.Script.{limitPlace}
 use Rattle.script.specs.code.Tables.{CommandOf}
 use Rattle.script.specs.declared.Progress.{Progress}
-use Rattle.script.proofs.Places.{command-word}
+use Rattle.script.proofs.WordsBelow.{command-word}
 use Rattle.synth_fun.specs.code.Synthesizing.{ruledBy}
 use Rattle.synth_fun.proofs.Small.{groups-amid, limit-is, rules-rising, rules-trees}
 

@@ -36,7 +36,7 @@ use Rattle.script.specs.code.Tables.{CommandOf}
 use Rattle.script.specs.declared.Progress.{Progress}
 use Rattle.script.proofs.Commands.{Chosen, chosen}
 use Rattle.script.proofs.Headers.{head-narrow, pairs-narrow}
-use Rattle.script.proofs.Places.{command-below, command-word, inside-below, no-fault}
+use Rattle.script.proofs.WordsBelow.{command-below, command-word, inside-below, no-fault}
 use Rattle.synth_fun.specs.code.Synthesizing.{ruledBy}
 use Rattle.grammars.proofs.Within.{rising-few}
 use Rattle.script.proofs.Within.{Amid, amid, items-few, past-neither, past-none, rules-few}

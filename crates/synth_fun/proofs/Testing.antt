@@ -21,7 +21,7 @@ use Rattle.script.specs.Script.{limitPlace}
 use Rattle.script.specs.code.Tables.{After}
 use Rattle.script.specs.declared.Progress.{Progress}
 use Rattle.script.specs.declared.Verdict.{Verdict}
-use Rattle.script.proofs.Places.{command-word}
+use Rattle.script.proofs.WordsBelow.{command-word}
 use Rattle.script.proofs.Verdicts.{says-limit, says-name}
 use Rattle.synth_fun.specs.code.Synthesizing.{Gathering, HeaderOf, NamesFound, Synthesized, Synthesizing, Unnamed, Unsorted, formsSaid, ownRules, ruledBy}
 use Rattle.synth_fun.specs.declared.Header.{Header}

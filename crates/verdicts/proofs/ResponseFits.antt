@@ -25,7 +25,7 @@ use Rattle.term_faults.specs.Faults.{bodyFault, scopeOf}
 use Rattle.script.specs.Limits.{nodePast}
 use Rattle.script.specs.Naming.{termNames}
 use Rattle.script.specs.Script.{Known}
-use Rattle.script.proofs.Places.{Below, inside-below, item-below, stands-below}
+use Rattle.script.proofs.WordsBelow.{Below, inside-below, item-below, stands-below}
 use Rattle.outcome.proofs.BodiesPromised.{body-sorted}
 use Rattle.script.specs.Response.{Answered, Body, answered, bodies, nothingBehind, inScriptOrder, isAlone, judgedAll, judgedBody, judgedExtra, refused}
 use Rattle.script.specs.Response.{responseView, withBody}

@@ -1,4 +1,4 @@
-use Rattle.script.proofs.Places.{command-word}
+use Rattle.script.proofs.WordsBelow.{command-word}
 use Rattle.commands.proofs.Constraints.{constraint-judging, constraint-known, limit-refused, row-place, term-at, term-refused}
 use native.Mathlib.Omega.{arith}
 use borrow.Author.Needs.{needs}

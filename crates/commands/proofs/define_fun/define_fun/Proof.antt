@@ -1,5 +1,5 @@
 use native.Mathlib.Omega.{arith}
-use Rattle.script.proofs.Places.{command-word}
+use Rattle.script.proofs.WordsBelow.{command-word}
 use Rattle.commands.proofs.Defining.{body-at, definition-tested, its-header, limit-refused, within-limits}
 use borrow.Author.Needs.{needs}
 use Rattle.commands.proofs.define_fun.define_fun.Statement.{statement}

@@ -1,5 +1,5 @@
 use native.Mathlib.Omega.{arith}
-use Rattle.script.proofs.Places.{command-word}
+use Rattle.script.proofs.WordsBelow.{command-word}
 use Rattle.commands.proofs.Definitions.{arguments-before, header-here, result-low}
 use Rattle.commands.proofs.Settling.{arguments-here, definition-judging, definition-known, definition-refused, head-at, putting, result-here}
 use borrow.Author.Needs.{needs}
