@@ -1,13 +1,17 @@
 /* The worker: the proved checker behind two pipes, for machines that cannot run its code themselves (see src/worker.rs).
-   A frame is eight bytes with a length, low byte first, then so many bytes. It sends the frame "sverdhyll" when it is ready. Then it reads requests and
-   answers each:
+   A frame is eight bytes with a length, low byte first, then so many bytes. When it is ready it sends the frame "sverdhyll" and one with the digest of the
+   library (SHA-256, LIBRARY below, in hexadecimal). Then it reads requests and answers each:
    "check", script, response, points, budget, area: two bytes with number and text, place, second number, units, and the area, a frame each;
    "word", text, offset: the length of the word that starts there.
-   It ends where standard input does. Its machine is x86-64, so numbers in memory have their low byte first, as in the frames. */
+   It ends as soon as nobody can write to standard input any more, also in the middle of a check: however the process that started it ends, it ends too.
+   Its machine is x86-64, so numbers in memory have their low byte first, as in the frames. */
+#include <poll.h>
+#include <pthread.h>
 #include <stdint.h>
 #include <stdio.h>
 #include <stdlib.h>
 #include <string.h>
+#include <unistd.h>
 
 #include "sverdhyll.h"
 
@@ -73,11 +77,24 @@ static int word(void)
     return 1;
 }
 
+/* Ends the process when standard input has nobody left who can write to it. */
+static void *watch(void *unused)
+{
+    struct pollfd input = {STDIN_FILENO, 0, 0};
+
+    while (poll(&input, 1, -1) <= 0) continue;
+    _exit(0);
+    return unused;
+}
+
 int main(void)
 {
     static struct frame request;
+    pthread_t watching;
 
+    if (pthread_create(&watching, NULL, watch, NULL)) return 1;
     send("sverdhyll", strlen("sverdhyll"));
+    send(LIBRARY, strlen(LIBRARY));
     fflush(stdout);
     while (receive(&request)) {
         if (!(is(&request, "check") ? check() : is(&request, "word") && word())) return 1;

@@ -5,10 +5,10 @@
 mod inputs;
 
 use inputs::{blocks, constraints, typical, Input, BLOCK_WORDS, MOST_BLOCKS, MOST_POINTS};
-use library::{Library, AREA_LENGTH};
 use std::io;
 use std::process::ExitCode;
 use std::time::{Duration, Instant};
+use sverdhyll::{Library, AREA_LENGTH};
 
 /// How often each is run; the shortest time counts.
 const RUNS: usize = 200;

@@ -8,7 +8,7 @@ use crate::points::Points;
 use crate::script::{bodies, Definition, Script};
 use crate::source::Text;
 use crate::tree::unclosed;
-use library::{Answer, Library, AREA_LENGTH, LIST_LENGTH, UNUSED};
+use sverdhyll::{Answer, Library, AREA_LENGTH, LIST_LENGTH, UNUSED};
 
 /// What the checker is given.
 pub struct Given {

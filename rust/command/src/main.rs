@@ -20,11 +20,11 @@ use answers::{verdict, MOST_RESPONSE_BYTES, MOST_SCRIPT_BYTES};
 use arguments::{Asked, Form, Request, BUDGET};
 use facts::{Facts, Given};
 use failure::{said, Failure};
-use library::Library;
 use points::Wanted;
 use source::Source;
 use std::io::{self, BufWriter, ErrorKind, Write};
 use std::process::ExitCode;
+use sverdhyll::Library;
 
 /// What `--help` says.
 const HELP: &str = include_str!("../help.txt");

@@ -1,9 +1,9 @@
 //! Asks both checkers and holds their answers and areas against each other.
 
 use crate::trial::Trial;
-use library::{Answer, Library};
 use simple::{replay, AREA_LENGTH};
 use std::{fmt, io};
+use sverdhyll::{Answer, Library};
 
 /// What both checkers say of a case.
 pub struct Agreed {

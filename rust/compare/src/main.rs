@@ -9,11 +9,11 @@ mod tally;
 mod trial;
 
 use judge::{judged, Disagreement};
-use library::Library;
 use std::io;
 use std::process::ExitCode;
 use std::sync::atomic::{AtomicU64, Ordering};
 use std::thread;
+use sverdhyll::Library;
 use tally::Tally;
 use trial::{trial, Trial};
 

@@ -2,9 +2,9 @@
 
 use crate::judge::{judged, Disagreement};
 use crate::trial::Trial;
-use library::Library;
 use std::io;
 use std::ops::Range;
+use sverdhyll::Library;
 
 /// How often a smaller case is tried.
 const MOST_TRIES: usize = 4_000;

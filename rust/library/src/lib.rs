@@ -1,12 +1,40 @@
-//! The proved checker for Rust: `sverdhyll_check` and `sverdhyll_word` of its static library.
+//! The proved checker between a synthesis solver and the controller that its answer goes into, for Rust.
 //!
-//! The library is x86-64 code. There it is linked and called; on another machine one worker process holds it under an emulator, and this crate speaks with
-//! that process over pipes.
+//! [`Library::check`] takes a SyGuS script, the response that a solver printed, points and a budget, and gives one [`Answer`]; [`Answer::outcome`] says what it
+//! means as an enum, whose documentation is the table of answers.
+//!
+//! ```no_run
+//! use sverdhyll::{Library, Outcome, AREA_LENGTH};
+//!
+//! let script = std::fs::read("f.sy")?;
+//! let response = std::fs::read("f.response")?;
+//! let mut library = Library::open()?;
+//! let mut shown = vec![0; AREA_LENGTH];
+//! let answer = library.check(&script, &response, &[0, 1, 255], 1_000_000, &mut shown)?;
+//! match answer.outcome() {
+//!     Outcome::Accepted { points, .. } => println!("right at {points} points"),
+//!     other => println!("{other}"),
+//! }
+//! # Ok::<(), std::io::Error>(())
+//! ```
+//!
+//! A package elsewhere uses it by its path, once `./sverdhyll` or `rt staticlib checker` has made the static library in this tree:
+//!
+//! ```toml
+//! [dependencies]
+//! sverdhyll = { path = "SVERDHYLL/rust/library" }
+//! ```
+//!
+//! The static library is x86-64 code. There it is linked and called, on the caller's stack, of which a call takes up to 1.4 MiB: a thread of 2 MiB, Rust's
+//! default, suffices. On another machine one worker process for each [`Library`] holds it under an emulator, and this crate speaks with that process over pipes.
+//! The worker ends with the process that started it, however that ends.
 
 #![deny(unsafe_code)]
 
+pub mod digest;
 #[cfg(target_arch = "x86_64")]
 mod linked;
+mod outcome;
 #[cfg(target_arch = "x86_64")]
 use linked::Held;
 #[cfg(not(target_arch = "x86_64"))]
@@ -14,6 +42,8 @@ mod worker;
 #[cfg(not(target_arch = "x86_64"))]
 use worker::Held;
 
+pub use outcome::{Outcome, Text};
+use std::fmt;
 use std::io;
 
 /// "a lent area of exactly 32,768 16-bit numbers".
@@ -23,14 +53,33 @@ pub const LIST_LENGTH: usize = 4_096;
 /// "every entry of the area that no list uses is 65,535".
 pub const UNUSED: u16 = 65_535;
 
-/// An answer by document 01's table.
-#[derive(Clone, Copy, Debug, Default, PartialEq, Eq)]
+/// An answer in numbers, as the library gives it; [`Answer::outcome`] says what they mean.
+#[derive(Clone, Copy, Debug, Default, PartialEq, Eq, Hash)]
 pub struct Answer {
+    /// Its number in the table of answers.
     pub number: u8,
+    /// Which text it speaks of: 0 script, 1 response, 2 points, 3 none or the area.
     pub text: u8,
+    /// Its place.
     pub place: u64,
+    /// Its second number.
     pub second: u64,
+    /// The units spent.
     pub units: u64,
+}
+
+impl Answer {
+    /// What the answer says.
+    pub fn outcome(self) -> Outcome {
+        self.into()
+    }
+}
+
+impl fmt::Display for Answer {
+    /// What the answer says, in a sentence.
+    fn fmt(&self, to: &mut fmt::Formatter) -> fmt::Result {
+        self.outcome().fmt(to)
+    }
 }
 
 /// The proved checker, ready for any number of checks.
@@ -46,7 +95,11 @@ impl Library {
         })
     }
 
-    /// The answer for a script, a response, points and a budget; the derivations are shown in the lent area. Fails only where the worker has gone.
+    /// The answer for a script, a response, points and a budget. Fails only where the worker has gone.
+    ///
+    /// `points` has one number for each declared variable, point after point; a Bool is 0 or 1. `shown` is the lent area, of [`AREA_LENGTH`] entries: after
+    /// answers 0, 14 and 15 it shows a derivation of every body, the numbers of the rules, leftmost first, those of function k from entry
+    /// [`LIST_LENGTH`] · k on; every entry that no list uses is [`UNUSED`].
     pub fn check(
         &mut self,
         script: &[u8],
@@ -61,5 +114,10 @@ impl Library {
     /// The length of the word that starts at an offset of a text, 0 if none does. Fails only where the worker has gone.
     pub fn word(&mut self, text: &[u8], at: usize) -> io::Result<usize> {
         self.held.word(text, at)
+    }
+
+    /// The SHA-256 of the static library that answers, in hexadecimal.
+    pub fn digest(&self) -> &str {
+        self.held.digest()
     }
 }

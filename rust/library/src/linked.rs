@@ -72,4 +72,9 @@ impl Held {
         // SAFETY: the pointer is that of a slice with its length, which is only read.
         Ok(unsafe { sverdhyll_word(text.as_ptr(), text.len(), at) })
     }
+
+    /// The digest of the library that was linked, by build.rs.
+    pub fn digest(&self) -> &str {
+        env!("SVERDHYLL_LIBRARY")
+    }
 }

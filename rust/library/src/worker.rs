@@ -2,13 +2,19 @@
 //! low byte first.
 
 use crate::Answer;
+use std::env;
 use std::io::{self, Read, Write};
+use std::path::PathBuf;
 use std::process::{Child, ChildStdin, ChildStdout, Command, Stdio};
 
-/// The script that builds the worker where it is missing, and runs it.
+/// The script that runs the worker, in the tree that this crate was built in.
 const WORKER: &str = concat!(env!("CARGO_MANIFEST_DIR"), "/worker");
+/// The same script, from the folder of the command: where it is installed, and in the tree, which may have been moved.
+const BESIDE: [&str; 2] = ["../libexec/sverdhyll/worker", "../../library/worker"];
 /// The frame that a worker sends when it is ready.
 const READY: &[u8] = b"sverdhyll";
+/// How many digits the digest of the library has, which it sends then.
+const DIGITS: usize = 64;
 /// The frame that begins a check.
 const CHECK: &[u8] = b"check";
 /// The frame that begins an enquiry for a word.
@@ -19,12 +25,30 @@ pub struct Held {
     process: Child,
     requests: Option<ChildStdin>,
     answers: ChildStdout,
+    digest: String,
+}
+
+/// The script that runs the worker: beside the running program, or in the tree that this crate was built in.
+fn worker() -> io::Result<PathBuf> {
+    let program = env::current_exe().unwrap_or_default();
+    let folder = program.parent().map(PathBuf::from).unwrap_or_default();
+    let mut places = BESIDE
+        .iter()
+        .map(|place| folder.join(place))
+        .chain([WORKER.into()]);
+    let missing = || {
+        io::Error::other(format!(
+            "{WORKER} is missing, and so is {}",
+            folder.join(BESIDE[0]).display()
+        ))
+    };
+    places.find(|place| place.exists()).ok_or_else(missing)
 }
 
 impl Held {
     /// Starts the worker and waits until it is ready.
     pub fn open() -> io::Result<Held> {
-        let mut process = Command::new(WORKER)
+        let mut process = Command::new(worker()?)
             .stdin(Stdio::piped())
             .stdout(Stdio::piped())
             .spawn()?;
@@ -34,13 +58,22 @@ impl Held {
             process,
             requests,
             answers,
+            digest: String::new(),
         };
         let mut ready = [0; READY.len()];
         held.receive(&mut ready)?;
         if ready != READY {
             return Err(io::Error::other("the checker's worker speaks otherwise"));
         }
+        let mut digest = [0; DIGITS];
+        held.receive(&mut digest)?;
+        held.digest = String::from_utf8_lossy(&digest).into_owned();
         Ok(held)
+    }
+
+    /// The digest of the library, as the worker says it.
+    pub fn digest(&self) -> &str {
+        &self.digest
     }
 
     /// Asks the worker for `sverdhyll_check`.

@@ -1,6 +1,6 @@
-//! The library through its Rust interface: the swap case, refusals, the enquiry, and many checks by one process.
+//! The library through its Rust interface: the swap case, refusals, the enquiry, its digest, and many checks by one process.
 
-use library::{Answer, Library, AREA_LENGTH, UNUSED};
+use sverdhyll::{Answer, Library, AREA_LENGTH, UNUSED};
 
 /// The script of the shipped example.
 const SCRIPT: &[u8] = include_bytes!("../../../examples/swap.sy");
@@ -63,6 +63,17 @@ fn enquiry() {
         let found = library.word(b"; \nab( ", at);
         assert_eq!(found.expect("an answer"), length, "at {at}");
     }
+}
+
+#[test]
+fn the_digest_is_that_of_the_library() {
+    let library = Library::open().expect("a library");
+    let path = concat!(
+        env!("CARGO_MANIFEST_DIR"),
+        "/../../target/staticlib/libchecker.a"
+    );
+    let bytes = std::fs::read(path).expect("a static library");
+    assert_eq!(library.digest(), sverdhyll::digest::sha256(&bytes));
 }
 
 #[test]

@@ -1,0 +1,232 @@
+//! What an answer says, as an enum.
+
+use crate::Answer;
+use std::fmt;
+
+/// A text that an answer can speak of.
+#[derive(Clone, Copy, Debug, PartialEq, Eq, Hash)]
+pub enum Text {
+    Script,
+    Response,
+    Points,
+    /// The lent area of [`Library::check`](crate::Library::check).
+    Area,
+}
+
+impl fmt::Display for Text {
+    fn fmt(&self, to: &mut fmt::Formatter) -> fmt::Result {
+        to.write_str(match self {
+            Text::Script => "script",
+            Text::Response => "response",
+            Text::Points => "point list",
+            Text::Area => "area",
+        })
+    }
+}
+
+/// What the checker answers: the table of answers, each with what its numbers stand for.
+///
+/// `at` is an offset in bytes in the text; functions, points and constraints are numbered from 0; `units` is the summed cost of the evaluations done, that of a
+/// false constraint included.
+///
+/// | No. | Variant | Meaning | What comes with it |
+/// |---|---|---|---|
+/// | 0 | `Accepted` | every body is derived, and every constraint holds at every point | how many points, units |
+/// | 1 | `TooLong` | script, response or points too long, or an area that is not of its size | which, and its length |
+/// | 2 | `BadWord` | no word of the language | the word |
+/// | 3 | `Bracket` | a bracket closed too often, or never closed | the bracket, or the text's length |
+/// | 4 | `PastLimit` | past a limit of the checker | the word past it |
+/// | 5 | `UnknownShape` | the shape of a command is unknown | the command's bracket, or the word |
+/// | 6 | `NotCarried` | SyGuS 2.1 has it, the checker does not carry it | the command's bracket, or the word |
+/// | 7 | `Name` | a name unknown, taken or reserved | the name |
+/// | 8 | `Sort` | a faulty sort, or a term that has none or another one | its first word |
+/// | 9 | `Grammar` | a grammar is not listed as declared, or a rule has another sort | its word |
+/// | 10 | `Fail` | the response is `fail` | |
+/// | 11 | `Infeasible` | the response is `infeasible` | |
+/// | 12 | `Header` | the response does not answer the functions of the script | the first word that differs |
+/// | 13 | `NoDerivation` | the grammar of a function does not derive its body | the body, the function |
+/// | 14 | `ConstraintFalse` | a constraint is false at a point | point, constraint, units |
+/// | 15 | `BudgetEnded` | the budget does not suffice for a constraint at a point | point, constraint, units |
+/// | 16 | `BadPoints` | the points are not whole, or a number is outside its sort | the list's length, or the number's index |
+#[derive(Clone, Copy, Debug, PartialEq, Eq, Hash)]
+#[non_exhaustive]
+pub enum Outcome {
+    /// 0: accepted.
+    Accepted { points: u64, units: u64 },
+    /// 1: too long, or an area that is not of its size.
+    TooLong { text: Text, length: u64 },
+    /// 2: a bad word.
+    BadWord { text: Text, at: u64 },
+    /// 3: a bracket closed too often or never closed.
+    Bracket { text: Text, at: u64 },
+    /// 4: past a limit.
+    PastLimit { text: Text, at: u64 },
+    /// 5: shape unknown.
+    UnknownShape { text: Text, at: u64 },
+    /// 6: not carried.
+    NotCarried { text: Text, at: u64 },
+    /// 7: a name unknown, taken or reserved.
+    Name { text: Text, at: u64 },
+    /// 8: a sort fault.
+    Sort { text: Text, at: u64 },
+    /// 9: a grammar fault.
+    Grammar { at: u64 },
+    /// 10: the response is `fail`.
+    Fail,
+    /// 11: the response is `infeasible`.
+    Infeasible,
+    /// 12: the response's header differs.
+    Header { at: u64 },
+    /// 13: no derivation.
+    NoDerivation { at: u64, function: u64 },
+    /// 14: a constraint is false.
+    ConstraintFalse {
+        point: u64,
+        constraint: u64,
+        units: u64,
+    },
+    /// 15: the budget ended.
+    BudgetEnded {
+        point: u64,
+        constraint: u64,
+        units: u64,
+    },
+    /// 16: points that are not whole, or a number outside its sort.
+    BadPoints { at: u64 },
+    /// A number that this version of the crate does not know.
+    Other(Answer),
+}
+
+impl From<Answer> for Outcome {
+    /// What an answer says.
+    fn from(answer: Answer) -> Outcome {
+        let Answer {
+            place,
+            second,
+            units,
+            ..
+        } = answer;
+        let text = match answer.text {
+            0 => Text::Script,
+            1 => Text::Response,
+            2 => Text::Points,
+            _ => Text::Area,
+        };
+        let (at, point, constraint) = (place, place, second);
+        match answer.number {
+            0 => Outcome::Accepted {
+                points: second,
+                units,
+            },
+            1 => Outcome::TooLong {
+                text,
+                length: place,
+            },
+            2 => Outcome::BadWord { text, at },
+            3 => Outcome::Bracket { text, at },
+            4 => Outcome::PastLimit { text, at },
+            5 => Outcome::UnknownShape { text, at },
+            6 => Outcome::NotCarried { text, at },
+            7 => Outcome::Name { text, at },
+            8 => Outcome::Sort { text, at },
+            9 => Outcome::Grammar { at },
+            10 => Outcome::Fail,
+            11 => Outcome::Infeasible,
+            12 => Outcome::Header { at },
+            13 => Outcome::NoDerivation {
+                at,
+                function: second,
+            },
+            14 => Outcome::ConstraintFalse {
+                point,
+                constraint,
+                units,
+            },
+            15 => Outcome::BudgetEnded {
+                point,
+                constraint,
+                units,
+            },
+            16 => Outcome::BadPoints { at },
+            _ => Outcome::Other(answer),
+        }
+    }
+}
+
+impl fmt::Display for Outcome {
+    /// The answer in a sentence, without a full stop.
+    fn fmt(&self, to: &mut fmt::Formatter) -> fmt::Result {
+        match *self {
+            Outcome::Accepted { points, units } => write!(to, "accepted: derived, and no constraint is false; points done: {points}, units spent: {units}"),
+            Outcome::TooLong { text: Text::Area, length } => write!(to, "the area has {length} entries, not {}", crate::AREA_LENGTH),
+            Outcome::TooLong { text, length } => write!(to, "the {text} is too long: {length}"),
+            Outcome::BadWord { text, at } => write!(to, "{text}, byte {at}: no word of the language"),
+            Outcome::Bracket { text, at } => write!(to, "{text}, byte {at}: a bracket is closed too often or never closed"),
+            Outcome::PastLimit { text, at } => write!(to, "{text}, byte {at}: past a limit"),
+            Outcome::UnknownShape { text, at } => write!(to, "{text}, byte {at}: of no shape that is known"),
+            Outcome::NotCarried { text, at } => write!(to, "{text}, byte {at}: not carried"),
+            Outcome::Name { text, at } => write!(to, "{text}, byte {at}: a name unknown, taken or reserved"),
+            Outcome::Sort { text, at } => write!(to, "{text}, byte {at}: a sort fault"),
+            Outcome::Grammar { at } => write!(to, "script, byte {at}: a grammar fault"),
+            Outcome::Fail => to.write_str("the response is fail"),
+            Outcome::Infeasible => to.write_str("the response is infeasible"),
+            Outcome::Header { at } => write!(to, "response, byte {at}: differs from the functions of the script"),
+            Outcome::NoDerivation { at, function } => write!(to, "response, byte {at}: the grammar of function {function} does not derive this body"),
+            Outcome::ConstraintFalse { point, constraint, units } => {
+                write!(to, "constraint {constraint} is false at point {point}; units spent: {units}")
+            }
+            Outcome::BudgetEnded { point, constraint, units } => {
+                write!(to, "the budget ends before constraint {constraint} at point {point}; units spent: {units}")
+            }
+            Outcome::BadPoints { at } => write!(to, "the points are not whole, or number {at} is outside its sort"),
+            Outcome::Other(Answer { number, .. }) => write!(to, "answer {number}, which this version does not know"),
+        }
+    }
+}
+
+#[cfg(test)]
+mod tests {
+    use super::*;
+
+    /// The answer of a number.
+    fn answer(number: u8, text: u8) -> Answer {
+        Answer {
+            number,
+            text,
+            place: 4,
+            second: 5,
+            units: 6,
+        }
+    }
+
+    #[test]
+    fn every_number_has_its_own_outcome() {
+        let outcomes: Vec<Outcome> = (0..=16).map(|number| answer(number, 0).into()).collect();
+        for (number, outcome) in outcomes.iter().enumerate() {
+            assert!(!matches!(outcome, Outcome::Other(_)), "{number}");
+            assert_eq!(
+                outcomes
+                    .iter()
+                    .filter(|one| one.to_string() == outcome.to_string())
+                    .count(),
+                1
+            );
+        }
+        assert_eq!(Outcome::from(answer(17, 3)), Outcome::Other(answer(17, 3)));
+    }
+
+    #[test]
+    fn sentences() {
+        let said = |number, text| Outcome::from(answer(number, text)).to_string();
+        assert_eq!(
+            said(7, 1),
+            "response, byte 4: a name unknown, taken or reserved"
+        );
+        assert_eq!(
+            said(14, 2),
+            "constraint 5 is false at point 4; units spent: 6"
+        );
+        assert_eq!(said(1, 3), "the area has 4 entries, not 32768");
+        assert_eq!(said(1, 2), "the point list is too long: 4");
+    }
+}
