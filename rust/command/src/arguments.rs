@@ -15,6 +15,8 @@ const MOST_RANDOM: u64 = 1_024;
 pub enum Asked {
     Help,
     Version,
+    /// To say what the answer of this number means.
+    Explain(u64),
     /// To check the shipped example.
     Example,
     Check(Request),
@@ -62,6 +64,10 @@ pub fn parse(arguments: Vec<OsString>) -> Result<Asked, Failure> {
         match text.as_ref() {
             "--help" | "-h" if options => return Ok(Asked::Help),
             "--version" if options => return Ok(Asked::Version),
+            explain if options && explain.split('=').next() == Some("--explain") => {
+                let value = value(&text, &mut arguments)?;
+                return explained(&value).map(Asked::Explain);
+            }
             "--" if options => options = false,
             option if options && option.len() > 1 && option.starts_with('-') => {
                 given.option(&argument, &mut arguments)?
@@ -80,22 +86,15 @@ impl Given {
         rest: &mut impl Iterator<Item = OsString>,
     ) -> Result<(), Failure> {
         let text = option.to_string_lossy();
-        let (name, joined) = match text.split_once('=') {
-            Some((name, value)) => (name, Some(OsString::from(value))),
-            None => (text.as_ref(), None),
-        };
-        let mut value = || {
-            let value = joined.clone().or_else(|| rest.next());
-            value.ok_or_else(|| usage(format!("{name} needs a value")))
-        };
+        let name = text.split('=').next().unwrap_or_default();
         match name {
-            "--points" => once(&mut self.points, name, points(&value()?)?),
-            "--budget" => once(&mut self.budget, name, budget(&value()?)?),
-            "--json" if joined.is_none() => {
+            "--points" => once(&mut self.points, name, points(&value(&text, rest)?)?),
+            "--budget" => once(&mut self.budget, name, budget(&value(&text, rest)?)?),
+            "--json" if name == text => {
                 self.json = true;
                 Ok(())
             }
-            "--quiet" if joined.is_none() => {
+            "--quiet" if name == text => {
                 self.quiet = true;
                 Ok(())
             }
@@ -134,6 +133,29 @@ impl Given {
             },
         })
     }
+}
+
+/// Whether JSON is asked for, also by arguments that are wrong.
+pub fn asks_for_json(arguments: &[OsString]) -> bool {
+    let mut options = arguments.iter().take_while(|argument| *argument != "--");
+    options.any(|argument| argument == "--json")
+}
+
+/// The value of an option: `--name value` or `--name=value`.
+fn value(option: &str, rest: &mut impl Iterator<Item = OsString>) -> Result<OsString, Failure> {
+    match option.split_once('=') {
+        Some((_, value)) => Ok(OsString::from(value)),
+        None => {
+            let needed = || usage(format!("{option} needs a value"));
+            rest.next().ok_or_else(needed)
+        }
+    }
+}
+
+/// The answer whose page is asked for.
+fn explained(value: &OsStr) -> Result<u64, Failure> {
+    let text = value.to_string_lossy();
+    number(text.as_bytes()).ok_or_else(|| usage(format!("{text} is no number of an answer")))
 }
 
 /// A failure by wrong use.
@@ -230,6 +252,20 @@ mod tests {
         assert_eq!(parse(Vec::new()), Ok(Asked::Example));
         assert_eq!(asked("a --help"), Ok(Asked::Help));
         assert_eq!(asked("--version"), Ok(Asked::Version));
+        assert_eq!(asked("--explain 14"), Ok(Asked::Explain(14)));
+        assert_eq!(asked("a --explain=3"), Ok(Asked::Explain(3)));
+    }
+
+    #[test]
+    fn json_is_asked_for_also_by_wrong_arguments() {
+        for (words, asked) in [
+            ("--json --fast", true),
+            ("a --", false),
+            ("-- --json", false),
+        ] {
+            let words: Vec<OsString> = words.split(' ').map(OsString::from).collect();
+            assert_eq!(asks_for_json(&words), asked, "{words:?}");
+        }
     }
 
     #[test]
@@ -246,6 +282,8 @@ mod tests {
             ),
             ("a b --budget -1", "-1 is no budget from 0 to 2^64 - 1"),
             ("a b --budget=", " is no budget from 0 to 2^64 - 1"),
+            ("--explain", "--explain needs a value"),
+            ("--explain much", "much is no number of an answer"),
             ("a b --verbose", "unknown option --verbose"),
             ("a b -q", "unknown option -q"),
             ("a b --json=1", "unknown option --json=1"),

@@ -3,6 +3,9 @@
 use std::fmt;
 use std::io;
 
+/// The exit status where the command could not do its work.
+pub const FAILED: u8 = 3;
+
 /// A message for standard error; the command ends with status 3.
 #[derive(Clone, Debug, PartialEq, Eq)]
 pub struct Failure(pub String);

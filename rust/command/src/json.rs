@@ -1,18 +1,28 @@
-//! The outcome for programs: one JSON object on one line, whose keys are always the same.
+//! The outcome for programs: one JSON object on one line, whose keys are always the same. docs/answer.schema.json describes it.
 
 use crate::answers::{meaning, sentence, text_name, verdict};
 use crate::derivation::Step;
 use crate::evaluation::Value;
 use crate::facts::{Derived, Facts, Judged, Located};
+use crate::failure::{Failure, FAILED};
 use crate::script::Sorted;
 use crate::source::Text;
 use std::fmt;
+use sverdhyll::digest::sha256;
+
+/// The name of the format, and its version: a later one keeps the keys of an earlier one.
+const FORMAT: [(&str, Json); 2] = [
+    ("format", Json::Word("sverdhyll")),
+    ("version", Json::Number(1)),
+];
 
 /// A JSON value.
 #[derive(Clone, Debug)]
 enum Json {
     Null,
     Number(u64),
+    /// A text that needs no escapes.
+    Word(&'static str),
     Text(String),
     List(Vec<Json>),
     Object(Vec<(&'static str, Json)>),
@@ -30,11 +40,21 @@ fn or_null<T>(value: Option<&T>, json: impl Fn(&T) -> Json) -> Json {
     value.map_or(Null, json)
 }
 
-/// The object of all facts.
-pub fn object(facts: &Facts) -> String {
+/// The object of a failure, after which there is no answer.
+pub fn failure(failure: &Failure) -> String {
+    let said = [
+        ("verdict", text("failed")),
+        ("status", Number(FAILED.into())),
+        ("message", text(&failure.0)),
+    ];
+    Object(FORMAT.into_iter().chain(said).collect()).to_string()
+}
+
+/// The object of all facts, by the library with this digest.
+pub fn object(facts: &Facts, library: &str) -> String {
     let answer = facts.answer;
     let verdict = verdict(answer.number);
-    let object = Object(vec![
+    let facts = vec![
         ("answer", Number(answer.number.into())),
         ("meaning", text(meaning(answer.number))),
         ("verdict", text(verdict.word())),
@@ -45,6 +65,7 @@ pub fn object(facts: &Facts) -> String {
         ("second", Number(answer.second)),
         ("units", Number(answer.units)),
         ("budget", Number(facts.given.budget)),
+        ("library", Object(vec![("sha256", text(library))])),
         ("script", file(&facts.given.script)),
         ("response", file(&facts.given.response)),
         ("points", points(facts)),
@@ -55,15 +76,17 @@ pub fn object(facts: &Facts) -> String {
             "functions",
             List(facts.derived.iter().map(function).collect()),
         ),
-    ]);
-    object.to_string()
+    ];
+    Object(FORMAT.into_iter().chain(facts).collect()).to_string()
 }
 
-/// A text's name and length.
+/// A text's name and length, and its digest where it was read whole.
 fn file(file: &Text) -> Json {
+    let whole = (file.bytes.len() as u64 == file.length).then_some(&file.bytes);
     Object(vec![
         ("file", text(&file.name)),
         ("bytes", Number(file.length)),
+        ("sha256", or_null(whole, |bytes| text(sha256(bytes)))),
     ])
 }
 
@@ -164,6 +187,7 @@ impl fmt::Display for Json {
         match self {
             Null => to.write_str("null"),
             Number(number) => write!(to, "{number}"),
+            Json::Word(word) => write!(to, "\"{word}\""),
             Json::Text(text) => write_text(text, to),
             List(items) => {
                 to.write_str("[")?;
