@@ -5,7 +5,7 @@ use crate::Answer;
 use std::env;
 use std::io::{self, Read, Write};
 use std::path::PathBuf;
-use std::process::{Child, ChildStdin, ChildStdout, Command, Stdio};
+use std::process::{Child, ChildStderr, ChildStdin, ChildStdout, Command, Stdio};
 
 /// The script that runs the worker, in the tree that this crate was built in.
 const WORKER: &str = concat!(env!("CARGO_MANIFEST_DIR"), "/worker");
@@ -15,16 +15,19 @@ const BESIDE: [&str; 2] = ["../libexec/sverdhyll/worker", "../../library/worker"
 const READY: &[u8] = b"sverdhyll";
 /// How many digits the digest of the library has, which it sends then.
 const DIGITS: usize = 64;
+/// At most so many bytes of what a worker said before it went are told.
+const MOST_SAID: u64 = 4_096;
 /// The frame that begins a check.
 const CHECK: &[u8] = b"check";
 /// The frame that begins an enquiry for a word.
 const WORD: &[u8] = b"word";
 
-/// A running worker and the two pipes to it.
+/// A running worker and the pipes to it.
 pub struct Held {
     process: Child,
     requests: Option<ChildStdin>,
     answers: ChildStdout,
+    errors: ChildStderr,
     digest: String,
 }
 
@@ -51,13 +54,16 @@ impl Held {
         let mut process = Command::new(worker()?)
             .stdin(Stdio::piped())
             .stdout(Stdio::piped())
+            .stderr(Stdio::piped())
             .spawn()?;
         let requests = process.stdin.take();
         let answers = process.stdout.take().expect("standard output is piped");
+        let errors = process.stderr.take().expect("standard error is piped");
         let mut held = Held {
             process,
             requests,
             answers,
+            errors,
             digest: String::new(),
         };
         let mut ready = [0; READY.len()];
@@ -119,23 +125,41 @@ impl Held {
 
     /// Sends frames.
     fn send(&mut self, frames: &[&[u8]]) -> io::Result<()> {
-        let requests = self.requests.as_mut().expect("open until it is dropped");
+        let mut bytes = Vec::new();
         for frame in frames {
-            requests.write_all(&(frame.len() as u64).to_le_bytes())?;
-            requests.write_all(frame)?;
+            bytes.extend((frame.len() as u64).to_le_bytes());
+            bytes.extend(*frame);
         }
-        requests.flush()
+        let requests = self.requests.as_mut();
+        let sent = requests.map(|requests| requests.write_all(&bytes));
+        sent.unwrap_or(Err(io::ErrorKind::BrokenPipe.into()))
+            .map_err(|_| self.gone())
+    }
+
+    /// Why a worker that has gone went: what it said last.
+    fn gone(&mut self) -> io::Error {
+        self.requests = None;
+        let mut said = String::new();
+        let _ = self
+            .errors
+            .by_ref()
+            .take(MOST_SAID)
+            .read_to_string(&mut said);
+        match said.trim_end() {
+            "" => io::Error::other("the checker's worker has gone"),
+            said => io::Error::other(format!("the checker's worker has gone: {said}")),
+        }
     }
 
     /// Receives a frame whose length is known.
     fn receive(&mut self, frame: &mut [u8]) -> io::Result<()> {
         let mut length = [0; 8];
         let received = self.answers.read_exact(&mut length);
-        received.map_err(|_| io::Error::other("the checker's worker has gone"))?;
+        received.map_err(|_| self.gone())?;
         if u64::from_le_bytes(length) != frame.len() as u64 {
             return Err(io::Error::other("the checker's worker speaks otherwise"));
         }
-        self.answers.read_exact(frame)
+        self.answers.read_exact(frame).map_err(|_| self.gone())
     }
 }
 
