@@ -2,16 +2,17 @@
 
    Every function may be called with any bytes and any numbers. A text or a list is a pointer and a length; where the length is 0 the pointer is not read.
 
-   A call keeps nothing for the next one, so that several may run at once. It runs on the caller's stack: sverdhyll_check takes up to 1.4 MiB of it, whatever it
-   is given (measured at the limits of all inputs, docs/MEASUREMENTS.md). A thread of 2 MiB suffices; one of 1 MiB does not for every input, and a call that needs
-   more than there is ends the program.
+   A call keeps nothing for the next one, so that several may run at once. It runs on the caller's stack: sverdhyll_check takes up to 1.4 MiB of it, whatever
+   it is given (measured at the limits of all inputs, docs/MEASUREMENTS.md). A thread of 2 MiB suffices; one of 1 MiB does not for every input, and a call that
+   needs more than there is ends the program.
 
    Which static library has which function (`rt staticlib NAME` makes target/staticlib/libNAME.a; link one of them):
 
      libchecker.a   sverdhyll_check, sverdhyll_word
      libwords.a     sverdhyll_words, sverdhyll_word
 
-   ./install DIR puts libchecker.a to DIR/lib/libsverdhyll.a, with a file for pkg-config: cc $(pkg-config --cflags sverdhyll) .. $(pkg-config --libs sverdhyll) */
+   ./install DIR puts libchecker.a to DIR/lib/libsverdhyll.a, with a file for pkg-config:
+   cc $(pkg-config --cflags sverdhyll) .. $(pkg-config --libs sverdhyll) */
 #ifndef SVERDHYLL_H
 #define SVERDHYLL_H
 
