@@ -68,7 +68,7 @@ fn run(asked: Asked) -> Result<u8, Failure> {
         Asked::Help => print(0, |to| to.write_all(HELP.as_bytes())),
         Asked::Version => print(0, |to| to.write_all(version().as_bytes())),
         Asked::Explain(number) => {
-            let missing = || Failure(format!("there is no answer {number}: docs/ANSWERS.md has 0 to 16"));
+            let missing = || Failure(format!("there is no answer {number}: docs/ANSWERS.md lists them"));
             let page = explain::page(number).ok_or_else(missing)?;
             print(0, |to| to.write_all(page.as_bytes()))
         }
