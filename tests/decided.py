@@ -2,137 +2,212 @@
 """The crate test_decided's table of decided readings: tests/decided.py [--check]
 
 Writes crates/test_decided/proofs/Readings.antt from tests/readings.jsonl: the readings whose texts have no fault in a word and at most 200 printable bytes each, without
-comments. With --check it says whether that file is what it would write.
+comments. Each is proved of the definitions by its answer's number and the index of the word at its place. With --check it says whether that file is what it would write.
 """
-import glob, json, os, re, sys
+import glob
+import json
+import os
+import re
+import sys
 
-os.chdir(os.path.join(os.path.dirname(os.path.abspath(__file__)), '..'))
-TABLE = 'crates/test_decided/proofs/Readings.antt'
+HERE = os.path.dirname(os.path.abspath(__file__))
+CRATES = os.path.join(HERE, "..", "crates")
+READINGS = os.path.join(HERE, "readings.jsonl")
+TABLE = os.path.join(CRATES, "test_decided", "proofs", "Readings.antt")
 
-LONGEST = 200
+LONGEST = 200                       # bytes of a text that the prover computes with
+NESTING = 64
+NOT_BY_WORDS = (1, 2, 3)            # answers that stand before the words are known
+WITHOUT_WORD = (10, 11)             # answers whose place is 0 and no word
+SCRIPT, RESPONSE = 0, 1             # the texts that an answer speaks of
+NO_DERIVATION = 13
 
-def words(t):
-    out = []; i = 0
-    while i < len(t):
-        c = t[i]
-        if c == ' ': i += 1
-        elif c in '()': out.append(i); i += 1
-        else:
-            out.append(i)
-            while i < len(t) and t[i] not in ' ()': i += 1
-    return out
+# A word that is too large or of no form.
+FAULTY = re.compile(r"[^ ()]{65,}|(?<![^ ()])[0-9]{10,}|#x[0-9a-fA-F]{17,}|#b[01]{65,}|(?<![^ ()])(#x|#b|#)(?=[ ()]|$)|#[^xb]")
 
-def plain(h):
-    t = bytes.fromhex(h)
-    ok = len(t) <= LONGEST and all(32 <= b < 127 for b in t) and not re.search(rb'["\\|:;]', t)
-    return t.decode() if ok else None
+# The crates whose definitions the prover unfolds, without the files that the reader does not reach and single definitions that clash or are not reached.
+UNFOLDED = ("forest", "word_kinds", "words", "operators", "terms", "derivation", "lexemes", "shapes", "term_sorts", "written_sorts", "term_nodes", "names",
+            "term_faults", "headers", "grammars", "script")
+UNREACHED = {("terms", "Costs"), ("terms", "Values"), ("words", "Answers"), ("words", "Limits"), ("words", "Reading"), ("derivation", "Derivation"),
+             ("derivation", "Answer"), ("script", "Outcome"), ("forest", "Tables"), ("words", "Table")}
+LEFT_OUT = {"sortsOf", "operatorValue", "enquired"}
 
-def place(t, a):
-    ws = words(t)
-    return ws.index(a) if a in ws else len(ws) if a == len(t) else None
+# Definitions of one name in two files: the kinds of words are imported under another.
+RENAMED = {("word_kinds", "Kinds", name): name + "Kind" for name in ("numeral", "literal", "symbol")}
 
-def deep(t):
-    d = m = 0
-    for c in t:
-        d += (c == '(') - (c == ')'); m = max(m, d)
-        if d < 0: return True
-    return d != 0 or m > 64
+# What the table's own definitions name.
+NAMED = {"Rattle.forest.specs.Limits": ["allowed"],
+         "Rattle.script.specs.Script": ["Known", "Read", "passed", "refused", "nothingKnown"],
+         "Rattle.script.specs.Response": ["Answered", "bodies", "refused as refusedBody"]}
 
-BAD = re.compile(r'[^ ()]{65,}|(?<![^ ()])[0-9]{10,}|#x[0-9a-fA-F]{17,}|#b[01]{65,}|(?<![^ ()])(#x|#b|#)(?=[ ()]|$)|#[^xb]')
-cases = []; seen = set()
-for r in map(json.loads, open('tests/readings.jsonl')):
-    s, p = plain(r['script']), plain(r['response'])
-    number, text, at = r['answer'][:3]
-    if s is None or number in (1, 2, 3) or deep(s) or BAD.search(s): continue
-    if text == 0:
-        w = place(s, at)
-        if w is None or (s,) in seen: continue
-        seen.add((s,)); cases.append((r['item'], s, None, number, w))
-    else:
-        if p is None or deep(p) or BAD.search(p): continue
-        if number in (10, 11): w = 0
-        elif text == 1 and number != 13:
-            w = place(p, at)
-            if w is None: continue
-        else: number = w = 0
-        if (s, p) in seen: continue
-        seen.add((s, p)); cases.append((r['item'], s, p, number, w))
-
-MODULES = ['forest', 'word_kinds', 'words', 'operators', 'terms', 'derivation', 'lexemes', 'shapes', 'term_sorts', 'written_sorts', 'term_nodes', 'names', 'term_faults', 'headers', 'grammars',
-           'script']
-SKIP = {('terms', 'Costs'), ('terms', 'Values'), ('words', 'Answers'), ('words', 'Limits'), ('words', 'Reading'), ('derivation', 'Derivation'), ('derivation', 'Answer'),
-        ('script', 'Outcome')}
-DROP = set('startTable first from size AllSorted FunctionsSorted sortsOf operatorValue enquired faultFrom sortColumn knownWords placeAmong wordNumber'.split())
-uses = {}; unfolded = []
-for c in MODULES:
-    for f in sorted(glob.glob('crates/%s/specs/*.antt' % c) + glob.glob('crates/%s/specs/code/Standing.antt' % c)):
-        m = os.path.relpath(f, 'crates/%s/specs' % c)[:-5].replace('/', '.')
-        if (c, m) in SKIP: continue
-        kept = []
-        for x in re.findall(r'^unfoldable pub (\S+) :', open(f).read(), re.M):
-            if x in DROP or (m, x) == ('Search', 'wordsIn'): continue
-            if (c, m) == ('word_kinds', 'Kinds') and x in ('numeral', 'literal', 'symbol'):
-                kept.append('%s as %sKind' % (x, x)); unfolded.append(x + 'Kind')
-            else:
-                kept.append(x); unfolded.append(x)
-        if kept: uses['Rattle.%s.specs.%s' % (c, m)] = kept
-
-uses['Rattle.headers.specs.Heads'] = ['allowed']
-uses['Rattle.script.specs.Script'] += ['Known', 'Read', 'passed', 'refused', 'nothingKnown']
-uses['Rattle.script.specs.Response'] += ['Answered', 'bodies', 'refused as refusedBody']
-
-def imports(names):
-    return ', '.join(sorted(names, key=lambda n: (n.lower(), n)))
-
-out = ['''-- Decided readings of document 01, computed from the definitions: one table under one statement. A place is a word.
+HEAD = """\
+-- Decided readings of document 01, computed from the definitions: one table under one statement. A place is a word.
 use Prim.Native.Nat.{ℕ}
 use Prim.Native.String.{String}
 use mathlib.Core.List.{List, [], _∷_, map}
 use mathlib.Core.Path.{_≡_, refl}
-use Rattle.forest.specs.Lists.{spelling}''']
-out += ['use %s.{%s}' % (k, imports(uses[k])) for k in sorted(uses) if uses[k]]
-out += ['''
--- A reading: a script of so many words, a response of so many, and the number and the word of the refusal; nothing where both pass.
+use lib.ListN.{length}
+use Rattle.forest.specs.Lists.{spelling}
+"""
+
+DEFINITIONS = """
+-- A reading: a script, a response, and the number and the word of the refusal; nothing where both pass.
 pub record Reading : Type 0 where
   pub script : String
-  pub scriptWords : ℕ
   pub response : String
-  pub responseWords : ℕ
   pub answer : List ℕ
 
 -- One row of the table.
-abbrev row : (script : String) → ℕ → (response : String) → ℕ → List ℕ → Reading
-row s n r m a = record { script = s; scriptWords = n; response = r; responseWords = m; answer = a }
+abbrev row : (script response : String) → List ℕ → Reading
+row s r a = record { script = s; response = r; answer = a }
 
 -- The answer to a response.
 abbrev bodiesAnswer : Answered → List ℕ
 bodiesAnswer (refusedBody number place) = number ∷ place ∷ []
 bodiesAnswer (bodies ts) = []
 
--- The answer to a script, and where it passes to the response.
-abbrev bothAnswer : Reading → Read → List ℕ
-bothAnswer reading (refused number place) = number ∷ place ∷ []
-bothAnswer reading (passed k) =
-    bodiesAnswer (answered allowed (reading .responseWords) (k .defined) (inScriptOrder (k .functions)) (itemsOf (spelling (reading .response))))
+-- The answer to a script, and where it passes to the response, a text.
+abbrev bothAnswer : (response : List ℕ) → Read → List ℕ
+bothAnswer response (refused number place) = number ∷ place ∷ []
+bothAnswer response (passed k) =
+    bodiesAnswer (answered allowed (length (wordsOf response)) (k .defined) (inScriptOrder (k .functions)) (itemsOf response))
 
--- What the definitions answer.
+-- What the definitions answer to two texts.
+abbrev textsAnswer : (script response : List ℕ) → List ℕ
+textsAnswer script response = bothAnswer response (readAll allowed (length (wordsOf script)) nothingKnown (itemsOf script))
+
+-- What they answer to a reading.
 abbrev defined : Reading → List ℕ
-defined reading = bothAnswer reading (readAll allowed (reading .scriptWords) nothingKnown (itemsOf (spelling (reading .script))))
+defined reading = textsAnswer (spelling (reading .script)) (spelling (reading .response))
 
 -- The readings.
 abbrev readings : List Reading
-readings =''']
-for item, s, p, number, w in cases:
-    answer = '(%d ∷ %d ∷ [])' % (number, w) if number else '[]'
-    out.append('    row "%s" %d "%s" %d %s\n    ∷' % (s, len(words(s)), p or '', len(words(p or '')), answer))
-rows = '\n'.join(out[:-len(cases)]) + '\n    ' + '\n    ∷ '.join(x.strip().rstrip('∷').rstrip() for x in out[-len(cases):]) + '\n    ∷ []\n'
-text = rows + '''
+readings =
+"""
+
+THEOREM = """
 -- The definitions answer every one of them so.
 pub decided : map defined readings ≡ map (λ (r : Reading). r .answer) readings
 unfolding %s
 decided = refl
-''' % ' '.join(sorted(unfolded))
-if '--check' in sys.argv[1:]:
-    sys.exit(open(TABLE, encoding='utf-8').read() != text)
-open(TABLE, 'w', encoding='utf-8').write(text)
-print('%d readings' % len(cases))
+"""
+
+
+# Texts
+
+def word_starts(text):
+    """Where the words of a text without comments start."""
+    return [found.start() for found in re.finditer(r"[()]|[^ ()]+", text)]
+
+
+def plain(digits):
+    """A text from its bytes in hexadecimal; None where it is long, or has a byte that the table does not write."""
+    text = bytes.fromhex(digits)
+    if len(text) > LONGEST or any(not 32 <= byte < 127 for byte in text) or re.search(rb'["\\|:;]', text):
+        return None
+    return text.decode()
+
+
+def well_formed(text):
+    """Whether no word of a text is at fault, by its bytes or its bracket."""
+    depth = 0
+    for byte in text:
+        depth += (byte == "(") - (byte == ")")
+        if not 0 <= depth <= NESTING:
+            return False
+    return depth == 0 and not FAULTY.search(text)
+
+
+def word_at(text, offset):
+    """The index of the word at an offset, their number for the text's end; None where there is none."""
+    starts = word_starts(text)
+    if offset in starts:
+        return starts.index(offset)
+    return len(starts) if offset == len(text) else None
+
+
+# Readings
+
+def case_of(reading):
+    """A reading as (script, response, answer) in words; None where the table does not have it."""
+    script, response = plain(reading["script"]), plain(reading["response"])
+    number, text, place = reading["answer"][:3]
+    if script is None or number in NOT_BY_WORDS or not well_formed(script):
+        return None
+    if text == SCRIPT:
+        word = word_at(script, place)
+        return None if word is None else (script, "", (number, word))
+    if response is None or not well_formed(response):
+        return None
+    if number in WITHOUT_WORD:
+        return script, response, (number, 0)
+    if text != RESPONSE or number == NO_DERIVATION:
+        return script, response, None
+    word = word_at(response, place)
+    return None if word is None else (script, response, (number, word))
+
+
+def cases():
+    """The cases of the table, each pair of texts once."""
+    with open(READINGS, encoding="utf-8") as lines:
+        found = {case[:2]: case for case in map(case_of, map(json.loads, lines)) if case}
+    return list(found.values())
+
+
+# The file
+
+def definitions(crate):
+    """The definitions of a crate that the prover unfolds: (module, names), each name as it is imported."""
+    folder = os.path.join(CRATES, crate, "specs")
+    for path in sorted(glob.glob(os.path.join(folder, "*.antt"))):
+        module = os.path.basename(path)[:-5]
+        if (crate, module) in UNREACHED:
+            continue
+        with open(path, encoding="utf-8") as file:
+            names = re.findall(r"^unfoldable pub (\S+) :", file.read(), re.MULTILINE)
+        yield module, [name for name in names if name not in LEFT_OUT]
+
+
+def unfolded():
+    """The imports of the file by their modules, and the names that the proof unfolds."""
+    imports, names = {}, []
+    for crate in UNFOLDED:
+        for module, found in definitions(crate):
+            shown = {name: RENAMED.get((crate, module, name), name) for name in found}
+            names += shown.values()
+            if shown:
+                imports["Rattle.%s.specs.%s" % (crate, module)] = [name if name == other else "%s as %s" % (name, other) for name, other in shown.items()]
+    for module, found in NAMED.items():
+        imports[module] = imports.get(module, []) + found
+    return imports, sorted(names)
+
+
+def row(case):
+    """A row of the table."""
+    script, response, answer = case
+    return 'row "%s" "%s" %s' % (script, response, "(%d ∷ %d ∷ [])" % answer if answer else "[]")
+
+
+def written():
+    """The text of the file, and how many readings it has."""
+    imports, names = unfolded()
+    uses = ["use %s.{%s}\n" % (module, ", ".join(sorted(imports[module], key=lambda name: (name.lower(), name)))) for module in sorted(imports)]
+    rows = [row(case) for case in cases()]
+    table = "    " + "\n    ∷ ".join(rows + ["[]"]) + "\n"
+    return HEAD + "".join(uses) + DEFINITIONS + table + THEOREM % " ".join(names), len(rows)
+
+
+def main():
+    """Writes the file, or compares it with what stands there."""
+    text, count = written()
+    if "--check" in sys.argv[1:]:
+        with open(TABLE, encoding="utf-8") as file:
+            return file.read() != text
+    with open(TABLE, "w", encoding="utf-8") as file:
+        file.write(text)
+    print("%d readings" % count)
+    return 0
+
+
+if __name__ == "__main__":
+    sys.exit(main())

@@ -3,12 +3,13 @@ use Prim.Native.Nat.{ℕ, _+_, _≤_}
 use native.Mathlib.Omega.{arith}
 use mathlib.Core.Path.{_≡_, refl}
 use mathlib.Core.Bool.{Bool, true, false}
-use Rattle.forest.specs.Forest.{size}
+use Rattle.forest.specs.code.Cursors.{size}
 use Rattle.forest.specs.Lists.{sameBytes}
 use Rattle.lexemes.specs.Lists.{Items, is, item}
 use Rattle.lexemes.specs.code.Standing.{Source, Stands, bracketed, ends, word}
 use Rattle.lexemes.proofs.Standing.{forward}
-use Rattle.term_nodes.specs.Terms.{operandsOf, rawTerms}
+use Rattle.term_nodes.specs.Terms.{rawTerms}
+use Rattle.term_nodes.specs.code.Table.{operandsOf}
 
 -- the operands of a list
 operands-fewer : (ops : Items) {i c : ℕ} → i ≤ c → i + size (rawTerms true ops) ≤ c → i + size (operandsOf ops) ≤ c

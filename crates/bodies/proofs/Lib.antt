@@ -1,4 +1,4 @@
 pub mod Fewer
 pub mod Limits
 pub mod Names
-pub mod Parts
+pub mod TablePart

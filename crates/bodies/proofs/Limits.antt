@@ -4,12 +4,14 @@ use native.Mathlib.Omega.{arith}
 use mathlib.Core.Path.{_≡_, refl}
 use mathlib.Core.Bool.{false}
 use mathlib.Core.List.{List}
-use Rattle.forest.specs.Forest.{join, nodesOf, none, size, tree}
-use Rattle.forest.specs.code.Rows.{rows}
+use Rattle.forest.specs.Forest.{join, nodesOf, none, tree}
+use Rattle.forest.specs.code.Cursors.{size}
+use Rattle.forest.specs.Tables.{rows}
 use Rattle.lexemes.specs.code.Standing.{Stands}
 use Rattle.lexemes.specs.code.Table.{nextAt}
 use Rattle.lexemes.proofs.Standing.{by-itself}
-use Rattle.term_nodes.specs.code.Gathering.{Gathered, Gathering, TermNodes, WordPast}
+use Rattle.term_nodes.specs.code.Gather.{Gathered, Gathering}
+use Rattle.term_nodes.specs.code.Limits.{TermNodes, WordPast}
 use Rattle.term_nodes.specs.code.Table.{uncountedTable}
 use Rattle.term_nodes.specs.Terms.{rawTerm}
 use Rattle.term_nodes.proofs.Saying.{say-terms}

@@ -7,10 +7,11 @@ use Rattle.forest.specs.Forest.{none, tree}
 use Rattle.lexemes.specs.code.Standing.{Stands}
 use Rattle.lexemes.specs.code.Table.{nextAt}
 use Rattle.lexemes.proofs.Standing.{by-itself}
-use Rattle.term_nodes.specs.code.Gathering.{Counted, Counting}
+use Rattle.term_nodes.specs.code.Sizes.{Counted, Counting}
 use Rattle.term_nodes.specs.Terms.{rawTerm}
 use Rattle.term_nodes.proofs.Saying.{say-terms}
-use Rattle.names.specs.code.Lookup.{Resolved, Resolving, sourceOf}
+use Rattle.names.specs.code.Lookup.{sourceOf}
+use Rattle.names.specs.code.Forms.{Resolved, Resolving}
 use Rattle.names.specs.declared.Seen.{Seen}
 use Rattle.bodies.specs.code.Bodies.{Named, Naming}
 use Rattle.term_faults.proofs.Headed.{terms-headed}

@@ -1,17 +1,21 @@
 //! The three tests of a body.
 use crate::Body;
+use forest::limits::SCRIPT_WORDS;
 use lexemes::next_at;
 use names::Seen;
+use names::Target;
 use names::forms::write_forms;
 use term_faults::bodies::body_fault;
 use term_nodes::gather::gather_terms;
 use term_nodes::limits::node_past;
 use term_nodes::sizes::count_nodes;
+use terms::ROW;
 ghost use mathlib.Core.Path.{_≡_};
 ghost use Prim.Native.Nat.{_*_};
 ghost use lib.ListN.{drop};
-ghost use Rattle.bodies.specs.code.Bodies.{Limited, Named, Naming, TermAt, noSorts};
-ghost use Rattle.term_faults.specs.code.Seeking.{BodyFound, BodySought};
+ghost use Rattle.terms.specs.code.Nodes.{rowWidth};
+ghost use Rattle.bodies.specs.code.Bodies.{Limited, NamesBody, Naming, TermAt, noSorts};
+ghost use Rattle.term_faults.specs.code.Bodies.{FindsInBody, BodyFound, BodySought};
 
 // Gathers the nodes of the term at a word, and finds the node past the first `most`.
 pub fn body_limit(lexemes: &[u64], at: usize, raw: &mut [u64], most: usize, nowhere: usize) -> Body
@@ -23,7 +27,7 @@ pub fn body_limit(lexemes: &[u64], at: usize, raw: &mut [u64], most: usize, nowh
     Body { rows, place }
 }
 
-// Counts the nodes that are gathered of a term and writes their forms into the rows from `base` on; returns the least word with a name that is not known.
+// Counts the nodes that are gathered of a term and writes their forms into their rows; returns the least word with a name that is not known.
 pub fn body_names(
     text: &[u8],
     lexemes: &[u64],
@@ -31,22 +35,21 @@ pub fn body_names(
     raw: &mut [u64],
     nodes: &mut [u64],
     seen: Seen,
-    count: usize,
-    base: usize,
-    nowhere: usize,
+    target: Target,
 ) -> usize
-    requires { ⌜ Naming (now text) (now lexemes) (now names) (now raw) (now nodes) seen count base nowhere ⌝ }
-    ensures { λ r. ⌜ ((p : Naming (now (text .entry)) (now (lexemes .entry)) (now (names .entry)) (now (raw .entry)) (now (nodes .entry)) seen count base nowhere) → Named p (now (raw .exit)) (now (nodes .exit)) r) ⌝ }
+    requires { ⌜ Naming (now text) (now lexemes) (now names) (now raw) (now nodes) seen (target .count) (target .base) (target .nowhere) ⌝ }
+    ensures { λ r. ⌜ NamesBody (now (text .entry)) (now (lexemes .entry)) (now (names .entry)) (now (raw .entry)) (now (nodes .entry)) seen target
+        (now (raw .exit)) (now (nodes .exit)) r ⌝ }
 {
-    count_nodes(raw, count);
-    write_forms(names, seen, text, lexemes, raw, count, nodes, base, nowhere)
+    count_nodes(raw, target.count);
+    write_forms(names, seen, text, lexemes, raw, nodes, target)
 }
 
 // The column of sorts before it is filled.
-fn no_sorts() -> [u64; 4096]
+pub fn no_sorts() -> [u64; SCRIPT_WORDS]
     ensures { λ r. ⌜ r ≡ noSorts ⌝ }
 {
-    [0; 4096]
+    [0; SCRIPT_WORDS]
 }
 
 // The word at fault in a term, whose forms stand from row `base` on, that is to be of a sort.
@@ -59,10 +62,10 @@ pub fn body_sort(
     sort: u64,
     nowhere: usize,
 ) -> usize
-    requires { ⌜ BodySought (now raw) (drop (4 * base) (now nodes)) (now signatures) noSorts count sort nowhere ⌝ }
-    ensures { λ r. ⌜ ((p : BodySought (now (raw .entry)) (drop (4 * base) (now (nodes .entry))) (now (signatures .entry)) noSorts count sort nowhere) → BodyFound p r) ⌝ }
+    requires { ⌜ BodySought (now raw) (drop (rowWidth * base) (now nodes)) (now signatures) noSorts count sort nowhere ⌝ }
+    ensures { λ r. ⌜ FindsInBody (now (raw .entry)) (drop (rowWidth * base) (now (nodes .entry))) (now (signatures .entry)) noSorts count sort nowhere r ⌝ }
 {
     let mut column = no_sorts();
-    let forms = &nodes[4 * base..];
+    let forms = &nodes[ROW * base..];
     body_fault(raw, forms, signatures, &mut column, count, sort, nowhere)
 }

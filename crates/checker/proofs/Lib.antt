@@ -1,6 +1,6 @@
 pub mod Blanking
-pub mod Bodies
-pub mod Judged
-pub mod Passing
+pub mod BodiesAnswer
+pub mod Judgements
+pub mod BothTexts
 pub mod Sizing
-pub mod Held
+pub mod BothTables

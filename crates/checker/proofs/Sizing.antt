@@ -8,19 +8,19 @@ use mathlib.Core.Option.{none as nothing, some}
 use borrow.Author.Tests.{eq-eqb, le-ltb, lt-ltb, ne-eqb}
 use lib.Dec.{eqb}
 use lib.ListN.{length}
-use Rattle.forest.specs.Limits.{areaSize}
+use Rattle.forest.specs.Limits.{areaSize, mostNumbers, responseBytes, scriptBytes}
 use Rattle.outcome.specs.Checked.{Checked, judged, missized, refusal, response-refused, script-refused, sizeAnswer, unshown}
 use Rattle.outcome.specs.Derived.{blankArea}
 use Rattle.outcome.specs.declared.Outcome.{Outcome}
 use Rattle.outcome.proofs.Areas.{blank-long, unshown-blank}
-use Rattle.checker.specs.code.Judging.{Judging}
+use Rattle.checker.specs.code.Judge.{Judging}
 use Rattle.checker.specs.code.Sizes.{SizesTold}
 
 -- where the script, the response and the points are short enough, the area's size is left to test
-area-left : (script response points area : List ℕ) → length script ≤ 32768 → length response ≤ 8192 → length points ≤ 1024
+area-left : (script response points area : List ℕ) → length script ≤ scriptBytes → length response ≤ responseBytes → length points ≤ mostNumbers
     → sizeAnswer script response points area ≡ cond (eqb (length area) areaSize) nothing (some (refusal 1 3 (length area)))
 unfolding sizeAnswer
-area-left script response points area f g h = rw (le-ltb 32768 (length script) f, le-ltb 8192 (length response) g, le-ltb 1024 (length points) h)
+area-left script response points area f g h = rw (le-ltb scriptBytes (length script) f, le-ltb responseBytes (length response) g, le-ltb mostNumbers (length points) h)
 
 module _ {script response points : List ℕ} {size : ℕ} {r : Outcome} where
   -- a size that is not right
@@ -30,25 +30,25 @@ module _ {script response points : List ℕ} {size : ℕ} {r : Outcome} where
       rw e (record { refused = λ other. answers; passes = λ zero. absurd (omega arith); sized = λ zero. absurd (omega arith) })
 
   -- a script that is too long
-  pub script-long : r ≡ refusal 1 0 (length script) → 32768 < length script → SizesTold script response points size r
+  pub script-long : r ≡ refusal 1 0 (length script) → scriptBytes < length script → SizesTold script response points size r
   unfolding sizeAnswer
-  script-long e h = told-refused e (λ area l. rw (lt-ltb 32768 (length script) h))
+  script-long e h = told-refused e (λ area l. rw (lt-ltb scriptBytes (length script) h))
 
-  module _ (script-fits : length script ≤ 32768) where
+  module _ (script-fits : length script ≤ scriptBytes) where
     -- a response that is too long
-    pub response-long : r ≡ refusal 1 1 (length response) → 8192 < length response → SizesTold script response points size r
+    pub response-long : r ≡ refusal 1 1 (length response) → responseBytes < length response → SizesTold script response points size r
     unfolding sizeAnswer
-    response-long e h = told-refused e (λ area l. rw (le-ltb 32768 (length script) script-fits, lt-ltb 8192 (length response) h))
+    response-long e h = told-refused e (λ area l. rw (le-ltb scriptBytes (length script) script-fits, lt-ltb responseBytes (length response) h))
 
-    module _ (response-fits : length response ≤ 8192) where
+    module _ (response-fits : length response ≤ responseBytes) where
       -- a list of points that is too long
-      pub points-long : r ≡ refusal 1 2 (length points) → 1024 < length points → SizesTold script response points size r
+      pub points-long : r ≡ refusal 1 2 (length points) → mostNumbers < length points → SizesTold script response points size r
       unfolding sizeAnswer
       points-long e h =
           told-refused e
-          (λ area l. rw (le-ltb 32768 (length script) script-fits, le-ltb 8192 (length response) response-fits, lt-ltb 1024 (length points) h))
+          (λ area l. rw (le-ltb scriptBytes (length script) script-fits, le-ltb responseBytes (length response) response-fits, lt-ltb mostNumbers (length points) h))
 
-      module _ (points-fit : length points ≤ 1024) where
+      module _ (points-fit : length points ≤ mostNumbers) where
         -- an area of wrong size
         pub area-other : r ≡ refusal 1 3 size → (size ≡ areaSize → ⊥) → SizesTold script response points size r
         area-other e h = told-refused e (λ area l. area-left script response points area script-fits response-fits points-fit ∙ rw (l, ne-eqb size areaSize h))

@@ -1,9 +1,7 @@
 //! The lent area.
+use forest::limits::AREA;
 ghost use mathlib.Core.Path.{_≡_};
 ghost use Rattle.outcome.specs.Checked.{unshown};
-
-// How many entries the area has.
-pub const AREA: usize = 32768;
 
 // An entry that no list uses.
 const UNUSED: u16 = 65535;

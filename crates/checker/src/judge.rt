@@ -1,25 +1,34 @@
 //! The two texts, the derivations and the points, in their order.
 use crate::area::blank_area;
+use forest::limits::SCRIPT_WORDS;
+use names::table;
 use outcome::Outcome;
 use outcome::refusal;
 use script::FORMS;
+use script::NODES;
 use script::Progress;
 use script::Verdict;
+use script::answers::ACCEPTED;
+use script::answers::NO_DERIVATION;
+use script::answers::POINTS;
+use script::places::PLACES;
+use script::places::offset_of;
 use texts::responses::read_response_text;
-use texts::responses::word_offset;
 use texts::scripts::read_script_text;
 use verdicts::derive::derive_all;
 use verdicts::evaluate::evaluate;
 ghost use mathlib.Core.Path.{_≡_};
-ghost use lib.ListN.{drop, getD, length, take};
-ghost use Prim.Native.Nat.{_+_, _≤_, _<_};
-ghost use Rattle.script.specs.code.Places.{firstsPlace, formsPlace};
+ghost use lib.ListN.{drop, length, take};
+ghost use Prim.Native.Nat.{_*_, _≤_};
+ghost use Rattle.forest.specs.Limits.{scriptWords};
+ghost use Rattle.script.specs.code.Places.{formsPlace, nodesLength, placesLength};
+ghost use Rattle.term_nodes.specs.code.Table.{rowWidth};
 ghost use Rattle.names.specs.code.Lookup.{Names};
-ghost use Rattle.texts.specs.code.Texts.{Ready, ResponseRead};
+ghost use Rattle.texts.specs.code.Responses.{ReadsResponse, Ready};
 ghost use Rattle.outcome.specs.Checked.{Checked};
-ghost use Rattle.verdicts.specs.code.Deriving.{Derivable, Judged};
-ghost use Rattle.verdicts.specs.code.Evaluating.{Evaluable};
-ghost use Rattle.checker.specs.code.Judging.{Judging, TextsRead, Deriving, BodiesDerived, PointsJudged};
+ghost use Rattle.verdicts.specs.code.Derive.{Derivable, Judged};
+ghost use Rattle.verdicts.specs.code.Evaluate.{Evaluable};
+ghost use Rattle.checker.specs.code.Judge.{Judging, TextsRead, Deriving, BodiesDerived, PointsJudged};
 
 // The answer on two texts, whose number is 0 where both pass; and what the script has said.
 struct Told {
@@ -27,41 +36,32 @@ struct Told {
     progress: Progress,
 }
 
-// The number of a body that no list of rules derives.
-const NO_DERIVATION: usize = 13;
-
-// The number of points that are not whole or not of their sorts.
-const BAD_POINTS: usize = 16;
-
-// Where the first words of bodies stand in the table of places.
-const FIRSTS: usize = 2744;
-
 // A table of names without names.
-fn no_names() -> [u8; 9504]
+fn no_names() -> [u8; table::ROW * table::ROWS]
     ensures { λ r. ⌜ Names r ⌝ }
 {
-    [0; 9504]
+    [0; table::ROW * table::ROWS]
 }
 
 // A table of places in which nothing stands.
-fn no_places() -> [u64; 2752]
-    ensures { λ r. ⌜ length r ≡ 2752 ⌝ }
+fn no_places() -> [u64; PLACES]
+    ensures { λ r. ⌜ length r ≡ placesLength ⌝ }
 {
-    [0; 2752]
+    [0; PLACES]
 }
 
 // A row for each word of a script.
-fn word_room() -> [u64; 16384]
-    ensures { λ r. ⌜ length r ≡ 16384 ⌝ }
+fn word_room() -> [u64; term_nodes::ROW * SCRIPT_WORDS]
+    ensures { λ r. ⌜ length r ≡ rowWidth * scriptWords ⌝ }
 {
-    [0; 16384]
+    [0; term_nodes::ROW * SCRIPT_WORDS]
 }
 
 // A row for each word of a script and of a response among the terms, and one for each word of a script among the forms.
-fn node_room() -> [u64; 40960]
-    ensures { λ r. ⌜ length r ≡ 40960 ⌝ }
+fn node_room() -> [u64; NODES]
+    ensures { λ r. ⌜ length r ≡ nodesLength ⌝ }
 {
-    [0; 40960]
+    [0; NODES]
 }
 
 // Reads a response to a script whose tables are given, in one table of nodes the terms in front of the forms.
@@ -75,8 +75,8 @@ fn read_bodies(
 ) -> Verdict
     requires { ⌜ Ready (now names) (now raw) (now places) (take formsPlace (now nodes)) progress ⌝ }
     requires { ⌜ formsPlace ≤ length (now nodes) ⌝ }
-    ensures { λ r. ⌜ ((q : Ready (now (names .entry)) (now (raw .entry)) (now (places .entry)) (take formsPlace (now (nodes .entry))) progress)
-        → ResponseRead q (now (response .entry)) (now (places .exit)) (take formsPlace (now (nodes .exit))) r) ⌝ }
+    ensures { λ r. ⌜ ReadsResponse (now (response .entry)) (now (names .entry)) (now (raw .entry)) (now (places .entry))
+        (take formsPlace (now (nodes .entry))) progress (now (places .exit)) (take formsPlace (now (nodes .exit))) r ⌝ }
     ensures { λ r. ⌜ drop formsPlace (now (nodes .exit)) ≡ drop formsPlace (now (nodes .entry)) ⌝ }
 {
     read_response_text(response, names, raw, places, &mut nodes[..FORMS], progress)
@@ -91,14 +91,14 @@ fn read_texts(
     nodes: &mut [u64],
 ) -> Told
     requires { ⌜ Names (now names) ⌝ }
-    requires { ⌜ length (now places) ≡ 2752 ⌝ }
-    requires { ⌜ length (now nodes) ≡ 40960 ⌝ }
+    requires { ⌜ length (now places) ≡ placesLength ⌝ }
+    requires { ⌜ length (now nodes) ≡ nodesLength ⌝ }
     ensures { λ r. ⌜ TextsRead (now (script .entry)) (now (response .entry)) (now (names .exit)) (now (places .exit)) (now (nodes .exit)) r ⌝ }
 {
     let mut raw = word_room();
     let step = read_script_text(script, names, &mut raw, places, nodes);
     let progress = step.progress;
-    if step.number != 0 {
+    if step.number != ACCEPTED {
         return Told {
             outcome: refusal(step.number, 0, step.place),
             progress,
@@ -115,36 +115,22 @@ fn read_texts(
 fn derive_tables(places: &[u64], nodes: &[u64], progress: Progress, shown: &mut [u16]) -> usize
     requires { ⌜ Derivable (now places) (take formsPlace (now nodes)) (drop formsPlace (now nodes)) progress (now shown) ⌝ }
     requires { ⌜ formsPlace ≤ length (now nodes) ⌝ }
-    ensures { λ r. ⌜ ((q : Derivable (now (places .entry)) (take formsPlace (now (nodes .entry))) (drop formsPlace (now (nodes .entry))) progress (now (shown .entry)))
-        → Judged q (now (shown .exit)) r) ⌝ }
+    ensures { λ r. ⌜ ((q : Derivable (now (places .entry)) (take formsPlace (now (nodes .entry))) (drop formsPlace (now (nodes .entry)))
+        progress (now (shown .entry))) → Judged q (now (shown .exit)) r) ⌝ }
 {
     derive_all(places, &nodes[..FORMS], &nodes[FORMS..], progress, shown)
 }
 
-// The first word of a function's body, by the table of places.
-fn first_word(places: &[u64], function: usize) -> usize
-    requires { ⌜ firstsPlace + function < length (now places) ⌝ }
-    ensures { λ r. ⌜ r ≡ getD (now (places .entry)) (firstsPlace + function) 0 ⌝ }
-{
-    places[FIRSTS + function] as usize
-}
-
 // The answer on the bodies of texts that pass: 13 at the first word of the first body that its grammar does not derive, after which the area shows nothing; or
 // 0, after which it shows a derivation of each.
-fn derive_bodies(
-    response: &[u8],
-    places: &[u64],
-    nodes: &[u64],
-    progress: Progress,
-    shown: &mut [u16],
-) -> Outcome
-    requires { ⌜ Deriving (now response) (now places) (now nodes) progress (now shown) ⌝ }
-    ensures { λ r. ⌜ BodiesDerived (now (response .entry)) (now (places .entry)) (now (nodes .entry)) progress (now (shown .entry)) r (now (shown .exit)) ⌝ }
+fn derive_bodies(places: &[u64], nodes: &[u64], progress: Progress, shown: &mut [u16]) -> Outcome
+    requires { ⌜ Deriving (now places) (now nodes) progress (now shown) ⌝ }
+    ensures { λ r. ⌜ BodiesDerived (now (places .entry)) (now (nodes .entry)) progress (now (shown .entry)) r (now (shown .exit)) ⌝ }
 {
     let function = derive_tables(places, nodes, progress, shown);
     if function == progress.functions {
         return Outcome {
-            number: 0,
+            number: ACCEPTED,
             text: 1,
             place: 0,
             second: 0,
@@ -155,7 +141,7 @@ fn derive_bodies(
     Outcome {
         number: NO_DERIVATION,
         text: 1,
-        place: word_offset(response, first_word(places, function)),
+        place: offset_of(places, function),
         second: function,
         units: 0,
     }
@@ -177,7 +163,7 @@ fn judge_points(
         (now (points .entry)) budget (now (shown .entry)) r (now (shown .exit)) ⌝ }
 {
     let answer = evaluate(names, places, &nodes[..FORMS], progress, points, budget);
-    if answer.number == BAD_POINTS {
+    if answer.number == POINTS {
         blank_area(shown);
     }
     answer
@@ -198,12 +184,12 @@ pub fn judge_texts(
     let mut places = no_places();
     let mut nodes = node_room();
     let told = read_texts(script, response, &mut names, &mut places, &mut nodes);
-    if told.outcome.number != 0 {
+    if told.outcome.number != ACCEPTED {
         return told.outcome;
     }
     let said = told.progress;
-    let derived = derive_bodies(response, &places, &nodes, said, shown);
-    if derived.number != 0 {
+    let derived = derive_bodies(&places, &nodes, said, shown);
+    if derived.number != ACCEPTED {
         return derived;
     }
     judge_points(&names, &places, &nodes, said, points, budget, shown)

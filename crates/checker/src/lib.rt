@@ -9,6 +9,7 @@ use crate::area::blank_area;
 use crate::judge::judge_texts;
 use crate::sizes::size_answer;
 use outcome::Outcome;
+use script::answers::ACCEPTED;
 ghost use Rattle.outcome.specs.Checked.{Checked};
 
 // The answer for any texts, points and budget; the area shows the derivations after 0, 14 and 15.
@@ -23,7 +24,7 @@ pub fn check(
 {
     let size = size_answer(script, response, points, shown.len());
     blank_area(shown);
-    if size.number != 0 {
+    if size.number != ACCEPTED {
         return size;
     }
     judge_texts(script, response, points, budget, shown)

@@ -1,20 +1,13 @@
 //! The sizes of what is lent: answer 1.
-use crate::area::AREA;
+use forest::limits::AREA;
+use forest::limits::POINT_NUMBERS;
+use forest::limits::RESPONSE_BYTES;
+use forest::limits::SCRIPT_BYTES;
 use outcome::Outcome;
 use outcome::refusal;
+use script::answers::ACCEPTED;
+use script::answers::TOO_LONG;
 ghost use Rattle.checker.specs.code.Sizes.{SizesTold};
-
-// The number of an answer for what is too long, or not of its size.
-const TOO_LONG: usize = 1;
-
-// How many bytes a script may have.
-const SCRIPT_BYTES: usize = 32768;
-
-// How many bytes a response may have.
-const RESPONSE_BYTES: usize = 8192;
-
-// How many numbers a list of points may have.
-const POINT_NUMBERS: usize = 1024;
 
 // Answer 1 for the first of the script, the response, the points and the area that is too long or not of its size; number 0 where there is none.
 pub(crate) fn size_answer(script: &[u8], response: &[u8], points: &[u64], area: usize) -> Outcome
@@ -32,5 +25,5 @@ pub(crate) fn size_answer(script: &[u8], response: &[u8], points: &[u64], area: 
     if area != AREA {
         return refusal(TOO_LONG, 3, area);
     }
-    refusal(0, 3, 0)
+    refusal(ACCEPTED, 3, 0)
 }

@@ -1,2 +1,4 @@
-pub mod Declaring
-pub mod Defining
+pub mod TermTests
+pub mod DeclareVar
+pub mod DefineFun
+pub mod Constraint

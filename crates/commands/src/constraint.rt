@@ -1,17 +1,20 @@
 //! The command `constraint`, with its tests in their order.
+use crate::TermTest;
 use crate::term_tests::command_past;
 use crate::term_tests::judge_body;
-use crate::term_tests::put_row;
 use bodies::read::body_limit;
+use forest::limits::CONSTRAINTS;
+use forest::limits::NODES;
 use forest::numbers::least;
 use names::Seen;
+use names::Target;
 use names::table::VARIABLES;
-use script::Progress;
+use script::Command;
 use script::Verdict;
-ghost use Rattle.commands.specs.code.Defining.{Constrained, Constraining};
-
-// Where the numbers of constraints begin in the table of places.
-const CONSTRAINTS: usize = 600;
+use script::answers::PAST_LIMIT;
+use script::answers::verdict;
+use script::places::put_constraint;
+ghost use Rattle.commands.specs.code.Constraint.{Constraining, Constrains};
 
 // The `constraint` at a word: its term stands in the tables where it passes.
 pub fn constrain(
@@ -21,50 +24,48 @@ pub fn constrain(
     raw: &mut [u64],
     places: &mut [u64],
     nodes: &mut [u64],
-    progress: Progress,
-    at: usize,
-    nowhere: usize,
+    command: Command,
 ) -> Verdict
-    requires { ⌜ Constraining (now text) (now lexemes) (now names) (now raw) (now places) (now nodes) progress at nowhere ⌝ }
-    ensures { λ r. ⌜ ((d : Constraining (now (text .entry)) (now (lexemes .entry)) (now (names .entry)) (now (raw .entry)) (now (places .entry)) (now (nodes .entry)) progress at nowhere) → Constrained d (now (raw .exit)) (now (places .exit)) (now (nodes .exit)) r) ⌝ }
+    requires { ⌜ Constraining (now text) (now lexemes) (now names) (now raw) (now places) (now nodes)
+        (command .progress) (command .at) (command .nowhere) ⌝ }
+    ensures { λ r. ⌜ Constrains (now (text .entry)) (now (lexemes .entry)) (now (names .entry)) (now (raw .entry)) (now (places .entry)) (now (nodes .entry))
+        command (now (raw .exit)) (now (places .exit)) (now (nodes .exit)) r ⌝ }
 {
-    let body = body_limit(lexemes, at + 2, raw, 256, nowhere);
-    let past = least(
-        command_past(progress.constraints, 64, at, nowhere),
-        body.place,
+    let nowhere = command.nowhere;
+    let body = body_limit(lexemes, command.at + 2, raw, NODES, nowhere);
+    let before = command_past(
+        command.progress.constraints,
+        CONSTRAINTS,
+        command.at,
+        nowhere,
     );
+    let past = least(before, body.place);
     if past < nowhere {
-        return Verdict {
-            number: 4,
-            place: past,
-            rows: 0,
-        };
+        return verdict(PAST_LIMIT, past, 0);
     }
     let seen = Seen {
         first: VARIABLES,
-        names: progress.variables,
-        defined: progress.defined,
-        functions: progress.functions,
+        names: command.progress.variables,
+        defined: command.progress.defined,
+        functions: command.progress.functions,
         non_terminals: 0,
     };
-    let verdict = judge_body(
-        text,
-        lexemes,
-        names,
-        raw,
-        places,
-        nodes,
+    let target = Target {
+        count: body.rows,
+        base: command.progress.nodes,
+        nowhere,
+    };
+    let test = TermTest {
         seen,
-        0,
-        body.rows,
-        progress.nodes,
-        nowhere,
-        nowhere,
-        nowhere,
-    );
-    if verdict.number > 0 {
-        return verdict;
+        sort: 0,
+        target,
+        named: nowhere,
+        empty: nowhere,
+    };
+    let judged = judge_body(text, lexemes, names, raw, places, nodes, test);
+    if judged.number > 0 {
+        return judged;
     }
-    put_row(places, CONSTRAINTS + progress.constraints, progress.nodes);
-    verdict
+    put_constraint(places, command.progress.constraints, command.progress.nodes);
+    judged
 }

@@ -10,14 +10,17 @@ use mathlib.Core.Bool.{true, false, true≢false}
 use mathlib.Core.List.{List}
 use lib.ListN.{length, getD, set}
 use lib.Seq.{getD-set-same, getD-set-other}
-use Rattle.forest.specs.Forest.{Forest, none, tree, count, from, first}
+use Rattle.forest.specs.Forest.{Forest, none, tree, count}
+use Rattle.forest.specs.code.Cursors.{from, first}
 use Rattle.forest.proofs.Laws.{Tree, tree-at, count-zero}
 use Rattle.terms.specs.Labels.{Terms}
-use Rattle.derivation.specs.Derivation.{Item, headOf, formOf, Proper, Derives, Grammar}
+use Rattle.derivation.specs.Derivation.{Item, headOf, formOf, Derives, Grammar}
+use Rattle.derivation.specs.code.Admitted.{Proper}
 use Rattle.derivation.specs.Derivation.Item.{the, nonTerminal, anyArgument, anyLiteral}
 use Rattle.derivation.specs.Derivation.Derives.{use-rule, done, leaf, same}
-use Rattle.derivation.specs.code.Columns.{has}
-use Rattle.derivation.specs.code.Search.{Puts, NoChain, Fits, DerivesAt, Applies, chain, no-chain, Asks, Chain, stop, more}
+use Rattle.derivation.specs.code.Masks.{has, Puts}
+use Rattle.derivation.specs.code.Search.{NoChain, Fits, DerivesAt, Asks, Chain, stop, more}
+use Rattle.derivation.specs.code.Matching.{Applies, chain, no-chain}
 use Rattle.derivation.proofs.Likeness.{any-not-hole}
 use Rattle.derivation.proofs.Count.{cnt, cnt-grow}
 

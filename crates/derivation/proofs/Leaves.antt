@@ -5,12 +5,13 @@ use mathlib.Core.Option.{some}
 use Prim.Native.Nat.{ℕ, zero, suc}
 use borrow.Author.Tests.{eqb-true, leb-true, ltb-true}
 use Rattle.forest.proofs.Options.{passed}
-use Rattle.forest.specs.Forest.{from, join, none, tree}
+use Rattle.forest.specs.Forest.{join, none, tree}
+use Rattle.forest.specs.code.Cursors.{from}
 use Rattle.terms.specs.Labels.{Label, Terms, defined, function, literal, name, operator}
 use Rattle.terms.specs.Sorts.{Scope, labelSort, sortsOf}
 use Rattle.terms.proofs.Sorted.{sorted}
-use Rattle.derivation.specs.Derivation.{LeafFits, LeavesFit}
-use Rattle.derivation.proofs.Tests.{and-true}
+use Rattle.derivation.specs.code.Admitted.{LeafFits, LeavesFit}
+use Rattle.derivation.proofs.PassedTests.{and-true}
 
 -- they are so of terms one after the other, of those left at a cursor, and of the node that stands there
 module _ (arguments : List ℕ) where

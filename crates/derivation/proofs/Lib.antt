@@ -1,4 +1,4 @@
-pub mod Tests
+pub mod PassedTests
 pub mod Same
 pub mod Reading
 pub mod Leaves
@@ -10,7 +10,7 @@ pub mod Shorter
 pub mod Count
 pub mod Mask
 pub mod RuleRows
-pub mod Walk
+pub mod RuleWalk
 pub mod Closed
 pub mod Uses
 pub mod Members

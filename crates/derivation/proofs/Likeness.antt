@@ -1,20 +1,24 @@
 -- Items of a rule and labels of the body that are alike, and the test of their numbers.
 use mathlib.Core.Path.{_≡_, refl, sym, ap, _∙_, subst}
 use mathlib.Core.Logic.{⊎-elim}
-use Prim.Native.Nat.{ℕ, _+_, _*_, _/_, _%_, _<_, _≤_}
+use Prim.Native.Nat.{ℕ, _<_, _≤_}
 use native.Mathlib.Omega.{arith}
 use mathlib.Core.Bool.{Bool, true, cond, _&&_, _||_, or-true as or-yes}
 use mathlib.Core.List.{List}
 use borrow.Author.Tests.{eq-eqb, eqb-true}
-use lib.Dec.{eqb}
+use lib.Dec.{eqb, lit<}
 use Rattle.forest.specs.Forest.{Forest, count, join, none, tree}
 use Rattle.terms.specs.Labels.{Label, Terms, defined, function, literal, name, operator}
-use Rattle.terms.specs.code.Nodes.{Plain, codeAt, codeOf, literalKind, nameKind, operandsAt, valueAt, valueOf}
+use Rattle.terms.specs.code.Codes.{anyArgumentKind, anyLiteralKind, codeWith, headOf, kindOf, literalHead, literalKind, literalSort, nameKind, nonTerminalKind}
+use Rattle.terms.specs.code.Codes.{sortCount, writtenIn}
+use Rattle.terms.specs.code.Nodes.{Plain, codeAt, codeOf, operandsAt, valueAt, valueOf}
+use Rattle.terms.proofs.CodeParts.{head-with, kind-with, literal-sort}
 use Rattle.terms.proofs.Bodies.{Says, label-of}
-use Rattle.derivation.specs.Derivation.{AnyLeaf, Item, LeafFits, Proper, SameLabel, anyArgument, anyLiteral, constant, nonTerminal, the, variable}
-use Rattle.derivation.specs.code.Tables.{anyArgumentKind, anyLiteralKind, itemCode, itemValue, nonTerminalKind}
-use Rattle.derivation.specs.code.Columns.{alike, argumentFits, literalFits}
-use Rattle.derivation.proofs.Tests.{and-both, and-true, both-equal, equal-both, or-true}
+use Rattle.derivation.specs.Derivation.{AnyLeaf, Item, SameLabel, anyArgument, anyLiteral, constant, nonTerminal, the, variable}
+use Rattle.derivation.specs.code.Tables.{itemCode, itemValue}
+use Rattle.derivation.specs.code.Admitted.{LeafFits, Proper}
+use Rattle.derivation.specs.code.Matching.{alike, argumentFits, literalFits}
+use Rattle.derivation.proofs.PassedTests.{and-both, and-true, both-equal, equal-both, or-true}
 use Rattle.derivation.proofs.Same.{same-numbers, same-told}
 use Rattle.derivation.proofs.Reading.{ItemSays}
 
@@ -73,7 +77,7 @@ proper-on k (anyLiteral s) ps qs p = rw (p .1) (p .2)
 proper-on k (anyArgument s) ps qs p = rw (p .1) (p .2)
 
 -- the kind of a label is none of those of the other items
-pub label-kind : (l : Label) → codeOf l % 16 < 5
+pub label-kind : (l : Label) → kindOf (codeOf l) < nonTerminalKind
 label-kind (literal s v w) = omega arith
 label-kind (name s k) = omega arith
 label-kind (operator o i j) = omega arith
@@ -92,19 +96,14 @@ same-alike k (anyArgument s) ps qs m n p q c v = absurd (omega (arith, label-kin
 -- the item, no label, of a code and a value
 abbrev itemOf : (code value : ℕ) → Item
 itemOf code value =
-    cond (eqb (code % 16) anyLiteralKind) (anyLiteral (code / 16)) (cond (eqb (code % 16) anyArgumentKind) (anyArgument (code / 16)) (nonTerminal value))
+    cond (eqb (kindOf code) anyLiteralKind) (anyLiteral (headOf code))
+    (cond (eqb (kindOf code) anyArgumentKind) (anyArgument (headOf code)) (nonTerminal value))
 
-item-of : (i : Item) → 5 ≤ itemCode i % 16 → itemOf (itemCode i) (itemValue i) ≡ i
+item-of : (i : Item) → nonTerminalKind ≤ kindOf (itemCode i) → itemOf (itemCode i) (itemValue i) ≡ i
 item-of (the l) h = absurd (omega (arith, label-kind l))
 item-of (nonTerminal A) h = refl
-item-of (anyLiteral s) h =
-    let kind : (6 + 16 * s) % 16 ≡ 6 = omega arith in
-    let more : (6 + 16 * s) / 16 ≡ s = omega arith in
-    rw (kind, more)
-item-of (anyArgument s) h =
-    let kind : (7 + 16 * s) % 16 ≡ 7 = omega arith in
-    let more : (7 + 16 * s) / 16 ≡ s = omega arith in
-    rw (kind, more)
+item-of (anyLiteral s) h = rw (kind-with anyLiteralKind s (lit< tt), head-with anyLiteralKind s (lit< tt))
+item-of (anyArgument s) h = rw (kind-with anyArgumentKind s (lit< tt), head-with anyArgumentKind s (lit< tt))
 
 -- the code of a non-terminal
 pub hole-item : (i : Item) → itemCode i ≡ nonTerminalKind → i ≡ nonTerminal (itemValue i)
@@ -121,10 +120,10 @@ literal-alike : {arguments : List ℕ} (i : Item) (m : Label) → Plain m → Le
 unfolding literalFits
 literal-alike i m plain f w =
     let t = and-true _ _ w in
-    let kinds : (itemCode i % 16 ≡ anyLiteralKind) × (codeOf m % 16 ≡ literalKind) = both-equal _ _ _ _ (t .0) in
-    let sorts : itemCode i / 16 ≡ codeOf m / 16 % 128 = eqb-true _ _ (t .1) in
-    let item : i ≡ anyLiteral (codeOf m / 16 % 128) = sym (item-of i (omega arith)) ∙ rw (kinds .0, sorts) in
-    let label : m ≡ literal (codeOf m / 16 % 128) (valueOf m) (codeOf m / 16 / 128) = sym (label-of m plain) ∙ rw (kinds .1) in
+    let kinds : (kindOf (itemCode i) ≡ anyLiteralKind) × (kindOf (codeOf m) ≡ literalKind) = both-equal _ _ _ _ (t .0) in
+    let sorts : headOf (itemCode i) ≡ literalSort (codeOf m) = eqb-true _ _ (t .1) in
+    let item : i ≡ anyLiteral (literalSort (codeOf m)) = sym (item-of i (omega arith)) ∙ rw (kinds .0, sorts) in
+    let label : m ≡ literal (literalSort (codeOf m)) (valueOf m) (writtenIn (codeOf m)) = sym (label-of m plain) ∙ rw (kinds .1) in
     leaf-alike item label constant f
 
 -- `(Variable σ)`, held against a name
@@ -133,30 +132,28 @@ argument-alike : {arguments : List ℕ} (i : Item) (m : Label) → Plain m → L
 unfolding argumentFits
 argument-alike i m plain f w =
     let t = and-true _ _ w in
-    let kinds : (itemCode i % 16 ≡ anyArgumentKind) × (codeOf m % 16 ≡ nameKind) = both-equal _ _ _ _ (t .0) in
-    let sorts : itemCode i / 16 ≡ codeOf m / 16 = eqb-true _ _ (t .1) in
-    let item : i ≡ anyArgument (codeOf m / 16) = sym (item-of i (omega arith)) ∙ rw (kinds .0, sorts) in
-    let label : m ≡ name (codeOf m / 16) (valueOf m) = sym (label-of m plain) ∙ rw (kinds .1) in
+    let kinds : (kindOf (itemCode i) ≡ anyArgumentKind) × (kindOf (codeOf m) ≡ nameKind) = both-equal _ _ _ _ (t .0) in
+    let sorts : headOf (itemCode i) ≡ headOf (codeOf m) = eqb-true _ _ (t .1) in
+    let item : i ≡ anyArgument (headOf (codeOf m)) = sym (item-of i (omega arith)) ∙ rw (kinds .0, sorts) in
+    let label : m ≡ name (headOf (codeOf m)) (valueOf m) = sym (label-of m plain) ∙ rw (kinds .1) in
     leaf-alike item label variable f
 
 -- the tests of the codes and values of an item and a label that are alike
-literal-passes : (s w : ℕ) → s < 128 → literalFits (6 + 16 * s) (0 + 16 * (s + 128 * w)) ≡ true
+literal-passes : (s w : ℕ) → s < sortCount → literalFits (codeWith anyLiteralKind s) (codeWith literalKind (literalHead s w)) ≡ true
 unfolding literalFits
 literal-passes s w q =
-    let kind : (6 + 16 * s) % 16 ≡ 6 = omega arith in
-    let found : (0 + 16 * (s + 128 * w)) % 16 ≡ 0 = omega arith in
-    let right : (0 + 16 * (s + 128 * w)) / 16 ≡ s + 128 * w = omega arith in
-    let low : (s + 128 * w) % 128 ≡ s = omega arith in
-    let sorts : (6 + 16 * s) / 16 ≡ (0 + 16 * (s + 128 * w)) / 16 % 128 = rw (right, low) (omega arith) in
-    and-both (equal-both _ _ _ _ kind found) (eq-eqb _ _ sorts)
+    let sorts : headOf (codeWith anyLiteralKind s) ≡ literalSort (codeWith literalKind (literalHead s w)) =
+    head-with anyLiteralKind s (lit< tt) ∙ sym (literal-sort s w q)
+    in
+    and-both (equal-both _ _ _ _ (kind-with anyLiteralKind s (lit< tt)) (kind-with literalKind (literalHead s w) (lit< tt))) (eq-eqb _ _ sorts)
 
-argument-passes : (s : ℕ) → argumentFits (7 + 16 * s) (1 + 16 * s) ≡ true
+argument-passes : (s : ℕ) → argumentFits (codeWith anyArgumentKind s) (codeWith nameKind s) ≡ true
 unfolding argumentFits
 argument-passes s =
-    let kind : (7 + 16 * s) % 16 ≡ 7 = omega arith in
-    let found : (1 + 16 * s) % 16 ≡ 1 = omega arith in
-    let sorts : (7 + 16 * s) / 16 ≡ (1 + 16 * s) / 16 = omega arith in
-    and-both (equal-both _ _ _ _ kind found) (eq-eqb _ _ sorts)
+    let sorts : headOf (codeWith anyArgumentKind s) ≡ headOf (codeWith nameKind s) =
+    head-with anyArgumentKind s (lit< tt) ∙ sym (head-with nameKind s (lit< tt))
+    in
+    and-both (equal-both _ _ _ _ (kind-with anyArgumentKind s (lit< tt)) (kind-with nameKind s (lit< tt))) (eq-eqb _ _ sorts)
 
 alike-numbers : {arguments : List ℕ} (i : Item) (m : Label) → Plain m → Alike arguments i m
     → eqb (itemCode i) (codeOf m) && eqb (itemValue i) (valueOf m) || literalFits (itemCode i) (codeOf m) || argumentFits (itemCode i) (codeOf m) ≡ true

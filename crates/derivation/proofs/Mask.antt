@@ -8,8 +8,7 @@ use lib.Dec.{eqb}
 use lib.Bits.{bitOr, or-step, or-shr}
 use lib.Pow.{pow-pos, pow-lt, pow-add}
 use borrow.Author.Tests.{eq-eqb}
-use Rattle.derivation.specs.code.Columns.{has}
-use Rattle.derivation.specs.code.Search.{Puts}
+use Rattle.derivation.specs.code.Masks.{has, Puts}
 
 or-odd : (x y : ℕ) → bitOr x y % 2 ≡ max (x % 2) (y % 2)
 or-odd x y = omega (arith, or-step x y)

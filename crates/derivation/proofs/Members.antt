@@ -7,8 +7,10 @@ use mathlib.Core.Bool.{true, false, true≢false}
 use mathlib.Core.List.{List}
 use lib.ListN.{length, set, length-set}
 use Rattle.derivation.specs.Derivation.{headOf}
-use Rattle.derivation.specs.code.Columns.{nonTerminalAt, has}
-use Rattle.derivation.specs.code.Search.{Asks, Puts, Finds, NodeIs}
+use Rattle.derivation.specs.code.Masks.{has, Puts}
+use Rattle.derivation.specs.code.Rules.{nonTerminalAt}
+use Rattle.derivation.specs.code.Search.{Asks}
+use Rattle.derivation.specs.code.Filling.{Finds, NodeIs}
 use Rattle.derivation.proofs.Count.{cnt, cnt-le}
 use Rattle.derivation.proofs.Closed.{Chosen, has-zero, chosen-step, grows, complete, chain-derives}
 use Rattle.derivation.proofs.Uses.{rules-count, head-low, head-is}

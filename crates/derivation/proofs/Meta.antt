@@ -4,7 +4,8 @@ use Prim.Native.Nat.{ℕ, suc, _<_}
 use native.Mathlib.Omega.{arith}
 use mathlib.Core.List.{List, [], _∷_, _++_, append-assoc}
 use lib.ListN.{length}
-use Rattle.forest.specs.Forest.{Forest, none, tree, count, join, first}
+use Rattle.forest.specs.Forest.{Forest, none, tree, count, join}
+use Rattle.forest.specs.code.Cursors.{first}
 use Rattle.forest.proofs.Laws.{count-join, first-join}
 use Rattle.terms.specs.Labels.{Label, Terms}
 use Rattle.derivation.specs.Derivation.{Item, nonTerminal, headOf, formOf, Derives, done, use-rule, leaf, same, Grammar}

@@ -4,8 +4,10 @@ use mathlib.Core.Path.{_≡_, refl, sym, ap, _∙_}
 use mathlib.Core.List.{List, [], append-nil}
 use lib.Dec.{lit<}
 use lib.ListN.{getD, length}
-use Rattle.forest.specs.Forest.{Forest, count, from, nodesOf, size, tree}
-use Rattle.forest.specs.code.Rows.{numberAt, rows}
+use Rattle.forest.specs.Forest.{Forest, count, nodesOf, tree}
+use Rattle.forest.specs.code.Cursors.{from, size}
+use Rattle.forest.specs.code.Rows.{numberAt}
+use Rattle.forest.specs.Tables.{rows}
 use Rattle.forest.proofs.Nodes.{length-nodes, node-at}
 use Rattle.forest.proofs.Rows.{length-rows, row-at}
 use Rattle.terms.specs.Labels.{Label, Terms}

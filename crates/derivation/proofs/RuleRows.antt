@@ -5,12 +5,13 @@ use native.Mathlib.Nat.{zero-add}
 use native.Mathlib.Omega.{arith}
 use mathlib.Core.List.{List, [], _∷_}
 use lib.ListN.{length, getD}
-use Rattle.forest.specs.Forest.{Forest, none, size, join, from}
+use Rattle.forest.specs.Forest.{Forest, none, join}
+use Rattle.forest.specs.code.Cursors.{size, from}
 use Rattle.forest.specs.code.Rows.{numberAt}
 use Rattle.forest.proofs.Laws.{from-add, from-past}
 use Rattle.derivation.specs.Derivation.{Item, Rule, rule, headOf, formOf}
 use Rattle.derivation.specs.code.Tables.{rightSides, ruleTable}
-use Rattle.derivation.specs.code.Columns.{nonTerminalAt, ruleWidth, startAt}
+use Rattle.derivation.specs.code.Rules.{nonTerminalAt, ruleWidth, startAt}
 
 pub length-rules : (start : ℕ) (G : List Rule) → length (ruleTable start G) ≡ 2 * length G
 unfolding ruleTable

@@ -8,7 +8,7 @@ use Rattle.terms.specs.Labels.{Label, defined, function, literal, name, operato
 use Rattle.terms.specs.code.Nodes.{Plain, codeOf, valueOf}
 use Rattle.terms.proofs.Bodies.{label-same}
 use Rattle.derivation.specs.Derivation.{SameLabel}
-use Rattle.derivation.proofs.Tests.{and-both, and-true}
+use Rattle.derivation.proofs.PassedTests.{and-both, and-true}
 
 -- a label is the same as itself
 pub same-self : (l : Label) → SameLabel l l

@@ -3,7 +3,8 @@ use mathlib.Core.Path.{_≡_, refl, subst}
 use Prim.Native.Nat.{ℕ, _<_}
 use mathlib.Core.List.{List, [], _∷_, _++_, append-nil}
 use lib.ListN.{length}
-use Rattle.forest.specs.Forest.{Forest, none, tree, count, first}
+use Rattle.forest.specs.Forest.{Forest, none, tree, count}
+use Rattle.forest.specs.code.Cursors.{first}
 use Rattle.terms.specs.Labels.{Label, Terms}
 use Rattle.derivation.specs.Derivation.{Item, headOf, formOf, Derives, Fresh, Simple, Grammar}
 use Rattle.derivation.specs.Derivation.Item.{nonTerminal}

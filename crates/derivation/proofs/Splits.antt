@@ -3,7 +3,8 @@ use mathlib.Core.Path.{_≡_, refl, sym, ap, _∙_, subst}
 use Prim.Native.Nat.{ℕ}
 use native.Mathlib.Omega.{arith}
 use mathlib.Core.List.{List, [], _++_, append-assoc, append-nil}
-use Rattle.forest.specs.Forest.{Forest, count, first, join, none, tree}
+use Rattle.forest.specs.Forest.{Forest, count, join, none, tree}
+use Rattle.forest.specs.code.Cursors.{first}
 use Rattle.forest.proofs.Laws.{count-join, count-zero, first-join}
 use Rattle.terms.specs.Labels.{Label, Terms}
 use Rattle.derivation.specs.Derivation.{AnyLeaf, Item, SameLabel, the}

@@ -6,10 +6,11 @@ use native.Mathlib.Decide.{ℕ-discrete}
 use mathlib.Core.List.{List}
 use lib.ListN.{length, getD, set, length-set}
 use lib.Seq.{getD-set-same, getD-set-other}
-use Rattle.forest.specs.Forest.{from, size}
+use Rattle.forest.specs.code.Cursors.{from, size}
 use Rattle.derivation.proofs.Reading.{body-length}
 use Rattle.derivation.specs.code.Tables.{Given}
-use Rattle.derivation.specs.code.Search.{ExactAt, Asks, NodeIs, MasksPre, AllExact}
+use Rattle.derivation.specs.code.Search.{ExactAt, Asks}
+use Rattle.derivation.specs.code.Filling.{NodeIs, MasksPre, AllExact}
 
 -- the masks from node i on are exact
 pub record Inv (rules forms body masks₀ masks : List ℕ) (i : ℕ) : Type 0 where

@@ -8,13 +8,17 @@ use mathlib.Core.Bool.{Bool, true, false, not, true≢false}
 use mathlib.Core.List.{List, [], _++_}
 use lib.ListN.{length, getD, replicate, take, drop, length-replicate, length-take}
 use lib.Seq.{sets, sets-eq}
-use Rattle.forest.specs.Forest.{none, tree, count, size, from, first}
+use Rattle.forest.specs.Forest.{none, tree, count}
+use Rattle.forest.specs.code.Cursors.{size, from, first}
 use Rattle.forest.proofs.Laws.{count-size, first-all, count-zero}
 use Rattle.terms.specs.Labels.{Terms}
 use Rattle.derivation.specs.Derivation.{nonTerminal, Derives, Simple, Grammar}
-use Rattle.derivation.specs.code.Columns.{has}
-use Rattle.derivation.specs.code.Search.{ExactAt, DerivesAt, Asks, AllExact, EmitPre, EmitPost, ShowPre, ShowPost, Shows}
-use Rattle.derivation.specs.Answer.{start, listOf, unused, DerivePre, DerivePost}
+use Rattle.derivation.specs.code.Masks.{has}
+use Rattle.derivation.specs.code.Search.{ExactAt, DerivesAt, Asks}
+use Rattle.derivation.specs.code.Showing.{EmitPre, EmitPost, ShowPre, ShowPost, Shows}
+use Rattle.derivation.specs.code.Filling.{AllExact}
+use Rattle.derivation.specs.Answer.{start, listOf, unused}
+use Rattle.derivation.specs.code.Derive.{DerivePre, DerivePost}
 use Rattle.forest.specs.Limits.{listSize}
 use Rattle.derivation.proofs.Sweep.{body-size}
 

@@ -7,20 +7,25 @@ use mathlib.Core.Bool.{true}
 use mathlib.Core.List.{List, [], _++_, append-assoc, append-nil}
 use lib.ListN.{length, getD, length-append}
 use lib.Seq.{sets, length-sets}
-use Rattle.forest.specs.Forest.{Forest, none, tree, count, size, join, from, first}
+use Rattle.forest.specs.Forest.{Forest, none, tree, count, join}
+use Rattle.forest.specs.code.Cursors.{size, from, first}
 use Rattle.terms.specs.Labels.{Label, Terms}
 use Rattle.terms.specs.code.Nodes.{codeAt, sizeAt, valueAt}
 use Rattle.forest.proofs.Laws.{Tree, size-join, count-size, count-join, first-join, from-one, from-over, size-zero}
-use Rattle.derivation.specs.Derivation.{Item, nonTerminal, formOf, Proper, Simple, s-done, Grammar}
-use Rattle.derivation.specs.code.Tables.{nonTerminalKind}
-use Rattle.derivation.specs.code.Columns.{startAt, has}
-use Rattle.derivation.specs.code.Search.{Asks, AsksNoChain, Fits, DerivesAt, EmitPre, EmitPost, SpreadPre, SpreadPost}
+use Rattle.derivation.specs.Derivation.{Item, nonTerminal, formOf, Simple, s-done, Grammar}
+use Rattle.terms.specs.code.Codes.{nonTerminalKind}
+use Rattle.derivation.specs.code.Search.{Asks, Fits, DerivesAt}
+use Rattle.derivation.specs.code.Admitted.{Proper}
+use Rattle.derivation.specs.code.Masks.{has}
+use Rattle.derivation.specs.code.Rules.{startAt}
+use Rattle.derivation.specs.code.Showing.{EmitPre, EmitPost, SpreadPre, SpreadPost}
+use Rattle.derivation.specs.code.Matching.{AsksNoChain}
 use Rattle.derivation.proofs.Meta.{fits-hole-to, fits-node-to}
 use Rattle.derivation.proofs.Simple.{simples, walk-hole}
 use Rattle.derivation.proofs.Splits.{over-first}
 use Rattle.derivation.proofs.Likeness.{proper-bare}
-use Rattle.derivation.proofs.Walk.{At, end, end-is, at-start, step-hole, step-alike, HoleAt, hole-view, hole-late, hole-low, not-hole, rule-tree, body-tree}
-use Rattle.derivation.proofs.Walk.{in-body, node-says, Room, room}
+use Rattle.derivation.proofs.RuleWalk.{At, end, end-is, at-start, step-hole, step-alike, HoleAt, hole-view, hole-late, hole-low, not-hole, rule-tree}
+use Rattle.derivation.proofs.RuleWalk.{body-tree, in-body, node-says, Room, room}
 use Rattle.derivation.proofs.Trail.{sets-append}
 
 size-first : {l : Item} {x qs : Forest Item} {s : Label} {ts us : Terms} (P : Forest Item) (B : Terms) → P ≡ tree l x qs → B ≡ tree s ts us

@@ -7,13 +7,15 @@ use native.Mathlib.Omega.{arith}
 use mathlib.Core.List.{List, [], _∷_, _++_, append-assoc}
 use lib.ListN.{length, getD, set, length-append, length-set}
 use lib.Seq.{sets, length-sets}
-use Rattle.forest.specs.Forest.{Forest, none, tree, from, first}
+use Rattle.forest.specs.Forest.{Forest, none, tree}
+use Rattle.forest.specs.code.Cursors.{from, first}
 use Rattle.terms.specs.Labels.{Terms}
 use Rattle.terms.specs.code.Nodes.{codeAt, valueAt}
 use Rattle.derivation.specs.Derivation.{Item, nonTerminal, headOf, formOf, Fresh, Simple, Grammar}
-use Rattle.derivation.specs.code.Tables.{nonTerminalKind}
-use Rattle.derivation.specs.code.Columns.{startAt}
-use Rattle.derivation.specs.code.Search.{Chain, stop, more, Fits, FollowPre, FollowPost}
+use Rattle.terms.specs.code.Codes.{nonTerminalKind}
+use Rattle.derivation.specs.code.Search.{Chain, stop, more, Fits}
+use Rattle.derivation.specs.code.Rules.{startAt}
+use Rattle.derivation.specs.code.Showing.{FollowPre, FollowPost}
 use Rattle.derivation.proofs.Simple.{use-one, no-chain-any}
 use Rattle.derivation.proofs.Uses.{chain-view, no-chain-view}
 use Rattle.derivation.proofs.Closed.{here, first-one}

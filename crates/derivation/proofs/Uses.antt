@@ -6,15 +6,21 @@ use native.Mathlib.Decide.{ℕ-discrete}
 use mathlib.Core.Bool.{Bool, true, false, true≢false}
 use mathlib.Core.List.{List}
 use lib.ListN.{length}
-use Rattle.forest.specs.Forest.{Forest, none, tree, count, join, from}
+use Rattle.forest.specs.Forest.{Forest, none, tree, count, join}
+use Rattle.forest.specs.code.Cursors.{from}
 use Rattle.terms.specs.code.Nodes.{codeAt, valueAt}
 use Rattle.forest.proofs.Laws.{Tree, tree-of-count, count-node, count-zero}
 use Rattle.derivation.proofs.Reading.{ItemSays, item-says}
 use Rattle.derivation.proofs.Likeness.{hole-item}
-use Rattle.derivation.specs.Derivation.{Item, nonTerminal, the, headOf, formOf, Proper, Grammar}
-use Rattle.derivation.specs.code.Tables.{itemValue, rightSides, nonTerminalKind}
-use Rattle.derivation.specs.code.Columns.{startAt, nonTerminalAt, has}
-use Rattle.derivation.specs.code.Search.{Asks, AsksRule, AsksNoChain, Matched, NoChain, Fits, Applies, chain, no-chain, Answers, Finds}
+use Rattle.derivation.specs.Derivation.{Item, nonTerminal, the, headOf, formOf, Grammar}
+use Rattle.derivation.specs.code.Tables.{itemValue, rightSides}
+use Rattle.terms.specs.code.Codes.{nonTerminalKind}
+use Rattle.derivation.specs.code.Search.{Asks, NoChain, Fits}
+use Rattle.derivation.specs.code.Admitted.{Proper}
+use Rattle.derivation.specs.code.Masks.{has}
+use Rattle.derivation.specs.code.Rules.{startAt, nonTerminalAt}
+use Rattle.derivation.specs.code.Filling.{Finds}
+use Rattle.derivation.specs.code.Matching.{AsksRule, AsksNoChain, Matched, Applies, chain, no-chain, Answers}
 use Rattle.derivation.proofs.RuleRows.{RuleAt, rule-at, length-rules}
 
 module _ {rules forms body masks : List ℕ} {i : ℕ} where

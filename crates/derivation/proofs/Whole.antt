@@ -6,10 +6,12 @@ use mathlib.Core.Bool.{true}
 use mathlib.Core.List.{List, _++_}
 use lib.ListN.{length, length-append}
 use lib.Seq.{sets, length-sets}
-use Rattle.forest.specs.Forest.{size, from, first}
+use Rattle.forest.specs.code.Cursors.{size, from, first}
 use Rattle.forest.proofs.Laws.{tree-at}
-use Rattle.derivation.specs.code.Columns.{has}
-use Rattle.derivation.specs.code.Search.{NodeIs, Chain, FollowPre, FollowPost, EmitPre, EmitPost, SpreadPre, SpreadPost}
+use Rattle.derivation.specs.code.Masks.{has}
+use Rattle.derivation.specs.code.Search.{Chain}
+use Rattle.derivation.specs.code.Showing.{FollowPre, FollowPost, EmitPre, EmitPost, SpreadPre, SpreadPost}
+use Rattle.derivation.specs.code.Filling.{NodeIs}
 use Rattle.derivation.proofs.Trail.{sets-append}
 use Rattle.derivation.proofs.Track.{size-one}
 

@@ -1,12 +1,11 @@
 -- Grammars, and which rules derive which terms.
 use mathlib.Core.Path.{_≡_}
-use Prim.Native.Nat.{ℕ, zero, suc, _<_, _≤_}
+use Prim.Native.Nat.{ℕ, zero, suc, _<_}
 use mathlib.Core.List.{List, [], _∷_, _++_}
 use lib.ListN.{getD, length}
 use Rattle.operators.specs.Sorts.{Fit}
-use Rattle.forest.specs.Forest.{Forest, count, none, tree}
-use Rattle.terms.specs.Labels.{Label, Terms, defined, function, literal, name, operator}
-use Rattle.terms.specs.code.Nodes.{Plain}
+use Rattle.forest.specs.Forest.{Forest, none, tree}
+use Rattle.terms.specs.Labels.{Label, Terms, literal, name}
 
 -- What stands at a node of a rule. "A rule is `(Constant σ)`, `(Variable σ)` or a binder-free term", in which non-terminals stand.
 pub data Item : Type 0 where
@@ -84,32 +83,3 @@ pub data Simple (G : Grammar) : List ℕ → Forest Item → Terms → List ℕ 
   s-same : {seen : List ℕ} {l m : Label} {ps qs : Forest Item} {ts us : Terms} {ds es : List ℕ} → SameLabel l m
       → Simple G [] ps ts ds → Simple G [] qs us es
       → Simple G seen (tree (the l) ps qs) (tree m ts us) (ds ++ es)
-
--- Non-terminals are below k, and neither they nor `(Constant σ)` and `(Variable σ)`, whose sorts are below 128, have operands; labels are told by their
--- numbers.
-unfoldable pub Proper : ℕ → Forest Item → Type 0
-Proper k none = Unit {0}
-Proper k (tree (the l) ps qs) = Plain l × Proper k ps × Proper k qs
-Proper k (tree (nonTerminal A) ps qs) = (A < k) × (ps ≡ none) × Proper k qs
-Proper k (tree (anyLiteral s) ps qs) = (s < 128) × (ps ≡ none) × Proper k qs
-Proper k (tree (anyArgument s) ps qs) = (s < 128) × (ps ≡ none) × Proper k qs
-
--- A literal is a value of its sort, and a name an argument of the function, of its sort.
-abbrev pub LeafFits : (arguments : List ℕ) → Label → Type 0
-LeafFits arguments (literal s v w) = Fit s v
-LeafFits arguments (name s k) = Argument arguments s k
-LeafFits arguments (operator o i j) = Unit {0}
-LeafFits arguments (defined k) = Unit {0}
-LeafFits arguments (function k) = Unit {0}
-
--- Each literal and each name of the terms is such.
-unfoldable pub LeavesFit : (arguments : List ℕ) → Terms → Type 0
-LeavesFit arguments none = Unit {0}
-LeavesFit arguments (tree l ops rest) = LeafFits arguments l × LeavesFit arguments ops × LeavesFit arguments rest
-
--- The rules that document 01 admits: "16 non-terminals and 128 rules a grammar", each right side one term.
-pub record Admitted (G : Grammar) : Type 0 where
-  pub few : length (G .rules) ≤ 128
-  pub low : (r : ℕ) → r < length (G .rules) → headOf (G .rules) r < 16
-  pub proper : (r : ℕ) → r < length (G .rules) → Proper 16 (formOf (G .rules) r)
-  pub single : (r : ℕ) → r < length (G .rules) → count (formOf (G .rules) r) ≡ 1

@@ -1,3 +1,9 @@
 pub mod Tables
-pub mod Columns
+pub mod Matching
 pub mod Search
+pub mod Derive
+pub mod Admitted
+pub mod Rules
+pub mod Masks
+pub mod Filling
+pub mod Showing

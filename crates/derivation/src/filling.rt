@@ -1,7 +1,8 @@
 //! Which non-terminals derive the tree at each node of the body: its mask.
 ghost use mathlib.Core.Path.{_≡_};
 ghost use lib.ListN.{length};
-ghost use Rattle.derivation.specs.code.Search.{AllExact, Asks, Finds, MasksPre, NodeIs};
+ghost use Rattle.derivation.specs.code.Search.{Asks};
+ghost use Rattle.derivation.specs.code.Filling.{AllExact, Finds, MasksPre, NodeIs};
 use crate::masks::has;
 use crate::masks::put;
 use crate::matching::applies;

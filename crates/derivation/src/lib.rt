@@ -6,7 +6,8 @@ ghost use mathlib.Core.Path.{_≡_};
 ghost use Prim.Native.Nat.{_+_, _≤_};
 ghost use lib.ListN.{length, replicate};
 ghost use lib.Seq.{sets};
-ghost use Rattle.derivation.specs.Answer.{Decides, DerivePre, unused};
+ghost use Rattle.derivation.specs.Answer.{unused};
+ghost use Rattle.derivation.specs.code.Derive.{Decides, DerivePre};
 ghost use Rattle.forest.specs.Limits.{listSize};
 use terms::ROW;
 

@@ -2,8 +2,7 @@
 ghost use mathlib.Core.Path.{_≡_};
 ghost use Prim.Native.Nat.{_<_};
 ghost use lib.ListN.{getD};
-ghost use Rattle.derivation.specs.code.Columns.{has};
-ghost use Rattle.derivation.specs.code.Search.{Puts};
+ghost use Rattle.derivation.specs.code.Masks.{has, Puts};
 
 // The mask of a node.
 pub fn mask_at(masks: &[u64], node: usize) -> u64

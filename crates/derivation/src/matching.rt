@@ -1,44 +1,36 @@
 //! Whether a rule derives the tree at a node of the body, where the masks of the later nodes are known.
 ghost use mathlib.Core.Path.{_≡_};
-ghost use Rattle.derivation.specs.code.Columns.{alike, argumentFits, literalFits};
-ghost use Rattle.derivation.specs.code.Search.{Answers, AsksNoChain, AsksRule, Matched};
+ghost use Rattle.derivation.specs.code.Matching.{alike, argumentFits, literalFits, Answers, AsksNoChain, AsksRule, Matched};
 use crate::masks::has;
 use crate::masks::mask_at;
 use crate::rules::start_at;
-use terms::LITERAL;
-use terms::NAME;
 use terms::code_at;
+use terms::codes::ANY_ARGUMENT;
+use terms::codes::ANY_LITERAL;
+use terms::codes::LITERAL;
+use terms::codes::NAME;
+use terms::codes::NON_TERMINAL;
+use terms::codes::head_of;
+use terms::codes::kind_of;
+use terms::codes::literal_sort;
 use terms::operands_at;
 use terms::size_at;
 use terms::value_at;
-
-// The kinds of a rule's nodes, besides those of labels: a non-terminal, `(Constant σ)` and `(Variable σ)`.
-pub const NON_TERMINAL: u64 = 5;
-
-const ANY_LITERAL: u64 = 6;
-
-const ANY_ARGUMENT: u64 = 7;
-
-// A code is a kind, and 16 times what else it says.
-const KINDS: u64 = 16;
-
-// A literal's code says its sort below how it is written.
-const SORTS: u64 = 128;
 
 // Whether a node of a rule is `(Constant σ)`, and one of the body a literal of that sort.
 fn literal_fits(code: u64, found: u64) -> bool
     ensures { λ r. ⌜ r ≡ literalFits code found ⌝ }
 {
-    (code % KINDS == ANY_LITERAL)
-        & (found % KINDS == LITERAL)
-        & (code / KINDS == found / KINDS % SORTS)
+    (kind_of(code) == ANY_LITERAL)
+        & (kind_of(found) == LITERAL)
+        & (head_of(code) == literal_sort(found))
 }
 
 // Whether a node of a rule is `(Variable σ)`, and one of the body a name of that sort.
 fn argument_fits(code: u64, found: u64) -> bool
     ensures { λ r. ⌜ r ≡ argumentFits code found ⌝ }
 {
-    (code % KINDS == ANY_ARGUMENT) & (found % KINDS == NAME) & (code / KINDS == found / KINDS)
+    (kind_of(code) == ANY_ARGUMENT) & (kind_of(found) == NAME) & (head_of(code) == head_of(found))
 }
 
 // Whether a node of a rule, which is no non-terminal, and a node of the body are alike.

@@ -3,7 +3,7 @@ use forest::numbers::number_at;
 ghost use mathlib.Core.Path.{_≡_};
 ghost use Prim.Native.Nat.{_/_};
 ghost use lib.ListN.{length};
-ghost use Rattle.derivation.specs.code.Columns.{nonTerminalAt, ruleWidth, startAt};
+ghost use Rattle.derivation.specs.code.Rules.{nonTerminalAt, ruleWidth, startAt};
 
 // How many numbers a rule has.
 pub const RULE: usize = 2;

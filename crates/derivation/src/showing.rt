@@ -1,12 +1,12 @@
 //! The derivation that is shown: the numbers of the rules used, leftmost first.
-ghost use Rattle.derivation.specs.code.Search.{EmitPre, Emits, FollowPre, Follows, ShowPre, Shows, SpreadPre, Spreads};
+ghost use Rattle.derivation.specs.code.Showing.{EmitPre, Emits, FollowPre, Follows, ShowPre, Shows, SpreadPre, Spreads};
 use crate::filling::derivers;
 use crate::filling::fill_masks;
 use crate::masks::has;
 use crate::masks::mask_at;
-use crate::matching::NON_TERMINAL;
 use crate::rules::start_at;
 use terms::code_at;
+use terms::codes::NON_TERMINAL;
 use terms::size_at;
 use terms::value_at;
 

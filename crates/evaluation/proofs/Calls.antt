@@ -6,7 +6,8 @@ use mathlib.Core.Option.{some}
 use lib.ListN.{length, length-map}
 use Rattle.forest.specs.Forest.{none, tree}
 use Rattle.terms.specs.Labels.{Label, Terms, defined, function, literal, name, operator}
-use Rattle.terms.specs.Sorts.{AllSorted, Definition, FunctionsSorted, Scope, bodyScope, labelSort, sortsOf}
+use Rattle.terms.specs.Sorts.{Definition, Scope, labelSort, sortsOf}
+use Rattle.terms.specs.code.Sorted.{AllSorted, FunctionsSorted, bodyScope}
 use Rattle.terms.proofs.Bodies.{called-within}
 use Rattle.terms.proofs.Sorted.{sorted}
 use Rattle.evaluation.specs.code.Tables.{CallsDefined, CallsEarlier, CallsKnown, Callable}

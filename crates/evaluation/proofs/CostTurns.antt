@@ -1,19 +1,24 @@
 -- The loop over the nodes of a term that sums up what is held of its cost.
-use Prim.Native.Nat.{ℕ, suc, _+_, _-_, _*_, _%_, _^_, _≤_, _<_, min}
+use Prim.Native.Nat.{ℕ, suc, _+_, _-_, _^_, _≤_, _<_, min}
 use native.Mathlib.Omega.{arith}
 use mathlib.Core.Path.{_≡_, refl, ap, ap₂, _∙_}
 use mathlib.Core.List.{List}
+use lib.Dec.{lit<}
 use lib.ListN.{getD, length}
 use borrow.Author.Tests.{lt-ltb}
 use Rattle.forest.proofs.Laws.{size-join, size-zero, tree-of-size}
-use Rattle.forest.specs.Forest.{from, join, none, size, tree}
+use Rattle.forest.specs.Forest.{join, none, tree}
+use Rattle.forest.specs.code.Cursors.{from, size}
 use Rattle.terms.proofs.Bodies.{Says, says}
 use Rattle.terms.specs.Costs.{BodyCosts, bodyCost, costOf, costs, definedCost, functionCost}
 use Rattle.terms.specs.Labels.{Label, Terms, defined, function, literal, name, operator}
+use Rattle.terms.specs.code.Codes.{literalHead, literalKind, nameKind, operatorKind}
+use Rattle.terms.proofs.CodeParts.{kind-with}
+use Rattle.forest.specs.Limits.{mostDefined, mostFunctions}
 use Rattle.terms.specs.code.Nodes.{codeAt, codeOf, sizeAt, valueAt, valueOf}
 use Rattle.terms.specs.Sorts.{Definition}
 use Rattle.evaluation.specs.code.Budget.{Priced, held}
-use Rattle.evaluation.specs.code.Evaluating.{Costing}
+use Rattle.evaluation.specs.code.Costs.{Costing}
 use Rattle.evaluation.specs.code.Tables.{CallsKnown, BodiesHold, Callable, bodyPlace, noPlace}
 use Rattle.evaluation.proofs.Bodies.{Body, held-defined, held-function}
 use Rattle.evaluation.proofs.Cursors.{calls-join, cursor-next, tree-within}
@@ -40,14 +45,14 @@ module _ {nodes bodies costs : List ℕ} {defs funs : List Definition} (h : Bodi
   -- The price of a label's body.
   label-price : (l : Label) → Callable (length defs) (length funs) l
       → Price costs (bodyPlace (codeOf l) (valueOf l)) (bodyCost (record { defined = definedCost defs; functions = functionCost defs funs }) l)
-  label-price (literal s v w) k = let kind : (0 + 16 * (s + 128 * w)) % 16 ≡ 0 = omega arith in no-price costs (rw kind)
-  label-price (name s n) k = let kind : (1 + 16 * s) % 16 ≡ 1 = omega arith in no-price costs (rw kind)
-  label-price (operator o i j) k = let kind : (2 + 16 * o) % 16 ≡ 2 = omega arith in no-price costs (rw kind)
+  label-price (literal s v w) k = no-price costs (rw (kind-with literalKind (literalHead s w) (lit< tt)))
+  label-price (name s n) k = no-price costs (rw (kind-with nameKind s (lit< tt)))
+  label-price (operator o i j) k = no-price costs (rw (kind-with operatorKind o (lit< tt)))
   label-price (defined n) k =
-      a-price (rw (lt-ltb n 32 (omega (arith, h .defined-most)))) (omega (arith, h .defined-most)) (body-some (held-defined h n k .body))
+      a-price (rw (lt-ltb n mostDefined (omega (arith, h .defined-most)))) (omega (arith, h .defined-most)) (body-some (held-defined h n k .body))
       (priced .defined n k)
   label-price (function n) k =
-      a-price (rw (lt-ltb n 8 (omega (arith, h .functions-most)))) (omega (arith, h .functions-most))
+      a-price (rw (lt-ltb n mostFunctions (omega (arith, h .functions-most)))) (omega (arith, h .functions-most))
       (body-some (held-function h n k .body))
       (priced .functions n k)
 

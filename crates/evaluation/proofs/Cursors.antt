@@ -7,7 +7,8 @@ use lib.ListN.{length, length-append}
 use Rattle.forest.proofs.Laws.{join-assoc, size-from, from-one}
 use Rattle.forest.proofs.Nodes.{length-nodes}
 use Rattle.forest.proofs.Rows.{length-rows}
-use Rattle.forest.specs.Forest.{from, join, nodesOf, none, size, tree}
+use Rattle.forest.specs.Forest.{join, nodesOf, none, tree}
+use Rattle.forest.specs.code.Cursors.{from, size}
 use Rattle.terms.specs.Labels.{Label, Terms}
 use Rattle.terms.specs.code.Nodes.{nodeRow, nodeTable, rowWidth}
 use Rattle.evaluation.specs.code.Tables.{CallsKnown}

@@ -1,5 +1,5 @@
 -- The value of a term by its label: what the term evaluator asks of the functions that it calls, and what it gives.
-use Prim.Native.Nat.{ℕ, _+_, _-_, _*_, _/_, _%_, _≤_}
+use Prim.Native.Nat.{ℕ, _+_, _-_, _≤_}
 use native.Mathlib.Omega.{arith}
 use mathlib.Core.Path.{_≡_, refl, sym, ap, ap₂, _∙_}
 use mathlib.Core.Bool.{Bool, true, false}
@@ -10,16 +10,18 @@ use lib.Dec.{eqb}
 use lib.ListN.{getD, length, length-map, replicate, take}
 use lib.Seq.{getD-take, length-sets}
 use Rattle.forest.proofs.Laws.{from-one}
-use Rattle.forest.specs.Forest.{count, from, join, none, size}
+use Rattle.forest.specs.Forest.{count, join, none}
+use Rattle.forest.specs.code.Cursors.{from, size}
 use Rattle.operators.specs.Operators.{operatorSort}
 use Rattle.operators.specs.Sorts.{AllFit}
 use Rattle.terms.proofs.Bodies.{Says, plain-at, says}
 use Rattle.terms.specs.Costs.{bodyCost, costOf, costs, definedCost, functionCost}
 use Rattle.terms.specs.Labels.{defined, function, literal, name, operator}
-use Rattle.terms.specs.code.Nodes.{Plain, codeAt, codeOf, literalKind, nameKind, operatorKind, sizeAt, valueAt, valueOf}
+use Rattle.terms.specs.code.Codes.{cutValue, headOf, kindOf, literalKind, literalSort, nameKind, operatorKind}
+use Rattle.terms.specs.code.Nodes.{Plain, codeAt, codeOf, sizeAt, valueAt, valueOf}
 use Rattle.terms.specs.Values.{Meaning, definedValue, labelValue, meaningAt, numbersIn, sortsIn, value, valuesAt}
 use Rattle.terms.specs.declared.Value.{Value}
-use Rattle.evaluation.specs.code.Evaluating.{Evaluable, Evaluated, Names, OperandsAre, OperandsEvaluable, OperandsEvaluated, OperatorGave, OperatorReady}
+use Rattle.evaluation.specs.code.Evaluator.{Evaluable, Evaluated, Names, OperandsAre, OperandsEvaluable, OperandsEvaluated, OperatorGave, OperatorReady}
 use Rattle.evaluation.specs.code.Tables.{TermStands, bodyPlace}
 use Rattle.forest.specs.Limits.{mostArguments}
 use Rattle.evaluation.proofs.Arguments.{stored, stored-front}
@@ -27,7 +29,7 @@ use Rattle.evaluation.proofs.LabelValues.{Operator, call-label, literal
 use Rattle.evaluation.proofs.Bodies.{Body, held-seen}
 use Rattle.evaluation.proofs.Cursors.{tree-within}
 use Rattle.evaluation.proofs.Fitting.{Called, called-body, values-fit}
-use Rattle.evaluation.proofs.Parts.{TreeParts, label-known, tree-parts, values-count}
+use Rattle.evaluation.proofs.ValuedTrees.{TreeParts, label-known, tree-parts, values-count}
 
 module _ {nodes bodies env : List ℕ} {i left : ℕ} (e : Evaluable nodes bodies env i left) where
   -- What names and functions mean.
@@ -68,7 +70,7 @@ module _ {nodes bodies env : List ℕ} {i left : ℕ} (e : Evaluable nodes bodie
   plain : Plain (e .stands .label)
   plain = plain-at (e .holds .all) i _ _ (e .stands .rest) (e .holds .plain) (e .stands .at)
 
-  module _ {code v : ℕ} (code-is : code ≡ codeAt nodes i) (value-is : v ≡ valueAt nodes i) where
+  module _ {code v kind : ℕ} (code-is : code ≡ codeAt nodes i) (value-is : v ≡ valueAt nodes i) (kind-is : kind ≡ kindOf code) where
     -- The code is the label's.
     code-of : code ≡ codeOf (e .stands .label)
     code-of = code-is ∙ said .code
@@ -78,30 +80,30 @@ module _ {nodes bodies env : List ℕ} {i left : ℕ} (e : Evaluable nodes bodie
     value-of = value-is ∙ said .value
 
     -- Its kind.
-    kind-of : codeOf (e .stands .label) % 16 ≡ code % 16
-    kind-of = ap (λ (c : ℕ). c % 16) (sym code-of)
+    kind-of : kindOf (codeOf (e .stands .label)) ≡ kind
+    kind-of = ap kindOf (sym code-of) ∙ sym kind-is
 
     -- The value of a literal.
-    pub literal-value : code % 16 ≡ literalKind → value (code / 16 % 128) v ≡ e .v
-    literal-value k =
-        ap₂ (λ (c n : ℕ). value (c / 16 % 128) n) code-of value-of
+    pub literal-value : {sort : ℕ} → kind ≡ literalKind → sort ≡ literalSort code → value sort v ≡ e .v
+    literal-value k s =
+        ap₂ value (s ∙ ap literalSort code-of) value-of
         ∙ literal-label meaning (e .stands .label) (split .operands) plain (kind-of ∙ k) labelled
 
     -- The value of a name.
-    pub name-value : {n : ℕ} → code % 16 ≡ nameKind → n ≡ getD env v 0 → value (code / 16) n ≡ e .v
-    name-value {n} k q =
+    pub name-value : {sort n : ℕ} → kind ≡ nameKind → sort ≡ headOf code → n ≡ getD env v 0 → value sort n ≡ e .v
+    name-value k s q =
         let p = name-label meaning (e .stands .label) (split .operands) (kind-of ∙ k) labelled in
         let front : getD env (valueOf (e .stands .label)) 0 ≡ getD (numbersIn (e .point)) (valueOf (e .stands .label)) 0 =
         sym (getD-take (length (e .point)) env (valueOf (e .stands .label)) 0 (p .0)) ∙ ap (λ (l : List ℕ). getD l (valueOf (e .stands .label)) 0) (e .names) in
-        ap₂ (λ (c m : ℕ). value (c / 16) m) code-of (q ∙ ap (λ (k : ℕ). getD env k 0) value-of ∙ front) ∙ p .1
+        ap₂ value (s ∙ ap headOf code-of) (q ∙ ap (λ (k : ℕ). getD env k 0) value-of ∙ front) ∙ p .1
 
-    module _ (no-literal : code % 16 ≡ literalKind → ⊥) (no-name : code % 16 ≡ nameKind → ⊥) where
+    module _ (no-literal : kind ≡ literalKind → ⊥) (no-name : kind ≡ nameKind → ⊥) where
       -- What it says of an operator's operands that there is a value.
-      pub the-operator : code % 16 ≡ operatorKind → Operator (e .stands .label) (split .operands) (e .v)
+      pub the-operator : kind ≡ operatorKind → Operator (e .stands .label) (split .operands) (e .v)
       the-operator k = operator-label meaning (e .stands .label) (split .operands) plain (kind-of ∙ k) labelled
 
       -- The body of the function that is applied.
-      pub the-body : (code % 16 ≡ operatorKind → ⊥)
+      pub the-body : (kind ≡ operatorKind → ⊥)
           → Body (e .holds .all) bodies (bodyPlace (codeOf (e .stands .label)) (valueOf (e .stands .label)))
           (bodyCost (record { defined = definedCost (e .defs); functions = functionCost (e .defs) (e .funs) }) (e .stands .label))
           (labelValue meaning (e .stands .label))
@@ -111,19 +113,19 @@ module _ {nodes bodies env : List ℕ} {i left : ℕ} (e : Evaluable nodes bodie
           (label-known (e .defs) (e .funs) (e .point) (e .stands .label) (split .operands) labelled)
 
       -- The value that its body has.
-      pub called-with : (k : code % 16 ≡ operatorKind → ⊥) → Called (definedValue (the-body k .sees)) (the-body k .d) (split .operands) (e .v)
+      pub called-with : (k : kind ≡ operatorKind → ⊥) → Called (definedValue (the-body k .sees)) (the-body k .d) (split .operands) (e .v)
       called-with k = called-body (definedValue (the-body k .sees)) (the-body k .d) (split .operands) (sym (the-body k .gives (split .operands)) ∙ labelled)
 
       -- The values of the operands are few.
       values-few : length (split .operands) ≤ mostArguments
-      values-few = by-case (eqb (code % 16) operatorKind) refl
+      values-few = by-case (eqb (kind) operatorKind) refl
         where
-          by-case : (t : Bool) → eqb (code % 16) operatorKind ≡ t → length (split .operands) ≤ mostArguments
+          by-case : (t : Bool) → eqb (kind) operatorKind ≡ t → length (split .operands) ≤ mostArguments
           by-case true q =
-              let o = the-operator (eqb-true (code % 16) operatorKind q) in
+              let o = the-operator (eqb-true (kind) operatorKind q) in
               omega (arith, operator-few (o .o) (o .i) (o .j) (sortsIn (split .operands)) (o .sorted), length-map (split .operands) (λ (u : Value). u .sort))
           by-case false q =
-              let k = eqb-false (code % 16) operatorKind q in
+              let k = eqb-false (kind) operatorKind q in
               let l = same-length (sortsIn (split .operands)) (the-body k .d .signature .arguments) (called-with k .sorts) in
               omega (arith, l, the-body k .few, length-map (split .operands) (λ (u : Value). u .sort))
 
@@ -164,22 +166,22 @@ module _ {nodes bodies env : List ℕ} {i left : ℕ} (e : Evaluable nodes bodie
               cost = operands-cost;
             }
 
-        module _ {after : List ℕ} {one two : ℕ} (got : OperandsEvaluated nodes bodies env (i + 1) (i + n) (left - 1) (replicate 8 0) after one two) where
+        module _ {after : List ℕ} {one two : ℕ} (got : OperandsEvaluated nodes bodies env (i + 1) (i + n) (left - 1) (replicate mostArguments 0) after one two) where
           -- The numbers and the sorts are those of the operands.
-          pub are : OperandsAre (replicate 8 0) after one two (split .operands)
+          pub are : OperandsAre (replicate mostArguments 0) after one two (split .operands)
           are = got operands-evaluable
 
           -- There is room for their numbers.
-          numbers-few : length (numbersIn (split .operands)) ≤ 8
+          numbers-few : length (numbersIn (split .operands)) ≤ mostArguments
           numbers-few = omega (arith, values-few, length-map (split .operands) (λ (u : Value). u .number))
 
           -- The arguments are the numbers of the operands.
           pub argument-at : (k : ℕ) → getD after k 0 ≡ getD (numbersIn (split .operands)) k 0
           argument-at k = ap (λ (l : List ℕ). getD l k 0) (are .numbers) ∙ stored (numbersIn (split .operands)) numbers-few k
 
-          -- There are eight.
-          pub arguments-eight : 8 ≡ length after
-          arguments-eight = sym (ap length (are .numbers) ∙ length-sets (replicate 8 0) 0 (numbersIn (split .operands)))
+          -- There are as many as a function may have.
+          pub arguments-all : mostArguments ≡ length after
+          arguments-all = sym (ap length (are .numbers) ∙ length-sets (replicate mostArguments 0) 0 (numbersIn (split .operands)))
 
           -- They are the names in the body.
           pub arguments-names : Names after (split .operands)
@@ -187,21 +189,21 @@ module _ {nodes bodies env : List ℕ} {i left : ℕ} (e : Evaluable nodes bodie
               let l : length (numbersIn (split .operands)) ≡ length (split .operands) = length-map (split .operands) _ in
               ap₂ take (sym l) (are .numbers) ∙ stored-front (numbersIn (split .operands)) numbers-few
 
-          module _ (k : code % 16 ≡ operatorKind) where
+          module _ (k : kind ≡ operatorKind) {head : ℕ} (head-is : head ≡ headOf code) where
             -- The label's value has the numbers of `(_ extract i j)`.
-            pub operator-numbers : v ≡ 64 * the-operator k .i + the-operator k .j
+            pub operator-numbers : v ≡ cutValue (the-operator k .i) (the-operator k .j)
             operator-numbers = value-of ∙ the-operator k .value-is
 
             -- The operator is the one that the code says.
-            operator-is : code / 16 ≡ the-operator k .o
-            operator-is = ap (λ (c : ℕ). c / 16) code-of ∙ the-operator k .code
+            operator-is : head ≡ the-operator k .o
+            operator-is = head-is ∙ ap headOf code-of ∙ the-operator k .code
 
             -- It has a sort over the sorts of the operands.
-            pub operator-sorted : operatorSort (code / 16) (the-operator k .i) (the-operator k .j) (sortsIn (split .operands)) ≡ some (the-operator k .sort)
+            pub operator-sorted : operatorSort head (the-operator k .i) (the-operator k .j) (sortsIn (split .operands)) ≡ some (the-operator k .sort)
             operator-sorted = rw operator-is (the-operator k .sorted)
 
             -- An operator is given the operands' sorts and numbers.
-            abbrev pub operator-ready : OperatorReady (code / 16) v one two (getD after 0 0) (getD after 1 0) (getD after 2 0)
+            abbrev pub operator-ready : OperatorReady head v one two (getD after 0 0) (getD after 1 0) (getD after 2 0)
             operator-ready =
                 record {
                   high = the-operator k .i;
@@ -220,11 +222,11 @@ module _ {nodes bodies env : List ℕ} {i left : ℕ} (e : Evaluable nodes bodie
                 }
 
             -- What it gives is the term's value.
-            pub operator-result : {r : Value} → OperatorGave (code / 16) v one two (getD after 0 0) (getD after 1 0) (getD after 2 0) r → r ≡ e .v
+            pub operator-result : {r : Value} → OperatorGave head v one two (getD after 0 0) (getD after 1 0) (getD after 2 0) r → r ≡ e .v
             operator-result g =
                 g operator-ready ∙ rw operator-is (the-operator k .is)
 
-          module _ (k : code % 16 ≡ operatorKind → ⊥) {place b : ℕ} (place-is : place ≡ bodyPlace code v) (b-is : b ≡ getD bodies place 0) where
+          module _ (k : kind ≡ operatorKind → ⊥) {place b : ℕ} (place-is : place ≡ bodyPlace code v) (b-is : b ≡ getD bodies place 0) where
             -- The body stands where the tables say.
             pub body-stands : TermStands (e .holds .all) b (the-body k .d .body)
             body-stands = rw (b-is ∙ ap (λ (p : ℕ). getD bodies p 0) (place-is ∙ ap₂ bodyPlace code-of value-of)) (the-body k .stands)

@@ -13,7 +13,7 @@ use Rattle.operators.specs.Sorts.{AllFit, Fit, valuesOf}
 use Rattle.operators.specs.Sorts.AllFit.{nothing, also}
 use Rattle.terms.specs.Values.{numbersIn}
 use Rattle.evaluation.specs.Points.{cutShort, firstOutside, pointAt, pointCount, pointsOf, valuesBy}
-use Rattle.evaluation.specs.code.Runs.{SortsSmall}
+use Rattle.evaluation.specs.code.Points.{SortsSmall}
 use Rattle.evaluation.specs.declared.PointList.the-variants.{Bad, Good}
 
 -- What the tests of a list that is points have found.

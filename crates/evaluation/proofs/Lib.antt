@@ -1,4 +1,4 @@
-pub mod Parts
+pub mod ValuedTrees
 pub mod Fitting
 pub mod Bodies
 pub mod Cursors

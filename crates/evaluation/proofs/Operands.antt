@@ -9,18 +9,19 @@ use lib.Dec.{eqb}
 use lib.ListN.{getD, length, length-append, set}
 use lib.Seq.{sets}
 use Rattle.forest.proofs.Laws.{from-over, size-zero, tree-of-size}
-use Rattle.forest.specs.Forest.{count, from, join, none, size, tree}
+use Rattle.forest.specs.Forest.{count, join, none, tree}
+use Rattle.forest.specs.code.Cursors.{from, size}
 use Rattle.terms.proofs.Bodies.{Says, says}
 use Rattle.terms.specs.Costs.{costOf, costs}
 use Rattle.terms.specs.Labels.{Label, Terms}
 use Rattle.terms.specs.code.Nodes.{sizeAt}
 use Rattle.terms.specs.Values.{Meaning, labelValue, meaningAt, numbersIn, sortsIn, valueOver, valuesAt, valuesIn, withValue}
 use Rattle.terms.specs.declared.Value.{Value}
-use Rattle.evaluation.specs.code.Evaluating.{Evaluable, Evaluated, OperandsAre, OperandsEvaluable}
+use Rattle.evaluation.specs.code.Evaluator.{Evaluable, Evaluated, OperandsAre, OperandsEvaluable}
 use Rattle.forest.specs.Limits.{mostArguments}
 use Rattle.evaluation.proofs.Arguments.{number-more, sort-more}
 use Rattle.evaluation.proofs.Cursors.{tree-within}
-use Rattle.evaluation.proofs.Parts.{TreeParts, tree-parts}
+use Rattle.evaluation.proofs.ValuedTrees.{TreeParts, tree-parts}
 
 -- A tree that has a value, by itself.
 pub tree-value : (meaning : Meaning) (l : Label) (ops : Terms) {vs : List Value} {v : Value} → labelValue meaning l vs ≡ some v → valuesIn meaning ops ≡ some vs

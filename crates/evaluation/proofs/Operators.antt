@@ -1,32 +1,34 @@
 -- What an operator gives for operands that have values.
-use Prim.Native.Nat.{ℕ, _/_, _%_}
-use native.Mathlib.Omega.{arith}
-use mathlib.Core.Path.{_≡_, ap₂, _∙_}
+use Prim.Native.Nat.{ℕ}
+use mathlib.Core.Path.{_≡_, ap, ap₂, _∙_}
 use mathlib.Core.Option.{some}
 use Rattle.operators.specs.Operators.{operatorSort}
-use Rattle.operators.specs.code.Applying.{Applied, Operable, ResultSort, Sortable}
+use Rattle.terms.specs.code.Codes.{highIn, lowIn}
+use Rattle.terms.proofs.CodeParts.{high-in, low-in}
+use Rattle.operators.specs.code.Operators.{Applied, Operable, ResultSort, Sortable}
 use Rattle.terms.specs.Values.{numbersIn, sortsIn, value}
-use Rattle.evaluation.specs.code.Evaluating.{OperatorGave, OperatorReady}
+use Rattle.evaluation.specs.code.Evaluator.{OperatorGave, OperatorReady}
 
-module _ {operator bounds sortOne sortTwo one two three : ℕ} (e : OperatorReady operator bounds sortOne sortTwo one two three) where
+module _ {operator bounds sortOne sortTwo one two three : ℕ} (e : OperatorReady operator bounds sortOne sortTwo one two three)
+    {high low : ℕ} (is-high : high ≡ highIn bounds) (is-low : low ≡ lowIn bounds) where
   -- The first number of `(_ extract i j)`, by the label's value.
-  high : bounds / 64 ≡ e .high
-  high = omega (arith, e .bounds-are, e .small)
+  same-high : high ≡ e .high
+  same-high = is-high ∙ ap highIn (e .bounds-are) ∙ high-in (e .high) (e .low) (e .small)
 
   -- The second.
-  low : bounds % 64 ≡ e .low
-  low = omega (arith, e .bounds-are, e .small)
+  same-low : low ≡ e .low
+  same-low = is-low ∙ ap lowIn (e .bounds-are) ∙ low-in (e .high) (e .low) (e .small)
 
   -- The operator's sort over the sorts of the values.
-  pub sorted : operatorSort operator (bounds / 64) (bounds % 64) (sortsIn (e .vs)) ≡ some (e .sort)
-  sorted = rw (high, low) (e .sorted)
+  pub sorted : operatorSort operator high low (sortsIn (e .vs)) ≡ some (e .sort)
+  sorted = rw (same-high, same-low) (e .sorted)
 
   -- The operator takes the sorts.
-  abbrev pub sortable : Sortable operator (bounds / 64) (bounds % 64) sortOne sortTwo
+  abbrev pub sortable : Sortable operator high low sortOne sortTwo
   sortable = record { sorts = sortsIn (e .vs); result = e .sort; sorted = sorted; sort-one = e .sort-one; sort-two = e .sort-two }
 
   -- It takes the operands.
-  abbrev pub operable : Operable operator (bounds / 64) (bounds % 64) sortOne sortTwo one two three
+  abbrev pub operable : Operable operator high low sortOne sortTwo one two three
   operable =
       record {
         sorts = sortsIn (e .vs);
@@ -42,7 +44,7 @@ module _ {operator bounds sortOne sortTwo one two three : ℕ} (e : OperatorRead
       }
 
 -- The sort and the number are those of its value.
-pub gave : {operator bounds sortOne sortTwo one two three sort number : ℕ} → ResultSort operator (bounds / 64) (bounds % 64) sortOne sortTwo sort
-    → Applied operator (bounds / 64) (bounds % 64) sortOne sortTwo one two three number
+pub gave : {operator bounds high low sortOne sortTwo one two three sort number : ℕ} → high ≡ highIn bounds → low ≡ lowIn bounds
+    → ResultSort operator high low sortOne sortTwo sort → Applied operator high low sortOne sortTwo one two three number
     → OperatorGave operator bounds sortOne sortTwo one two three (value sort number)
-gave s n e = ap₂ value (s (sortable e)) (n (operable e) ∙ rw (high e, low e))
+gave h l s n e = ap₂ value (s (sortable e h l)) (n (operable e h l) ∙ rw (same-high e h l, same-low e h l))

@@ -12,7 +12,7 @@ use Rattle.forest.proofs.Lists.{drop-next}
 use Rattle.operators.proofs.Below.{mod-below}
 use Rattle.operators.specs.Sorts.{valuesOf}
 use Rattle.evaluation.specs.Points.{cutShort, firstOutside, pointCount, pointsOf}
-use Rattle.evaluation.specs.code.Runs.{SortsSmall, VariableSorts}
+use Rattle.evaluation.specs.code.Points.{SortsSmall, VariableSorts}
 use Rattle.evaluation.specs.declared.PointList.the-variants.{Bad, Good}
 
 -- A number is below b where it is at most b - 1.

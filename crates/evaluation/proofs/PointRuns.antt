@@ -11,11 +11,12 @@ use lib.Seq.{take-take}
 use Rattle.operators.specs.Sorts.{AllFit}
 use Rattle.terms.specs.Labels.{Terms}
 use Rattle.terms.specs.Values.{numbersIn, sortsIn}
-use Rattle.evaluation.specs.code.Evaluating.{Costing, Names}
+use Rattle.evaluation.specs.code.Evaluator.{Names}
+use Rattle.evaluation.specs.code.Costs.{Costing}
 use Rattle.evaluation.specs.code.Tables.{CallsKnown, TermStands}
 use Rattle.evaluation.specs.Points.{pointAt, pointCount, valuesBy}
 use Rattle.evaluation.specs.Running.{allPassed, leftOf, runPoints}
-use Rattle.evaluation.specs.code.Runs.{PointsRunnable, PricedTo, Runnable, TermsCosting, TermsRan}
+use Rattle.evaluation.specs.code.Running.{PointsRunnable, PricedTo, Runnable, TermsCosting, TermsRan}
 use Rattle.evaluation.specs.declared.Ran.{Ran}
 use Rattle.evaluation.specs.declared.Ran.the-variants.{Passed}
 use Rattle.evaluation.proofs.TermCosts.{known-at}

@@ -11,7 +11,7 @@ use lib.ListN.{getD, length, length-set, set}
 use lib.Seq.{getD-set-other, getD-set-same}
 use Rattle.terms.specs.Costs.{definedCost, functionCost}
 use Rattle.evaluation.specs.code.Budget.{Priced, held}
-use Rattle.evaluation.specs.code.Evaluating.{Cost, FilledTo, Filling, Priceable, Pricing}
+use Rattle.evaluation.specs.code.Costs.{Cost, FilledTo, Filling, Priceable, Pricing}
 use Rattle.forest.specs.Limits.{mostDefined, mostFunctions}
 use Rattle.evaluation.proofs.Bodies.{held-defined, held-function, held-seen}
 

@@ -14,13 +14,13 @@ use Rattle.terms.specs.Labels.{Terms}
 use Rattle.terms.specs.Values.{valuesAt}
 use Rattle.terms.specs.declared.Value.{Value}
 use Rattle.evaluation.specs.code.Budget.{held}
-use Rattle.evaluation.specs.code.Evaluating.{Evaluable, Evaluated}
+use Rattle.evaluation.specs.code.Evaluator.{Evaluable, Evaluated}
 use Rattle.evaluation.specs.code.Tables.{CallsKnown, TermStands}
 use Rattle.evaluation.specs.Running.{isTrue, runTerms}
-use Rattle.evaluation.specs.code.Runs.{AllValued, HasTruth, Runnable, TermsAt}
+use Rattle.evaluation.specs.code.Running.{AllValued, HasTruth, Runnable, TermsAt}
 use Rattle.evaluation.specs.declared.Ran.{Ran}
 use Rattle.evaluation.specs.declared.Ran.the-variants.{Ended, False, Passed}
-use Rattle.evaluation.proofs.Parts.{calls-known}
+use Rattle.evaluation.proofs.ValuedTrees.{calls-known}
 use Rattle.evaluation.proofs.Sums.{cost-some}
 
 -- What is to be run before term k, with `left` of the budget, is what was to be run.

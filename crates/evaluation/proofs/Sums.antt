@@ -2,7 +2,8 @@
 use Prim.Native.Nat.{ℕ, _+_, _-_, _^_, _≤_, min}
 use native.Mathlib.Omega.{arith}
 use mathlib.Core.Path.{_≡_}
-use Rattle.forest.specs.Forest.{join, none, size, tree}
+use Rattle.forest.specs.Forest.{join, none, tree}
+use Rattle.forest.specs.code.Cursors.{size}
 use Rattle.terms.specs.Costs.{BodyCosts, bodyCost, costs}
 use Rattle.terms.specs.Labels.{Label, Terms}
 use Rattle.evaluation.specs.code.Budget.{held}

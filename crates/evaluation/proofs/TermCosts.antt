@@ -11,10 +11,11 @@ use lib.Seq.{getD-set-other, getD-set-same}
 use Rattle.terms.specs.Labels.{Terms}
 use Rattle.terms.specs.Sorts.{Definition}
 use Rattle.terms.specs.declared.Value.{Value}
-use Rattle.evaluation.specs.code.Evaluating.{Cost}
+use Rattle.evaluation.specs.code.Costs.{Cost}
 use Rattle.evaluation.specs.code.Tables.{CallsKnown, TermStands}
-use Rattle.evaluation.specs.code.Runs.{AllValued, PricedTo, TermsAt, mostConstraints}
-use Rattle.evaluation.proofs.Parts.{calls-known}
+use Rattle.evaluation.specs.code.Running.{AllValued, PricedTo, TermsAt}
+use Rattle.forest.specs.Limits.{mostConstraints}
+use Rattle.evaluation.proofs.ValuedTrees.{calls-known}
 
 -- A term stands at node i, and applies only functions that are known.
 pub record KnownAt (all : Terms) (defs funs i : ℕ) : Type 0 where

@@ -1,4 +1,6 @@
 pub mod Tables
 pub mod Budget
-pub mod Evaluating
-pub mod Runs
+pub mod Evaluator
+pub mod Running
+pub mod Costs
+pub mod Points

@@ -1,19 +1,25 @@
 //! The evaluator: the term evaluator calls an operand evaluator, which calls it back, and the cost left falls.
 use crate::costs::body_place;
 use crate::costs::number_in;
+use forest::limits;
 use operators::operators::apply;
 use operators::operators::result_sort;
-use terms::LITERAL;
-use terms::NAME;
-use terms::OPERATOR;
 use terms::Value;
 use terms::code_at;
+use terms::codes::LITERAL;
+use terms::codes::NAME;
+use terms::codes::OPERATOR;
+use terms::codes::head_of;
+use terms::codes::high_in;
+use terms::codes::kind_of;
+use terms::codes::literal_sort;
+use terms::codes::low_in;
 use terms::size_at;
 use terms::value_at;
 ghost use mathlib.Core.Path.{_≡_};
 ghost use mathlib.Core.Bool.{cond};
 ghost use lib.Dec.{eqb};
-ghost use Rattle.evaluation.specs.code.Evaluating.{Evaluable, Evaluated, OperandsEvaluable, OperandsEvaluated, OperatorGave, OperatorReady};
+ghost use Rattle.evaluation.specs.code.Evaluator.{Evaluable, Evaluated, OperandsEvaluable, OperandsEvaluated, OperatorGave, OperatorReady};
 
 // The sorts of the first two operands; what is not there is 0.
 struct Sorts {
@@ -40,15 +46,15 @@ fn with_sort(sorts: Sorts, index: usize, sort: u64) -> Sorts
     sorts
 }
 
-// The value that an operator, whose label has the numbers of an `extract` as 64 * high + low, gives its operands: the sorts of the first two, and the numbers
+// The value that an operator, whose label has the numbers of an `extract` as its value, gives its operands: the sorts of the first two, and the numbers
 // of the first three.
 fn operator_value(operator: u64, bounds: u64, sorts: Sorts, one: u64, two: u64, three: u64) -> Value
     requires { ⌜ OperatorReady operator bounds (sorts .one) (sorts .two) one two three ⌝ }
     ensures { λ r. ⌜ OperatorGave operator bounds (sorts .one) (sorts .two) one two three r ⌝ }
 {
     let number = operator as usize;
-    let high = bounds / 64;
-    let low = bounds % 64;
+    let high = high_in(bounds);
+    let low = low_in(bounds);
     let sort = result_sort(number, high, low, sorts.one, sorts.two);
     Value {
         sort: sort,
@@ -63,25 +69,24 @@ pub fn eval_term(nodes: &[u64], bodies: &[u64], env: &[u64], node: usize, left: 
 {
     let code = code_at(nodes, node);
     let value = value_at(nodes, node);
-    let kind = code % 16;
-    let head = code / 16;
+    let kind = kind_of(code);
     if kind == LITERAL {
         return Value {
-            sort: head % 128,
+            sort: literal_sort(code),
             number: value,
         };
     }
     if kind == NAME {
         return Value {
-            sort: head,
+            sort: head_of(code),
             number: number_in(env, value as usize),
         };
     }
-    let mut args = [0u64; 8];
+    let mut args = [0u64; limits::ARGUMENTS];
     let stop = node + size_at(nodes, node);
     let sorts = eval_operands(nodes, bodies, env, node + 1, stop, &mut args, left - 1);
     if kind == OPERATOR {
-        return operator_value(head, value, sorts, args[0], args[1], args[2]);
+        return operator_value(head_of(code), value, sorts, args[0], args[1], args[2]);
     }
     let body = number_in(bodies, body_place(code, value)) as usize;
     eval_term(nodes, bodies, &args, body, left - 1)
@@ -94,7 +99,7 @@ fn eval_operands(
     env: &[u64],
     start: usize,
     stop: usize,
-    args: &mut [u64; 8],
+    args: &mut [u64; limits::ARGUMENTS],
     left: u64,
 ) -> Sorts
     requires { ⌜ OperandsEvaluable (now nodes) (now bodies) (now env) start stop left ⌝ }

@@ -3,7 +3,7 @@ use crate::PointList;
 ghost use mathlib.Core.Path.{_≡_};
 ghost use Prim.Native.Nat.{_≤_};
 ghost use lib.Dec.{ltb};
-ghost use Rattle.evaluation.specs.code.Runs.{SortsSmall, VariableSorts};
+ghost use Rattle.evaluation.specs.code.Points.{SortsSmall, VariableSorts};
 ghost use Rattle.operators.specs.Sorts.{valuesOf};
 ghost use Rattle.evaluation.specs.Points.{cutShort, firstOutside, pointCount, pointsOf};
 

@@ -7,7 +7,7 @@ ghost use mathlib.Core.Path.{_≡_};
 ghost use mathlib.Core.Bool.{Bool};
 ghost use lib.ListN.{length};
 ghost use Rattle.evaluation.specs.Running.{allPassed, leftOf};
-ghost use Rattle.evaluation.specs.code.Runs.{PointsRan, PointsRunnable, PricedTo, Runnable, TermsCosting, TermsRan};
+ghost use Rattle.evaluation.specs.code.Running.{PointsRan, PointsRunnable, PricedTo, Runnable, TermsCosting, TermsRan};
 
 // What is left of the budget.
 pub fn left_of(ran: Ran) -> u64

@@ -3,7 +3,8 @@ use Prim.Native.Nat.{ℕ, zero, suc, _+_}
 use mathlib.Core.Path.{_≡_, refl, sym, ap, _∙_}
 use mathlib.Core.List.{_∷_, _++_, append-assoc}
 use lib.ListN.{drop, length, length-append}
-use Rattle.forest.specs.Forest.{Forest, from, join, nodesOf, none, size, tree}
+use Rattle.forest.specs.Forest.{Forest, join, nodesOf, none, tree}
+use Rattle.forest.specs.code.Cursors.{from, size}
 
 module _ {L : Type 0} where
   pub nodes-join : (a b : Forest L) → nodesOf (join a b) ≡ nodesOf a ++ nodesOf b

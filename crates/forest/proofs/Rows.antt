@@ -6,7 +6,8 @@ use mathlib.Core.Path.{_≡_, refl, sym, ap, _∙_}
 use mathlib.Core.List.{List, [], _∷_, _++_, append-assoc}
 use lib.ListN.{length, getD, drop, take, set, length-append, length-drop, take-append-drop, List·getD-append, List·getD-eq-default}
 use lib.Seq.{sets, sets-eq, getD-append-add, take-append-seam, drop-append-add, drop-drop, length-take-le, set-append-left}
-use Rattle.forest.specs.code.Rows.{rows, numberAt, over, widest}
+use Rattle.forest.specs.code.Rows.{numberAt, widest}
+use Rattle.forest.specs.Tables.{rows, over}
 use Rattle.forest.proofs.Lists.{within}
 
 set-append-add : {A : Type 0} (xs ys : List A) (n : ℕ) (v : A) → set (xs ++ ys) (length xs + n) v ≡ xs ++ set ys n v

@@ -3,3 +3,4 @@ pub mod Lists
 pub mod Search
 pub mod code
 pub mod Limits
+pub mod Tables

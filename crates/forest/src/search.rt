@@ -1,7 +1,8 @@
 //! The search for a word among words that stand one after the other in one list of bytes.
 ghost use mathlib.Core.Path.{_≡_};
 ghost use Rattle.forest.specs.Lists.{sameBytes};
-ghost use Rattle.forest.specs.Search.{Rising, placeIn, wordsIn};
+ghost use Rattle.forest.specs.Search.{placeIn};
+ghost use Rattle.forest.specs.code.Search.{Rising, wordsIn};
 
 // Whether two lists of bytes are the same.
 pub fn same_bytes(left: &[u8], right: &[u8]) -> bool

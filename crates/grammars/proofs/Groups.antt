@@ -18,7 +18,7 @@ use Rattle.shapes.specs.Shapes.{all, groupShape, ruleShape, sortShape}
 use Rattle.written_sorts.specs.code.Places.{ShapedAt, SortAt}
 use Rattle.written_sorts.specs.Written.{sortOf}
 use Rattle.written_sorts.proofs.Walked.{come-first, item-come, word-is}
-use Rattle.written_sorts.proofs.Parts.{Sorted, group-parts, group-rules, group-sort}
+use Rattle.written_sorts.proofs.PairParts.{Sorted, group-parts, group-rules, group-sort}
 use Rattle.forest.specs.Search.{placeIn}
 use Rattle.names.specs.code.Lookup.{bytesAt}
 use Rattle.names.specs.code.Table.{nameIn, namesFrom, sortIn}

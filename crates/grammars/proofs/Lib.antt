@@ -3,7 +3,7 @@ pub mod Start
 pub mod Groups
 pub mod Listing
 pub mod Within
-pub mod Commands
+pub mod SynthFunParts
 pub mod Limits
 pub mod Named
 pub mod Lists

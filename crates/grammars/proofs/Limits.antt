@@ -3,25 +3,27 @@ use Prim.Native.Nat.{ℕ, _+_, _-_, min}
 use native.Mathlib.Omega.{arith}
 use mathlib.Core.Path.{_≡_, ap₂, _∙_}
 use mathlib.Core.List.{List}
+use Rattle.forest.specs.Limits.{mostNodes, mostNonTerminals, mostRules}
 use Rattle.lexemes.specs.code.Standing.{Between}
 use Rattle.lexemes.specs.code.Table.{nextAt}
 use Rattle.lexemes.proofs.Standing.{forward}
 use Rattle.shapes.specs.Shapes.{groupShape}
-use Rattle.written_sorts.specs.code.Places.{SynthFunAt}
+use Rattle.written_sorts.specs.code.Headers.{SynthFunAt}
 use Rattle.written_sorts.specs.Written.{grammarSorts}
 use Rattle.written_sorts.specs.declared.Fault.the-variants.{TooWide}
 use Rattle.term_nodes.specs.Rules.{itemPast}
 use Rattle.term_nodes.specs.code.RuleGathering.{GroupsBetween, RulesGathered}
 use Rattle.term_nodes.specs.declared.Gathered.{Gathered}
 use Rattle.term_faults.proofs.Rising.{rules-rise}
-use Rattle.grammars.specs.code.Reading.{GrammarAt, Limited, groupsWord, nonTerminalsWord}
-use Rattle.grammars.proofs.Commands.{as-list, groups, groups-within, items-between, items-shaped, pairs-between}
+use Rattle.grammars.specs.code.Read.{GrammarAt, Limited}
+use Rattle.grammars.specs.code.Parts.{groupsWord, nonTerminalsWord}
+use Rattle.grammars.proofs.SynthFunParts.{as-list, groups, groups-within, items-between, items-shaped, pairs-between}
 use Rattle.grammars.proofs.Within.{rising-few}
 
 module _ {lexemes raw rules : List ℕ} {at : ℕ} (p : GrammarAt lexemes raw rules at) where
   module _ {list : ℕ} (el : list ≡ groupsWord lexemes at) {close : ℕ} (ec : close ≡ nextAt lexemes list - 1) where
     -- what is listed of each stands in its list, and there is room for its rules
-    abbrev pub listed-in : GroupsBetween lexemes (list + 1) close 128 raw rules
+    abbrev pub listed-in : GroupsBetween lexemes (list + 1) close mostRules raw rules
     listed-in =
         let within = groups-within (p .command) el in
         let b = items-between (as-list groupShape (groups (p .command) el)) ec in
@@ -39,10 +41,10 @@ module _ {lexemes raw rules : List ℕ} {at : ℕ} (p : GrammarAt lexemes raw ru
   pub limited : {nonTerminals : ℕ} → nonTerminals ≡ nonTerminalsWord lexemes at → {list : ℕ} → list ≡ groupsWord lexemes at
       → {nowhere sorts : ℕ} → ((q : SynthFunAt lexemes at) → sorts ≡ grammarSorts TooWide nowhere (q .here .operands))
       → {close : ℕ} → close ≡ nextAt lexemes nonTerminals - 1
-      → {declared : ℕ} → ((b : Between lexemes (nonTerminals + 1) close) → declared ≡ itemPast nowhere 16 (b .items))
+      → {declared : ℕ} → ((b : Between lexemes (nonTerminals + 1) close) → declared ≡ itemPast nowhere mostNonTerminals (b .items))
       → {end : ℕ} → end ≡ nextAt lexemes list - 1
       → {rawAfter rulesAfter : List ℕ} {g : Gathered}
-      → ((q : GroupsBetween lexemes (list + 1) end 128 raw rules) → RulesGathered q nowhere 256 rawAfter rulesAfter g)
+      → ((q : GroupsBetween lexemes (list + 1) end mostRules raw rules) → RulesGathered q nowhere mostNodes rawAfter rulesAfter g)
       → {later : ℕ} → later ≡ min sorts (g .place) → {place : ℕ} → place ≡ min declared later
       → Limited p nowhere rawAfter rulesAfter (record { row = g .row; rule = g .rule; place = place })
   limited en el by-sorts ec by-declared ee by-rules e-later e =

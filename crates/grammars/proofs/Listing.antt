@@ -14,7 +14,7 @@ use Rattle.lexemes.specs.code.Standing.{Between, ItemAt, ListAt, Source, Stands
 use Rattle.lexemes.proofs.Along.{Along, along-end, along-here, along-start, along-turn, item-of}
 use Rattle.lexemes.proofs.Standing.{forward}
 use Rattle.shapes.specs.Shapes.{all, groupShape}
-use Rattle.written_sorts.proofs.Parts.{group-parts}
+use Rattle.written_sorts.proofs.PairParts.{group-parts}
 use Rattle.names.specs.Scopes.{Named, namesOf, namedSorts}
 use Rattle.names.specs.code.Lookup.{sourceOf}
 use Rattle.names.specs.code.Table.{nameIn, namesFrom, nonTerminalRow, sortIn, sortsFrom}

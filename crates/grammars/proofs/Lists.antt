@@ -3,11 +3,13 @@ use Prim.Native.Nat.{ℕ, min}
 use mathlib.Core.Path.{_≡_, ap₂, _∙_}
 use mathlib.Core.List.{List}
 use Rattle.shapes.specs.Shapes.{groupShape, pairShape}
-use Rattle.written_sorts.specs.code.Places.{SortAt, SynthFunAt}
+use Rattle.written_sorts.specs.code.Places.{SortAt}
+use Rattle.written_sorts.specs.code.Headers.{SynthFunAt}
 use Rattle.written_sorts.specs.Written.{sortOf}
 use Rattle.grammars.specs.code.Listed.{GroupsAt, ListingTested, PairsAt, StartTested}
-use Rattle.grammars.specs.code.Reading.{Declared, ListsTested, groupsWord, nonTerminalsWord, resultWord}
-use Rattle.grammars.proofs.Commands.{as-list, closes, command-at, groups, items-shaped, pairs, result-sort}
+use Rattle.grammars.specs.code.Read.{Declared, ListsTested}
+use Rattle.grammars.specs.code.Parts.{groupsWord, nonTerminalsWord, resultWord}
+use Rattle.grammars.proofs.SynthFunParts.{as-list, closes, command-at, groups, items-shaped, pairs, result-sort}
 
 module _ {text lexemes names : List ℕ} {at listed : ℕ} (p : Declared text lexemes names at listed) where
   -- the command

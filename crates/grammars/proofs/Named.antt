@@ -8,21 +8,23 @@ use Rattle.lexemes.specs.Lists.{inside}
 use Rattle.lexemes.specs.code.Standing.{Between}
 use Rattle.lexemes.specs.code.Table.{nextAt}
 use Rattle.shapes.specs.Shapes.{groupShape, pairShape}
-use Rattle.written_sorts.specs.code.Places.{SynthFunAt}
+use Rattle.written_sorts.specs.code.Headers.{SynthFunAt}
 use Rattle.written_sorts.specs.Written.{grammarSorts}
 use Rattle.written_sorts.specs.declared.Fault.the-variants.{Unknown}
-use Rattle.term_nodes.specs.code.Gathering.{Counted, Counting}
+use Rattle.term_nodes.specs.code.Sizes.{Counted, Counting}
 use Rattle.names.specs.Scopes.{inOrder}
-use Rattle.names.specs.code.Lookup.{Resolved, Resolving, Sees}
-use Rattle.names.specs.code.Table.{namesFrom, nonTerminalRow}
+use Rattle.names.specs.code.Lookup.{Sees}
+use Rattle.names.specs.code.Forms.{Resolved, Resolving}
+use Rattle.names.specs.code.Table.{definedRow, namesFrom, nonTerminalRow}
 use Rattle.names.specs.declared.Seen.{Seen}
-use Rattle.names.specs.code.NewNames.{NewPairs, PairsNamed}
+use Rattle.names.specs.code.New.{NewPairs, PairsNamed}
 use Rattle.names.specs.declared.Scope.{Scope}
 use Rattle.term_nodes.specs.Rules.{rulesIn, sides}
 use Rattle.term_faults.proofs.Headed.{rules-headed}
 use Rattle.term_faults.proofs.Said.{rules-say}
-use Rattle.grammars.specs.code.Reading.{GrammarNamed, Naming, nonTerminalsWord, viewIn}
-use Rattle.grammars.proofs.Commands.{as-list, command-at, groups, items-between, items-shaped, pairs, pairs-between}
+use Rattle.grammars.specs.code.Read.{GrammarNamed, Naming, viewIn}
+use Rattle.grammars.specs.code.Parts.{nonTerminalsWord}
+use Rattle.grammars.proofs.SynthFunParts.{as-list, command-at, groups, items-between, items-shaped, pairs, pairs-between}
 
 -- What the rules of a grammar see, by the rows of the table of names.
 abbrev pub seenIn : Scope → (listed : ℕ) → Seen
@@ -73,7 +75,7 @@ module _ {text lexemes names raw forms : List ℕ} {scope : Scope} {at nodes bas
             table = after .table;
             names-are = kept .names-behind (scope .first) (scope .arguments) (omega (arith, few, p .behind)) ∙ p .arguments-are;
             sorts-are = kept .sorts-behind (scope .first) (scope .arguments) (omega (arith, few, p .behind)) ∙ p .sorts-are;
-            defined-are = kept .names-before 16 (scope .defined) (omega (arith, p .few .defined)) ∙ p .defined-are;
+            defined-are = kept .names-before definedRow (scope .defined) (omega (arith, p .few .defined)) ∙ p .defined-are;
             functions-are = refl;
             nonTerminals-are = rw (known pairs-in) (after .names-are);
             names-fit = p .few .arguments;

@@ -16,7 +16,7 @@ use Rattle.shapes.specs.Shapes.{all, pairShape}
 use Rattle.written_sorts.specs.code.Places.{ShapedAt, SortAt}
 use Rattle.written_sorts.specs.Written.{sortOf}
 use Rattle.written_sorts.proofs.Walked.{come-first, item-come, placed}
-use Rattle.written_sorts.proofs.Parts.{Sorted, pair-sort, shaped-come, sorted}
+use Rattle.written_sorts.proofs.PairParts.{Sorted, pair-sort, shaped-come, sorted}
 use Rattle.grammars.specs.Listing.{startMisfit}
 use Rattle.grammars.specs.code.Listed.{PairsAt}
 

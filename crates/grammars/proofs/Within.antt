@@ -2,7 +2,8 @@
 use Prim.Native.Nat.{ℕ, zero, suc, _+_, _≤_, _<_}
 use native.Mathlib.Omega.{arith}
 use mathlib.Core.Path.{_≡_, refl, sym, _∙_, subst}
-use Rattle.forest.specs.Forest.{Forest, count, none, size, tree}
+use Rattle.forest.specs.Forest.{Forest, count, none, tree}
+use Rattle.forest.specs.code.Cursors.{size}
 use Rattle.forest.proofs.Bools.{apart}
 use Rattle.words.specs.Trees.{Lexeme}
 use Rattle.lexemes.specs.Lists.{Items, after}
@@ -10,7 +11,7 @@ use Rattle.lexemes.specs.code.Standing.{Source, Stands, bracketed, ends, word}
 use Rattle.lexemes.proofs.Standing.{forward}
 use Rattle.written_sorts.proofs.Walked.{placed}
 use Rattle.term_nodes.specs.Terms.{Raw}
-use Rattle.term_faults.specs.code.Seeking.{Rising}
+use Rattle.term_faults.specs.code.Bodies.{Rising}
 
 -- Items that stand from word j to before word f begin at word i or behind it, and end before word e.
 pub record Amid (i j f e : ℕ) : Type 0 where

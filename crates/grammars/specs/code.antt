@@ -1,2 +1,3 @@
 pub mod Listed
-pub mod Reading
+pub mod Read
+pub mod Parts

@@ -10,7 +10,7 @@ ghost use mathlib.Core.Path.{_≡_};
 ghost use lib.Dec.{eqb};
 ghost use Rattle.forest.specs.Forest.{count};
 ghost use Rattle.lexemes.specs.code.Standing.{ListAt};
-ghost use Rattle.grammars.specs.code.Listed.{GroupAt, GroupsAt, ListingTested, PairsAt, StartTested, groupMisfit, nameMisfit, rulesMisfit};
+ghost use Rattle.grammars.specs.code.Listed.{GroupAt, GroupsAt, ListingTested, PairsAt, StartTested, TestsGroup, TestsName, rulesMisfit};
 
 // Whether the list at a word holds nothing.
 fn is_empty(lexemes: &[u64], list: usize) -> bool
@@ -47,7 +47,7 @@ fn name_misfit(
     nowhere: usize,
 ) -> usize
     requires { ⌜ GroupAt (now text) (now lexemes) (now names) group row ⌝ }
-    ensures { λ r. ⌜ ((p : GroupAt (now (text .entry)) (now (lexemes .entry)) (now (names .entry)) group row) → r ≡ nameMisfit nowhere (now (names .entry)) row (p .here .operands)) ⌝ }
+    ensures { λ r. ⌜ TestsName (now (text .entry)) (now (lexemes .entry)) (now (names .entry)) group row nowhere r ⌝ }
 {
     let found = find_name(names, row, 1, bytes_at(text, lexemes, group + 1));
     let sort = sort_of(lexemes, group + 2);
@@ -78,7 +78,7 @@ fn group_misfit(
     nowhere: usize,
 ) -> usize
     requires { ⌜ GroupAt (now text) (now lexemes) (now names) group row ⌝ }
-    ensures { λ r. ⌜ ((p : GroupAt (now (text .entry)) (now (lexemes .entry)) (now (names .entry)) group row) → r ≡ groupMisfit nowhere (now (names .entry)) row (p .here .operands)) ⌝ }
+    ensures { λ r. ⌜ TestsGroup (now (text .entry)) (now (lexemes .entry)) (now (names .entry)) group row nowhere r ⌝ }
 {
     let own = name_misfit(text, lexemes, names, group, row, nowhere);
     let rules = next_at(lexemes, group + 2);

@@ -4,8 +4,8 @@ ghost use mathlib.Core.Path.{_≡_};
 ghost use Prim.Native.Nat.{_-_};
 ghost use Rattle.lexemes.specs.code.Standing.{ListAt};
 ghost use Rattle.lexemes.specs.code.Table.{nextAt};
-ghost use Rattle.written_sorts.specs.code.Places.{SynthFunAt};
-ghost use Rattle.grammars.specs.code.Reading.{groupsWord, nonTerminalsWord, resultWord};
+ghost use Rattle.written_sorts.specs.code.Headers.{SynthFunAt};
+ghost use Rattle.grammars.specs.code.Parts.{groupsWord, nonTerminalsWord, resultWord};
 
 // The word of the function's sort, in the `synth-fun` at a word.
 pub fn result_at(lexemes: &[u64], at: usize) -> usize

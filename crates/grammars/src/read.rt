@@ -5,10 +5,12 @@ use crate::parts::close_at;
 use crate::parts::groups_at;
 use crate::parts::non_terminals_at;
 use crate::parts::result_at;
+use forest::limits;
 use forest::numbers::least;
 use lexemes::items::count_items;
 use names::Scope;
 use names::Seen;
+use names::Target;
 use names::forms::write_forms;
 use names::new::new_pairs;
 use names::table::NON_TERMINALS;
@@ -20,7 +22,7 @@ use term_nodes::sizes::count_nodes;
 use written_sorts::Fault;
 use written_sorts::headers::grammar_place;
 use written_sorts::places::sort_of;
-ghost use Rattle.grammars.specs.code.Reading.{Declared, GrammarAt, GrammarNamed, Limited, ListsTested, Naming, Sorted, Sorting};
+ghost use Rattle.grammars.specs.code.Read.{Declared, GrammarAt, LimitsGrammar, ListsTested, NamesGrammar, Naming, Sorting, SortsGrammar};
 
 // Gathers the rules of the `synth-fun` at a word, and finds the least word past a limit.
 pub fn grammar_past(
@@ -31,7 +33,7 @@ pub fn grammar_past(
     nowhere: usize,
 ) -> Gathered
     requires { ⌜ GrammarAt (now lexemes) (now raw) (now rules) at ⌝ }
-    ensures { λ r. ⌜ ((p : GrammarAt (now (lexemes .entry)) (now (raw .entry)) (now (rules .entry)) at) → Limited p nowhere (now (raw .exit)) (now (rules .exit)) r) ⌝ }
+    ensures { λ r. ⌜ LimitsGrammar (now (lexemes .entry)) (now (raw .entry)) (now (rules .entry)) at nowhere (now (raw .exit)) (now (rules .exit)) r ⌝ }
 {
     let non_terminals = non_terminals_at(lexemes, at);
     let groups = groups_at(lexemes, at);
@@ -40,7 +42,7 @@ pub fn grammar_past(
         lexemes,
         non_terminals + 1,
         close_at(lexemes, non_terminals),
-        16,
+        limits::NON_TERMINALS,
         nowhere,
     );
     let gathered = gather_rules(
@@ -49,8 +51,6 @@ pub fn grammar_past(
         close_at(lexemes, groups),
         raw,
         rules,
-        128,
-        256,
         nowhere,
     );
     Gathered {
@@ -60,8 +60,8 @@ pub fn grammar_past(
     }
 }
 
-// Puts the non-terminals of the `synth-fun` at a word into their rows and writes the forms of its rules, whose nodes are gathered, from row `base` on; returns
-// the least word at fault in a name.
+// Puts the non-terminals of the `synth-fun` at a word into their rows and writes the forms of its rules, whose nodes are gathered, into theirs; returns the
+// least word at fault in a name.
 pub fn grammar_names(
     text: &[u8],
     lexemes: &[u64],
@@ -70,12 +70,11 @@ pub fn grammar_names(
     forms: &mut [u64],
     scope: Scope,
     at: usize,
-    nodes: usize,
-    base: usize,
-    nowhere: usize,
+    target: Target,
 ) -> usize
-    requires { ⌜ Naming (now text) (now lexemes) (now names) (now raw) (now forms) scope at nodes base nowhere ⌝ }
-    ensures { λ r. ⌜ ((p : Naming (now (text .entry)) (now (lexemes .entry)) (now (names .entry)) (now (raw .entry)) (now (forms .entry)) scope at nodes base nowhere) → GrammarNamed p (now (names .exit)) (now (raw .exit)) (now (forms .exit)) r) ⌝ }
+    requires { ⌜ Naming (now text) (now lexemes) (now names) (now raw) (now forms) scope at (target .count) (target .base) (target .nowhere) ⌝ }
+    ensures { λ r. ⌜ NamesGrammar (now (text .entry)) (now (lexemes .entry)) (now (names .entry)) (now (raw .entry)) (now (forms .entry)) scope at target
+        (now (names .exit)) (now (raw .exit)) (now (forms .exit)) r ⌝ }
 {
     let non_terminals = non_terminals_at(lexemes, at);
     let first = non_terminals + 1;
@@ -95,11 +94,11 @@ pub fn grammar_names(
         NON_TERMINALS,
         first,
         close,
-        nowhere,
+        target.nowhere,
     );
-    let sorts = grammar_place(lexemes, at, Fault::Unknown, nowhere);
-    count_nodes(raw, nodes);
-    let unknown = write_forms(names, seen, text, lexemes, raw, nodes, forms, base, nowhere);
+    let sorts = grammar_place(lexemes, at, Fault::Unknown, target.nowhere);
+    count_nodes(raw, target.count);
+    let unknown = write_forms(names, seen, text, lexemes, raw, forms, target);
     least(new, least(sorts, unknown))
 }
 
@@ -115,7 +114,8 @@ pub fn grammar_sorts(
     nowhere: usize,
 ) -> usize
     requires { ⌜ Sorting (now lexemes) (now raw) (now forms) (now signatures) (now column) at nodes nowhere ⌝ }
-    ensures { λ r. ⌜ ((p : Sorting (now (lexemes .entry)) (now (raw .entry)) (now (forms .entry)) (now (signatures .entry)) (now (column .entry)) at nodes nowhere) → Sorted p (now (column .exit)) r) ⌝ }
+    ensures { λ r. ⌜ SortsGrammar (now (lexemes .entry)) (now (raw .entry)) (now (forms .entry)) (now (signatures .entry)) (now (column .entry))
+        at nodes nowhere (now (column .exit)) r ⌝ }
 {
     let written = grammar_place(lexemes, at, Fault::Empty, nowhere);
     let within = fault_word(raw, forms, signatures, column, nodes, nowhere);

@@ -4,24 +4,25 @@ use native.Mathlib.Omega.{arith}
 use mathlib.Core.Path.{_≡_, sym, ap, _∙_}
 use mathlib.Core.Bool.{Bool, true, false, cond}
 use mathlib.Core.List.{List, [], _∷_, _++_, append-assoc, append-nil}
+use Rattle.forest.specs.Limits.{mostArguments, mostDefined, mostFunctions}
 use Rattle.names.specs.Scopes.{isNamed}
 use Rattle.names.specs.code.Lookup.{Kept}
-use Rattle.names.specs.code.Table.{definedRow, functionRow, nameIn, namesFrom, rowCount, variableRow}
-use Rattle.names.proofs.Putting.{last-row}
-use Rattle.names.specs.code.NewNames.{Few, namesIn}
+use Rattle.names.specs.code.Table.{argumentRow, definedRow, functionRow, nameIn, namesFrom, rowCount, variableRow}
+use Rattle.names.proofs.NamePut.{last-row}
+use Rattle.names.specs.code.New.{Few, namesIn}
 use Rattle.names.specs.declared.Scope.{Scope}
 use Rattle.names.proofs.Members.{SameNames, name-between}
-use Rattle.headers.specs.code.Heading.{firstRow, grownBy, ownRow}
+use Rattle.headers.specs.code.Heads.{firstRow, grownBy, ownRow}
 
 -- There is a row for one more name.
 abbrev OneMore : (synthesized : Bool) → Scope → Type 0
-OneMore synthesized scope = cond synthesized (scope .functions + 1) (scope .defined + 1) ≤ cond synthesized 8 32
+OneMore synthesized scope = cond synthesized (scope .functions + 1) (scope .defined + 1) ≤ cond synthesized mostFunctions mostDefined
 
 -- The rows of a command's arguments stand behind that of its own name and behind those of functions, and there are eight of them.
 pub record Rows (synthesized : Bool) (scope : Scope) : Type 0 where
   pub behind-own : ownRow synthesized scope + 1 ≤ firstRow synthesized scope
-  pub behind-functions : functionRow + 8 ≤ firstRow synthesized scope
-  pub eight : firstRow synthesized scope + 8 ≤ rowCount
+  pub behind-functions : argumentRow ≤ firstRow synthesized scope
+  pub eight : firstRow synthesized scope + mostArguments ≤ rowCount
 
 module _ {scope : Scope} (few : Few scope) where
   -- there are such rows

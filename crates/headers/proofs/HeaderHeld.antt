@@ -16,13 +16,14 @@ use Rattle.lexemes.specs.code.Standing.{ItemAt, ListAt, WordIs}
 use Rattle.lexemes.specs.code.Table.{nextAt}
 use Rattle.lexemes.proofs.Listed.{at-item, item-ahead, item-room}
 use Rattle.shapes.specs.Shapes.{all, defineFunShape, headerShape, isListOf, pairShape, sortShape, termShape}
-use Rattle.written_sorts.specs.code.Places.{HeaderAt, SortAt}
-use Rattle.written_sorts.proofs.Commands.{header-arguments, header-sort}
-use Rattle.written_sorts.proofs.Parts.{list-between}
+use Rattle.written_sorts.specs.code.Places.{SortAt}
+use Rattle.written_sorts.specs.code.Headers.{HeaderAt}
+use Rattle.written_sorts.proofs.HeaderSorts.{header-arguments, header-sort}
+use Rattle.written_sorts.proofs.PairParts.{list-between}
 use Rattle.written_sorts.proofs.Walked.{Come, come-behind, come-first, item-come, symbol-word, word-is}
 use Rattle.names.specs.code.Lookup.{bytesAt, sourceOf}
 use Rattle.names.specs.code.Table.{functionRow, nameIn, ownArgumentRow}
-use Rattle.headers.specs.code.Comparing.{Compared, Differs, Held, PairsAt, PairsHeld}
+use Rattle.headers.specs.code.Compare.{Compared, Differs, Held, PairsAt, PairsHeld}
 use Rattle.headers.specs.Tokens.{argumentTokens, closing, headerOf, headerTokens, named, sortTokens, wordsIn}
 use Rattle.headers.proofs.Held.{held-other, held-same}
 use Rattle.headers.proofs.Worded.{item-then, list-held, name-other, name-same, spread, symbol-spelt}

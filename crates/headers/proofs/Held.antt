@@ -7,7 +7,7 @@ use mathlib.Core.List.{List, [], _∷_, _++_}
 use lib.Dec.{eqb}
 use borrow.Author.Tests.{eq-eqb, eqb-false, eqb-true, ne-eqb}
 use Rattle.forest.specs.Lists.{sameBytes}
-use Rattle.headers.specs.code.Comparing.{Held, ended, other, same}
+use Rattle.headers.specs.code.Compare.{Held, ended, other, same}
 use Rattle.headers.specs.Tokens.{Placed, Token, closing, differing}
 
 -- numbers are told apart whichever comes first

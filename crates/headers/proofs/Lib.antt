@@ -1,4 +1,4 @@
-pub mod Parts
+pub mod HeadParts
 pub mod Grown
 pub mod Named
 pub mod Held

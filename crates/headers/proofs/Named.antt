@@ -5,20 +5,22 @@ use mathlib.Core.Path.{_≡_, sym, ap, ap₂, _∙_, subst}
 use mathlib.Core.Bool.{Bool}
 use mathlib.Core.List.{List, _∷_}
 use lib.Seq.{sets}
+use Rattle.operators.specs.Sorts.{maxWidth}
 use Rattle.lexemes.specs.Lists.{inside, item, nameOf}
 use Rattle.lexemes.specs.code.Table.{nextAt}
-use Rattle.written_sorts.specs.code.Places.{HeaderAt, SortAt}
+use Rattle.written_sorts.specs.code.Places.{SortAt}
+use Rattle.written_sorts.specs.code.Headers.{HeaderAt}
 use Rattle.written_sorts.specs.Written.{headerPlace, sortOf}
 use Rattle.written_sorts.specs.declared.Fault.the-variants.{Unknown}
-use Rattle.written_sorts.proofs.Commands.{header-sort}
+use Rattle.written_sorts.proofs.HeaderSorts.{header-sort}
 use Rattle.names.specs.code.Lookup.{bytesAt}
-use Rattle.names.specs.code.Table.{nameRow, namesFrom, rowCount}
-use Rattle.names.proofs.Putting.{Put, put-row}
-use Rattle.names.specs.code.NewNames.{Few, NameTested, NewName, NewPairs, PairsNamed, namesIn}
+use Rattle.names.specs.code.Table.{nameRow, namesFrom, rowCount, rowWidth}
+use Rattle.names.proofs.NamePut.{Put, put-row}
+use Rattle.names.specs.code.New.{Few, NameTested, NewName, NewPairs, PairsNamed, namesIn}
 use Rattle.names.specs.declared.Scope.{Scope}
 use Rattle.names.proofs.Members.{SameNames, same-members}
-use Rattle.headers.specs.code.Heading.{HeadAt, HeadNamed, OwnNamed, firstRow, grownBy, ownRow}
-use Rattle.headers.proofs.Parts.{a-symbol, arguments-between, bytes-are, header-here, name-fits, name-item}
+use Rattle.headers.specs.code.Heads.{HeadAt, HeadNamed, OwnNamed, firstRow, grownBy, ownRow}
+use Rattle.headers.proofs.HeadParts.{a-symbol, arguments-between, bytes-are, header-here, name-fits, name-item}
 use Rattle.headers.proofs.Grown.{Rows, few-grown, rows, same-names}
 
 module _ {text lexemes names : List ℕ} {scope : Scope} {synthesized : Bool} {at : ℕ} where
@@ -33,7 +35,7 @@ module _ {text lexemes names : List ℕ} {scope : Scope} {synthesized : Bool} {a
     result-sort = header-sort (header-here p) ea er
 
     -- and is not too wide
-    pub sort-small : {sort : ℕ} → ((q : SortAt lexemes result) → sort ≡ sortOf (q .here .label) (q .here .operands)) → sort ≤ 64
+    pub sort-small : {sort : ℕ} → ((q : SortAt lexemes result) → sort ≡ sortOf (q .here .label) (q .here .operands)) → sort ≤ maxWidth
     sort-small es = omega (arith, es result-sort, p .result)
 
   module _ {row : ℕ} (eo : row ≡ ownRow synthesized scope) where
@@ -59,7 +61,7 @@ module _ {text lexemes names : List ℕ} {scope : Scope} {synthesized : Bool} {a
     pub own-named : {arguments : ℕ} → arguments ≡ nextAt lexemes (at + 2) → {result : ℕ} → result ≡ nextAt lexemes arguments
         → {sort : ℕ} → ((q : SortAt lexemes result) → sort ≡ sortOf (q .here .label) (q .here .operands))
         → (nowhere : ℕ) {place : ℕ} → ((q : NewName text lexemes names scope row 0 (at + 2)) → NameTested q nowhere place)
-        → {bytes : List ℕ} → bytes ≡ bytesAt text lexemes (at + 2) → {after : List ℕ} → after ≡ sets names (66 * row) (nameRow sort bytes)
+        → {bytes : List ℕ} → bytes ≡ bytesAt text lexemes (at + 2) → {after : List ℕ} → after ≡ sets names (rowWidth * row) (nameRow sort bytes)
         → (p : HeadAt text lexemes names scope synthesized at) → OwnNamed p nowhere after place
     unfolding namesFrom
     own-named ea er es nowhere tested eb e p = record {

@@ -15,11 +15,11 @@ use Rattle.lexemes.specs.code.Standing.{ItemAt, WordIs}
 use Rattle.lexemes.proofs.Listed.{at-item, list-from}
 use Rattle.shapes.specs.Shapes.{pairShape, sortShape}
 use Rattle.written_sorts.specs.code.Places.{SortAt}
-use Rattle.written_sorts.proofs.Parts.{pair-sort}
+use Rattle.written_sorts.proofs.PairParts.{pair-sort}
 use Rattle.written_sorts.proofs.Walked.{come-first, item-come, symbol-word, word-is}
 use Rattle.names.specs.code.Lookup.{bytesAt, sourceOf}
 use Rattle.names.specs.code.Table.{nameIn, sortIn}
-use Rattle.headers.specs.code.Comparing.{Held, PairAt, PairHeld}
+use Rattle.headers.specs.code.Compare.{Held, PairAt, PairHeld}
 use Rattle.headers.specs.Tokens.{argumentTokens, named, sortTokens, wordsIn}
 use Rattle.headers.proofs.Held.{closed}
 use Rattle.headers.proofs.Worded.{list-held, name-other, name-same, one-by-one, spread, symbol-spelt}

@@ -18,7 +18,7 @@ use Rattle.written_sorts.proofs.Walked.{placed}
 use Rattle.names.specs.Scopes.{Named, namesOf, namedSorts}
 use Rattle.names.specs.code.Lookup.{sourceOf}
 use Rattle.names.specs.code.Table.{namesFrom, rowCount, sortsFrom}
-use Rattle.headers.specs.code.Comparing.{Held, PairAt, PairHeld, PairsAt, PairsHeld, ended, other, same}
+use Rattle.headers.specs.code.Compare.{Held, PairAt, PairHeld, PairsAt, PairsHeld, ended, other, same}
 use Rattle.headers.specs.Tokens.{Placed, Token, argumentTokens, closing, sortTokens, wordsIn}
 use Rattle.headers.proofs.Held.{held-then}
 use Rattle.headers.proofs.Worded.{words-first}

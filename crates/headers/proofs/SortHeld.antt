@@ -18,7 +18,7 @@ use Rattle.shapes.specs.Shapes.{sortShape}
 use Rattle.written_sorts.specs.code.Places.{SortAt}
 use Rattle.written_sorts.proofs.Walked.{placed}
 use Rattle.written_sorts.proofs.Width.{width-of}
-use Rattle.headers.specs.code.Comparing.{Held, ended, other}
+use Rattle.headers.specs.code.Compare.{Held, ended, other}
 use Rattle.headers.specs.Tokens.{Placed, Token, closing, named, numbered, opening, sortTokens, wordsIn}
 use Rattle.headers.proofs.Held.{closed, same-turned}
 use Rattle.headers.proofs.Worded.{list-held, number-other, number-same, one-by-one, spread, word-held}

@@ -14,7 +14,7 @@ use Rattle.lexemes.specs.Reserved.{isWord}
 use Rattle.lexemes.specs.Lists.{Items, after, inside, is, isNumeral, isSymbol, item, nameOf, numeralOf}
 use Rattle.lexemes.specs.code.Standing.{Source, WordIs, spelt}
 use Rattle.lexemes.proofs.Listed.{from-item}
-use Rattle.headers.specs.code.Comparing.{Held, ended, other, same}
+use Rattle.headers.specs.code.Compare.{Held, ended, other, same}
 use Rattle.headers.specs.Tokens.{Placed, Token, closing, named, numbered, opening, wordsIn}
 use Rattle.headers.proofs.Held.{held-then, same-turned}
 

@@ -1,2 +1,2 @@
-pub mod Heading
-pub mod Comparing
+pub mod Heads
+pub mod Compare

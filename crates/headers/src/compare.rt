@@ -1,4 +1,5 @@
 //! The first word of a header that differs from the declared one.
+use forest::limits;
 use lexemes::OPEN;
 use lexemes::code_at;
 use lexemes::codes::BOOL;
@@ -14,15 +15,15 @@ ghost use Prim.Native.Nat.{_<_};
 ghost use Rattle.forest.specs.Forest.{none, tree};
 ghost use Rattle.forest.specs.Lists.{sameBytes};
 ghost use Rattle.names.specs.code.Lookup.{Names, bytesAt};
-ghost use Rattle.names.specs.code.Table.{nameIn};
+ghost use Rattle.names.specs.code.Table.{nameIn, rowCount};
 ghost use Rattle.written_sorts.specs.code.Places.{SortAt};
-ghost use Rattle.headers.specs.code.Comparing.{Compared, Differs, Held, PairAt, PairHeld, PairsAt, PairsHeld};
+ghost use Rattle.headers.specs.code.Compare.{Compared, Differs, Held, PairAt, PairHeld, PairsAt, PairsHeld};
 ghost use Rattle.headers.specs.Tokens.{sortTokens, wordsIn};
 
 // Whether a word is the name in a row.
 fn is_named(text: &[u8], lexemes: &[u64], names: &[u8], word: usize, row: usize) -> bool
     requires { ⌜ Names (now names) ⌝ }
-    requires { ⌜ row < 144 ⌝ }
+    requires { ⌜ row < rowCount ⌝ }
     ensures { λ r. ⌜ r ≡ sameBytes (nameIn (now (names .entry)) row) (bytesAt (now (text .entry)) (now (lexemes .entry)) word) ⌝ }
 {
     find_name(names, row, 1, bytes_at(text, lexemes, word)) == 0
@@ -111,7 +112,7 @@ pub fn header_differs(
     }
     let list = next_at(lexemes, at + 2);
     let sort = next_at(lexemes, list);
-    let row = OWN_ARGUMENTS + 8 * function;
+    let row = OWN_ARGUMENTS + limits::ARGUMENTS * function;
     let within = pairs_differ(text, lexemes, names, list + 1, sort - 1, row, arguments);
     if within != 0 {
         return within;

@@ -1,4 +1,5 @@
 //! The tests of a head.
+use forest::limits;
 use forest::numbers::least;
 use lexemes::next_at;
 use names::Scope;
@@ -15,10 +16,10 @@ use written_sorts::Fault;
 use written_sorts::headers::header_place;
 use written_sorts::places::sort_of;
 ghost use mathlib.Core.Path.{_≡_};
-ghost use Rattle.written_sorts.specs.code.Places.{HeaderAt};
-ghost use Rattle.names.specs.code.NewNames.{Few};
+ghost use Rattle.written_sorts.specs.code.Headers.{HeaderAt};
+ghost use Rattle.names.specs.code.New.{Few};
 ghost use Rattle.forest.specs.Limits.{allowed};
-ghost use Rattle.headers.specs.code.Heading.{HeadAt, HeadLimited, HeadNamed, OwnNamed, firstRow, grownBy, ownRow};
+ghost use Rattle.headers.specs.code.Heads.{HeadAt, HeadLimited, NamesHead, NamesOwn, firstRow, grownBy, ownRow};
 
 // The least word past a limit in the head of the command at a word: its ninth argument, or the width of a sort; `nowhere` where there is none.
 pub fn head_past(lexemes: &[u64], at: usize, nowhere: usize) -> usize
@@ -27,7 +28,7 @@ pub fn head_past(lexemes: &[u64], at: usize, nowhere: usize) -> usize
 {
     let arguments = next_at(lexemes, at + 2);
     let close = next_at(lexemes, arguments) - 1;
-    let ninth = item_past(lexemes, arguments + 1, close, 8, nowhere);
+    let ninth = item_past(lexemes, arguments + 1, close, limits::ARGUMENTS, nowhere);
     let wide = header_place(lexemes, at, Fault::TooWide, nowhere);
     least(ninth, wide)
 }
@@ -50,7 +51,7 @@ fn first_row(scope: Scope, synthesized: bool) -> usize
     ensures { λ r. ⌜ r ≡ firstRow synthesized scope ⌝ }
 {
     if synthesized {
-        OWN_ARGUMENTS + 8 * scope.functions
+        OWN_ARGUMENTS + limits::ARGUMENTS * scope.functions
     } else {
         ARGUMENTS
     }
@@ -81,7 +82,7 @@ fn own_name(
     nowhere: usize,
 ) -> usize
     requires { ⌜ HeadAt (now text) (now lexemes) (now names) scope synthesized at ⌝ }
-    ensures { λ r. ⌜ ((p : HeadAt (now (text .entry)) (now (lexemes .entry)) (now (names .entry)) scope synthesized at) → OwnNamed p nowhere (now (names .exit)) r) ⌝ }
+    ensures { λ r. ⌜ NamesOwn (now (text .entry)) (now (lexemes .entry)) (now (names .entry)) scope synthesized at nowhere (now (names .exit)) r ⌝ }
 {
     let row = own_row(scope, synthesized);
     let result = next_at(lexemes, next_at(lexemes, at + 2));
@@ -91,7 +92,8 @@ fn own_name(
     place
 }
 
-// Puts the name and the arguments of the command at a word into their rows; returns the least word whose name is reserved, taken or no sort's; `nowhere` where there is none.
+// Puts the name and the arguments of the command at a word into their rows; returns the least word whose name is reserved, taken or no sort's; `nowhere` where
+// there is none.
 pub fn head_names(
     text: &[u8],
     lexemes: &[u64],
@@ -102,7 +104,7 @@ pub fn head_names(
     nowhere: usize,
 ) -> usize
     requires { ⌜ HeadAt (now text) (now lexemes) (now names) scope synthesized at ⌝ }
-    ensures { λ r. ⌜ ((p : HeadAt (now (text .entry)) (now (lexemes .entry)) (now (names .entry)) scope synthesized at) → HeadNamed p nowhere (now (names .exit)) r) ⌝ }
+    ensures { λ r. ⌜ NamesHead (now (text .entry)) (now (lexemes .entry)) (now (names .entry)) scope synthesized at nowhere (now (names .exit)) r ⌝ }
 {
     let arguments = next_at(lexemes, at + 2);
     let close = next_at(lexemes, arguments) - 1;

@@ -13,7 +13,9 @@ use Rattle.forest.proofs.Bools.{and-left, and-right}
 use Rattle.forest.proofs.Lists.{amongAfter, one-by-one}
 use Rattle.words.specs.Trees.{Lexeme, list, literal, numeral, symbol}
 use Rattle.operators.specs.Operators.{operators}
-use Rattle.lexemes.specs.Reserved.{isOneOf, isWord, knownWords, placeAmong, wordNumber}
+use Rattle.lexemes.specs.Reserved.{isOneOf, isWord}
+use Rattle.lexemes.specs.code.Codes.{firstCode, knownCount}
+use Rattle.lexemes.specs.code.Reserved.{knownWords, placeAmong, wordNumber}
 use Rattle.lexemes.proofs.Numbers.{by-number, isKnown, numberOf}
 use Rattle.lexemes.specs.Lists.{Items, after, is, isAmong, isList, isNumeral, isSymbol, item, nameOf}
 use Rattle.lexemes.specs.code.Table.{closeCode, codeOf, literalCode, numeralCode, openCode}
@@ -21,30 +23,30 @@ use Rattle.lexemes.specs.code.Table.{closeCode, codeOf, literalCode, num
 -- the code of a known word; where this unfolds it computes
 unfoldable pub codeFor : String → ℕ
 unfolding knownWords operators placeAmong sameBytes wordNumber
-codeFor word = 5 + numberOf word
+codeFor word = firstCode + numberOf word
 
-pub code-for : (word : String) → codeFor word ≡ 5 + numberOf word
+pub code-for : (word : String) → codeFor word ≡ firstCode + numberOf word
 unfolding codeFor
 code-for word = refl
 
-nothing-known : wordNumber [] ≡ 65
+nothing-known : wordNumber [] ≡ knownCount
 unfolding knownWords operators placeAmong sameBytes wordNumber
 nothing-known = refl
 
-known-below : (word : String) → isKnown word ≡ true → numberOf word < 65
+known-below : (word : String) → isKnown word ≡ true → numberOf word < knownCount
 unfolding knownWords operators
 known-below word k = ltb-true _ _ k
 
--- numbers differ by five just when they do
-five-more : (m n : ℕ) → eqb m n ≡ eqb (5 + m) (5 + n)
-five-more m n = go (eqb m n) refl
+-- numbers are the same just when the codes of their words are
+same-codes : (m n : ℕ) → eqb m n ≡ eqb (firstCode + m) (firstCode + n)
+same-codes m n = go (eqb m n) refl
   where
-    go : (b : Bool) → eqb m n ≡ b → b ≡ eqb (5 + m) (5 + n)
-    go true e = sym (eq-eqb (5 + m) (5 + n) (omega (arith, eqb-true m n e)))
-    go false e = let ne = eqb-false m n e in sym (ne-eqb (5 + m) (5 + n) (λ h. ne (omega arith)))
+    go : (b : Bool) → eqb m n ≡ b → b ≡ eqb (firstCode + m) (firstCode + n)
+    go true e = sym (eq-eqb (firstCode + m) (firstCode + n) (omega (arith, eqb-true m n e)))
+    go false e = let ne = eqb-false m n e in sym (ne-eqb (firstCode + m) (firstCode + n) (λ h. ne (omega arith)))
 
 -- what is no symbol is no known word
-no-word : (word : String) → isKnown word ≡ true → (c : ℕ) → c < 5 → isWord word [] ≡ eqb c (codeFor word)
+no-word : (word : String) → isKnown word ≡ true → (c : ℕ) → c < firstCode → isWord word [] ≡ eqb c (codeFor word)
 no-word word k c h =
     by-number word k []
     ∙ ne-eqb (wordNumber []) (numberOf word) (λ e. absurd (omega (arith, known-below word k, nothing-known)))
@@ -52,7 +54,7 @@ no-word word k c h =
 
 -- an item is a known word just when it has the word's code
 pub word-code : (word : String) → isKnown word ≡ true → (l : Lexeme) → is word l ≡ eqb (codeOf l) (codeFor word)
-word-code word k (symbol at name) = by-number word k name ∙ five-more (wordNumber name) (numberOf word) ∙ ap (eqb (5 + wordNumber name)) (sym (code-for word))
+word-code word k (symbol at name) = by-number word k name ∙ same-codes (wordNumber name) (numberOf word) ∙ ap (eqb (firstCode + wordNumber name)) (sym (code-for word))
 word-code word k (list at close) = no-word word k openCode (omega arith)
 word-code word k (numeral at v) = no-word word k numeralCode (omega arith)
 word-code word k (literal at width v written) = no-word word k literalCode (omega arith)
@@ -66,25 +68,25 @@ code-pos (literal at width v written) = omega arith
 
 -- no item has the code of a closing bracket
 pub not-close : (l : Lexeme) → eqb (codeOf l) closeCode ≡ false
-not-close (symbol at name) = ne-eqb (5 + wordNumber name) 2 (λ e. omega arith)
+not-close (symbol at name) = ne-eqb (firstCode + wordNumber name) closeCode (λ e. omega arith)
 not-close (list at close) = refl
 not-close (numeral at v) = refl
 not-close (literal at width v written) = refl
 
-pub symbol-code : (l : Lexeme) → isSymbol l ≡ leb 5 (codeOf l)
-symbol-code (symbol at name) = sym (le-leb 5 (5 + wordNumber name) (omega arith))
+pub symbol-code : (l : Lexeme) → isSymbol l ≡ leb firstCode (codeOf l)
+symbol-code (symbol at name) = sym (le-leb firstCode (firstCode + wordNumber name) (omega arith))
 symbol-code (list at close) = refl
 symbol-code (numeral at v) = refl
 symbol-code (literal at width v written) = refl
 
 pub list-code : (l : Lexeme) → isList l ≡ eqb (codeOf l) openCode
-list-code (symbol at name) = sym (ne-eqb (5 + wordNumber name) 1 (λ e. omega arith))
+list-code (symbol at name) = sym (ne-eqb (firstCode + wordNumber name) openCode (λ e. omega arith))
 list-code (list at close) = refl
 list-code (numeral at v) = refl
 list-code (literal at width v written) = refl
 
 pub numeral-code : (l : Lexeme) → isNumeral l ≡ eqb (codeOf l) numeralCode
-numeral-code (symbol at name) = sym (ne-eqb (5 + wordNumber name) 3 (λ e. omega arith))
+numeral-code (symbol at name) = sym (ne-eqb (firstCode + wordNumber name) numeralCode (λ e. omega arith))
 numeral-code (list at close) = refl
 numeral-code (numeral at v) = refl
 numeral-code (literal at width v written) = refl

@@ -6,23 +6,26 @@ use mathlib.Core.Path.{_≡_, refl, sym, _∙_}
 use mathlib.Core.List.{List, [], _∷_, _++_}
 use lib.ListN.{drop, getD, length, set, take, length-append, length-map, length-set, List·getD-append}
 use lib.Seq.{getD-drop, length-take-le, take-all}
-use Rattle.forest.specs.code.Rows.{numberAt, over, rows}
+use Rattle.forest.specs.code.Rows.{numberAt}
+use Rattle.forest.specs.Tables.{over, rows}
 use Rattle.forest.proofs.Lists.{drop-map, stands, take-more}
 use Rattle.forest.proofs.Rows.{length-rows, over-more, rows-append}
-use Rattle.lexemes.specs.Reserved.{wordNumber}
+use Rattle.lexemes.specs.code.Reserved.{wordNumber}
 use Rattle.word_kinds.specs.declared.Kind.{Kind}
 use Rattle.word_kinds.specs.declared.Kind.the-variants.{Open, Close, Numeral, Literal, Symbol, Faulty}
-use Rattle.words.specs.code.Table.{Entry, endAt, entries, kindAt, kindNumber, nextAt, row, startAt, valueOf, widthAt, wordValues}
+use Rattle.words.specs.Table.{Entry, entries, kindNumber, row, valueOf, wordValues}
+use Rattle.words.specs.code.Table.{endAt, kindAt, nextAt, startAt, widthAt}
 use Rattle.words.specs.Words.{wordsOf}
 use Rattle.words.proofs.Chains.{entries-long}
-use Rattle.lexemes.specs.code.Standing.{Coded, Numbering, WordsOf}
+use Rattle.lexemes.specs.code.Codes.{firstCode}
+use Rattle.lexemes.specs.code.Numbering.{Coded, Numbering, WordsOf}
 use Rattle.lexemes.specs.code.Table.{kindCode, lexemeRow, lexemeTable}
 use Rattle.lexemes.proofs.Said.{entryOf, entry-here, part-fits, word-says}
 
 -- ---- the code of a word
 
 -- the code of a word that is no symbol is the number of its kind
-low-code : (kind : Kind) (bytes : List ℕ) → kindNumber kind < 5 → kindNumber kind ≡ kindCode kind bytes
+low-code : (kind : Kind) (bytes : List ℕ) → kindNumber kind < firstCode → kindNumber kind ≡ kindCode kind bytes
 low-code Open bytes h = refl
 low-code Close bytes h = refl
 low-code (Numeral v) bytes h = refl
@@ -31,7 +34,7 @@ low-code Symbol bytes h = absurd (omega arith)
 low-code (Faulty fault) bytes h = refl
 
 -- that of a symbol is by its bytes
-symbol-code : (kind : Kind) (bytes : List ℕ) → 5 ≤ kindNumber kind → 5 + wordNumber bytes ≡ kindCode kind bytes
+symbol-code : (kind : Kind) (bytes : List ℕ) → firstCode ≤ kindNumber kind → firstCode + wordNumber bytes ≡ kindCode kind bytes
 symbol-code Open bytes h = absurd (omega arith)
 symbol-code Close bytes h = absurd (omega arith)
 symbol-code (Numeral v) bytes h = absurd (omega arith)
@@ -53,7 +56,7 @@ module _ {text words : List ℕ} {i : ℕ} (given : WordsOf text words i) where
   kind-said ek = ek ∙ words-say 0 (omega arith)
 
   -- the code of a word that is no symbol
-  pub code-low : {kind : ℕ} → kind ≡ kindAt words i → kind < 5 → Coded given kind
+  pub code-low : {kind : ℕ} → kind ≡ kindAt words i → kind < firstCode → Coded given kind
   code-low ek h = let e = kind-said ek in e ∙ low-code (given .word .kind) _ (omega arith)
 
   module _ {start end : ℕ} (es : start ≡ startAt words i) (ee : end ≡ endAt words i) where
@@ -72,8 +75,8 @@ module _ {text words : List ℕ} {i : ℕ} (given : WordsOf text words i) where
     part-end = omega (arith, end-said, part-fits text i (given .word) (given .later) (given .here) .1)
 
     -- the code of a symbol
-    pub code-symbol : {kind : ℕ} → kind ≡ kindAt words i → 5 ≤ kind → {number : ℕ} → number ≡ wordNumber (take (end - start) (drop start text))
-        → Coded given (5 + number)
+    pub code-symbol : {kind : ℕ} → kind ≡ kindAt words i → firstCode ≤ kind → {number : ℕ} → number ≡ wordNumber (take (end - start) (drop start text))
+        → Coded given (firstCode + number)
     code-symbol ek h en =
         let e = kind-said ek in
         rw (en, start-said, end-said) (symbol-code (given .word .kind) _ (omega arith))

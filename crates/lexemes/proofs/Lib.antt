@@ -1,5 +1,5 @@
 pub mod Numbers
-pub mod Places
+pub mod WordNumbers
 pub mod ByCode
 pub mod Standing
 pub mod Listed
@@ -9,4 +9,5 @@ pub mod Pending
 pub mod Filling
 pub mod Said
 pub mod Sound
-pub mod Wholes
+pub mod WholeText
+pub mod WordCodes

@@ -11,7 +11,9 @@ use borrow.Author.Tests.{eq-eqb, eqb-true, eqb-false, lt-ltb, ltb-true}
 use Rattle.forest.specs.Lists.{sameBytes, spelling}
 use Rattle.forest.proofs.Bools.{and-left, and-right, apart, each}
 use Rattle.operators.specs.Operators.{operators}
-use Rattle.lexemes.specs.Reserved.{isWord, knownWords, placeAmong, wordNumber}
+use Rattle.lexemes.specs.Reserved.{isWord}
+use Rattle.lexemes.specs.code.Codes.{knownCount}
+use Rattle.lexemes.specs.code.Reserved.{knownWords, placeAmong, wordNumber}
 
 -- lists of bytes that are the same are equal
 same-bytes : (u v : List ℕ) → sameBytes u v ≡ true → u ≡ v
@@ -82,12 +84,12 @@ abbrev pub wordAt : ℕ → String
 wordAt k = getD knownWords k ""
 
 -- no two known words are the same: each has the number of its place
-pub number-at : (k : ℕ) → k < 65 → numberOf (wordAt k) ≡ k
+pub number-at : (k : ℕ) → k < knownCount → numberOf (wordAt k) ≡ k
 unfolding knownWords operators placeAmong sameBytes wordNumber
-number-at k h = eqb-true _ _ (each 65 (λ (j : ℕ). eqb (numberOf (wordAt j)) j) tt k h)
+number-at k h = eqb-true _ _ (each knownCount (λ (j : ℕ). eqb (numberOf (wordAt j)) j) tt k h)
 
 -- a name is known word k just when its number is k
-pub by-place : (k : ℕ) → k < 65 → (name : List ℕ) → isWord (wordAt k) name ≡ eqb (wordNumber name) k
+pub by-place : (k : ℕ) → k < knownCount → (name : List ℕ) → isWord (wordAt k) name ≡ eqb (wordNumber name) k
 unfolding knownWords operators
 by-place k h name =
     let e = number-at k h in

@@ -10,7 +10,7 @@ use Rattle.forest.specs.code.Rows.{numberAt}
 use Rattle.forest.proofs.Lists.{drop-map, within}
 use Rattle.forest.proofs.Rows.{row-at}
 use Rattle.words.specs.Spans.{commentAfter, inRun, starts, startsFrom, wordStarts}
-use Rattle.words.specs.code.Table.{Entry, entries, nextOf, row, valueOf, widthOf, wordTable}
+use Rattle.words.specs.Table.{Entry, entries, nextOf, row, valueOf, widthOf, wordTable}
 use Rattle.words.specs.Trees.{bytesOf}
 use Rattle.words.specs.Words.{Word, wordAt, wordsOf}
 use Rattle.words.proofs.Chains.{entries-drop, wide}

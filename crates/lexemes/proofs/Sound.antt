@@ -19,7 +19,7 @@ use Rattle.words.specs.Answers.{faultNumber}
 use Rattle.words.specs.Reading.{closeFault, faultAt, lesser, limitFault, ownFault}
 use Rattle.words.specs.Words.{Word, wordAt, wordsOf}
 use Rattle.words.specs.declared.Limits.{Limits}
-use Rattle.words.proofs.Turns.{lesser-none}
+use Rattle.words.proofs.ScanTurns.{lesser-none}
 use Rattle.lexemes.proofs.Said.{found}
 
 -- ---- a word that is faulty has a fault

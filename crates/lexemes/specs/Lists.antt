@@ -5,8 +5,10 @@ use mathlib.Core.Bool.{Bool, true, false, _&&_}
 use mathlib.Core.List.{List, []}
 use lib.Dec.{eqb}
 use Rattle.forest.specs.Forest.{Forest, count, none, tree}
-use Rattle.words.specs.Trees.{Lexeme, list, literal, numeral, symbol}
+use Rattle.words.specs.Trees.{Lexeme, list, literal, numeral, symbol, treesFrom}
 use Rattle.lexemes.specs.Reserved.{isOneOf, isWord}
+use lib.ListN.{length}
+use Rattle.words.specs.Words.{wordsOf}
 
 -- Words and lists one after the other; a list holds such items.
 abbrev pub Items : Type 0
@@ -88,3 +90,7 @@ allNumerals (tree l ops more) = isNumeral l && allNumerals more
 -- Whether items are `_`, the word, and n numerals: "`(_ BitVec n)`", "`(_ extract i j)`".
 abbrev pub indexed : String → (n : ℕ) → Items → Bool
 indexed word n items = is "_" (item 0 items) && is word (item 1 items) && eqb (count (after 2 items)) n && allNumerals (after 2 items)
+
+-- The items of a text: its words in their lists.
+unfoldable pub itemsOf : (text : List ℕ) → Items
+itemsOf text = treesFrom text (length (wordsOf text)) (wordsOf text) 0

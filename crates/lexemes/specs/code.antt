@@ -1,2 +1,5 @@
 pub mod Table
 pub mod Standing
+pub mod Reserved
+pub mod Numbering
+pub mod Codes

@@ -1,50 +1,55 @@
-//! The codes of the words that the reader tells apart: 5 more than a word's number.
-pub const BV: u64 = 5;
+//! The codes of the words that the reader tells apart, one after the other.
+use crate::SYMBOL;
+use operators::operators::OPERATORS;
 
-pub const FAIL: u64 = 6;
+pub const BV: u64 = SYMBOL;
 
-pub const INFEASIBLE: u64 = 7;
+pub const FAIL: u64 = BV + 1;
+
+pub const INFEASIBLE: u64 = FAIL + 1;
 
 // The commands that are carried stand from SET_LOGIC to CHECK_SYNTH.
-pub const SET_LOGIC: u64 = 8;
+pub const SET_LOGIC: u64 = INFEASIBLE + 1;
 
-pub const DECLARE_VAR: u64 = 9;
+pub const DECLARE_VAR: u64 = SET_LOGIC + 1;
 
-pub const DEFINE_FUN: u64 = 10;
+pub const DEFINE_FUN: u64 = DECLARE_VAR + 1;
 
-pub const SYNTH_FUN: u64 = 11;
+pub const SYNTH_FUN: u64 = DEFINE_FUN + 1;
 
-pub const CONSTRAINT: u64 = 12;
+pub const CONSTRAINT: u64 = SYNTH_FUN + 1;
 
-pub const CHECK_SYNTH: u64 = 13;
+pub const CHECK_SYNTH: u64 = CONSTRAINT + 1;
 
-// The other commands stand behind CHECK_SYNTH and before TRUE.
-pub const TRUE: u64 = 36;
+// How many other commands there are; they stand behind CHECK_SYNTH and before TRUE.
+const OTHER_COMMANDS: u64 = 22;
 
-pub const FALSE: u64 = 37;
+pub const TRUE: u64 = CHECK_SYNTH + 1 + OTHER_COMMANDS;
 
-pub const BOOL: u64 = 38;
+pub const FALSE: u64 = TRUE + 1;
 
-pub const BIT_VEC: u64 = 39;
+pub const BOOL: u64 = FALSE + 1;
 
-pub const UNDERSCORE: u64 = 40;
+pub const BIT_VEC: u64 = BOOL + 1;
 
-pub const BANG: u64 = 41;
+pub const UNDERSCORE: u64 = BIT_VEC + 1;
 
-pub const LET: u64 = 42;
+pub const BANG: u64 = UNDERSCORE + 1;
 
-pub const EXISTS: u64 = 43;
+pub const LET: u64 = BANG + 1;
 
-pub const FORALL: u64 = 44;
+pub const EXISTS: u64 = LET + 1;
 
-pub const CONSTANT: u64 = 45;
+pub const FORALL: u64 = EXISTS + 1;
 
-pub const VARIABLE: u64 = 46;
+pub const CONSTANT: u64 = FORALL + 1;
 
-// The operators stand from FIRST_OPERATOR on, in the order of their table; EXTRACT is the last of them.
-pub const FIRST_OPERATOR: u64 = 47;
+pub const VARIABLE: u64 = CONSTANT + 1;
 
-pub const EXTRACT: u64 = 69;
+// The operators stand from FIRST_OPERATOR on, in the order of their table.
+pub const FIRST_OPERATOR: u64 = VARIABLE + 1;
+
+pub const EXTRACT: u64 = FIRST_OPERATOR + operators::operators::EXTRACT as u64;
 
 // Any other symbol.
-pub const OTHER: u64 = 70;
+pub const OTHER: u64 = FIRST_OPERATOR + OPERATORS as u64;

@@ -8,8 +8,8 @@ use words::table::next_at;
 use words::table::start_at;
 use words::table::width_at;
 ghost use mathlib.Core.Path.{_≡_};
-ghost use Rattle.forest.specs.code.Rows.{over};
-ghost use Rattle.lexemes.specs.code.Standing.{Coded, Numbering, WordsOf};
+ghost use Rattle.forest.specs.Tables.{over};
+ghost use Rattle.lexemes.specs.code.Numbering.{Coded, Numbering, WordsOf};
 ghost use Rattle.lexemes.specs.code.Table.{lexemeTable};
 ghost use Rattle.words.specs.Words.{wordsOf};
 

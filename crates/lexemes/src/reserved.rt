@@ -1,11 +1,13 @@
 //! Reserved words: the number of a symbol among the words that the reader tells apart.
+use crate::SYMBOL;
+use crate::codes::FIRST_OPERATOR;
 use forest::search::find_word;
 use operators::operators::operator_of;
 ghost use mathlib.Core.Path.{_≡_};
-ghost use Rattle.lexemes.specs.Reserved.{wordNumber};
+ghost use Rattle.lexemes.specs.code.Reserved.{wordNumber};
 
 // How many words there are before the operators.
-pub const BEFORE_OPERATORS: usize = 42;
+const BEFORE_OPERATORS: usize = (FIRST_OPERATOR - SYMBOL) as usize;
 
 // The words before the operators, one after the other.
 const NAMES: [u8; 504] =
@@ -15,49 +17,49 @@ const NAMES: [u8; 504] =
       declare-datatypesdeclare-sortdefine-sortset-infoset-optiontruefalseBoolBitVec_!letexistsforallConstantVariable";
 
 // Where each of them starts; the last number is where the last of them ends.
-const STARTS: [usize; 43] = [
-    0,
-    2,
-    6,
-    16,
-    25,
-    36,
-    46,
-    55,
-    65,
-    76,
-    82,
-    96,
-    110,
-    124,
-    138,
-    149,
-    162,
-    179,
-    197,
-    217,
-    238,
-    266,
-    294,
-    322,
-    348,
-    378,
-    394,
-    411,
-    423,
-    434,
-    442,
-    452,
-    456,
-    461,
-    465,
-    471,
-    472,
-    473,
-    476,
-    482,
-    488,
-    496,
+const STARTS: [usize; BEFORE_OPERATORS + 1] = [
+    0, // BV
+    2, // fail
+    6, // infeasible
+    16, // set-logic
+    25, // declare-var
+    36, // define-fun
+    46, // synth-fun
+    55, // constraint
+    65, // check-synth
+    76, // assume
+    82, // chc-constraint
+    96, // declare-weight
+    110, // inv-constraint
+    124, // optimize-synth
+    138, // set-feature
+    149, // oracle-assume
+    162, // oracle-constraint
+    179, // declare-oracle-fun
+    197, // oracle-constraint-io
+    217, // oracle-constraint-cex
+    238, // oracle-constraint-membership
+    266, // oracle-constraint-poswitness
+    294, // oracle-constraint-negwitness
+    322, // declare-correctness-oracle
+    348, // declare-correctness-cex-oracle
+    378, // declare-datatype
+    394, // declare-datatypes
+    411, // declare-sort
+    423, // define-sort
+    434, // set-info
+    442, // set-option
+    452, // true
+    456, // false
+    461, // Bool
+    465, // BitVec
+    471, // _
+    472, // !
+    473, // let
+    476, // exists
+    482, // forall
+    488, // Constant
+    496, // Variable
     504,
 ];
 

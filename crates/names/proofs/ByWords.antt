@@ -1,7 +1,7 @@
 -- What a node stands for, by the words that say what it is.
-use Prim.Native.Nat.{ℕ, _+_, _*_, _≤_, _<_}
+use Prim.Native.Nat.{ℕ, _+_, _-_, _*_, _≤_, _<_}
 use native.Mathlib.Omega.{arith}
-use mathlib.Core.Path.{_≡_, refl, sym, ap, _∙_, subst}
+use mathlib.Core.Path.{_≡_, refl, sym, ap, ap₂, _∙_, subst}
 use mathlib.Core.Bool.{Bool, true, false, cond, _&&_, _||_}
 use mathlib.Core.List.{List}
 use lib.Dec.{eqb, leb, ltb}
@@ -9,17 +9,25 @@ use lib.ListN.{length}
 use borrow.Author.Tests.{eq-eqb, eqb-true, le-leb, le-ltb, leb-true, lt-leb, lt-ltb, ltb-true, ne-eqb}
 use Rattle.forest.specs.Lists.{sameBytes, spelling}
 use Rattle.forest.proofs.Bools.{and-left, and-right, apart}
-use Rattle.operators.specs.Operators.{named, operatorOf, operators}
+use Rattle.operators.specs.Operators.{named, operatorCount, operatorOf, operators}
 use Rattle.words.specs.Trees.{Lexeme}
 use Rattle.lexemes.specs.Lists.{Items}
 use Rattle.lexemes.specs.code.Standing.{Source, spelt}
 use Rattle.lexemes.proofs.Standing.{coded}
-use Rattle.lexemes.specs.code.Table.{codeAt, numeralCode, symbolCode, valueAt, widthAt}
-use Rattle.lexemes.specs.Reserved.{knownWords}
-use Rattle.term_nodes.specs.Terms.{Raw, constant, cut, firstWord, headWord, number, pattern, word, writtenOf}
-use Rattle.term_nodes.specs.code.Gathering.{Says, SaysPattern}
+use Rattle.lexemes.specs.code.Table.{codeAt, literalCode, numeralCode, symbolCode, valueAt, widthAt}
+use Rattle.lexemes.specs.code.Codes.{constantCode, firstCode, variableCode}
+use Rattle.lexemes.proofs.ByCode.{codeFor}
+use Rattle.terms.specs.code.Codes.{codeWith, cutValue, literalHead, literalKind}
+use Rattle.operators.specs.Sorts.{maxWidth}
+use Rattle.term_nodes.specs.Terms.{Raw, constant, cut, firstWord, number, pattern, word, writtenOf}
+use Rattle.term_nodes.specs.code.Table.{headWord}
+use Rattle.term_nodes.specs.code.Says.{Says, SaysPattern}
 use Rattle.names.specs.Scopes.{View}
-use Rattle.names.specs.code.Lookup.{Headed, NodeAt, NodeMeans, PatternAt, Seeing, SymbolMeans, bytesAt, isPatternHead, mostWritten, nameWord, sourceOf, wordBy}
+use Rattle.names.specs.code.Lookup.{Headed, bytesAt, mostWritten, sourceOf}
+use Rattle.names.specs.code.Nodes.{NodeAt, NodeMeans, PatternAt, isPatternHead, nameWord}
+use Rattle.names.specs.code.Meanings.{Seeing, SymbolMeans}
+use Rattle.names.specs.code.Lookup.{cutCode, nothingCode}
+use Rattle.names.specs.code.Nodes.{wordBy}
 use Rattle.names.specs.declared.Meaning.{Meaning}
 use Rattle.names.specs.declared.Seen.{Seen}
 use Rattle.names.proofs.Patterns.{pattern-code, patternCode}
@@ -34,28 +42,34 @@ module _ (text lexemes : List ℕ) (at : ℕ) {bytes : List ℕ} (eb : bytes ≡
   written-small h = omega (arith, written-is)
 
   -- a literal
-  pub is-constant : {width value : ℕ} → width ≡ widthAt lexemes at → value ≡ valueAt lexemes at → (view : View)
+  pub is-constant : {width value code : ℕ} → width ≡ widthAt lexemes at → code ≡ codeWith literalKind (literalHead width written)
+      → value ≡ valueAt lexemes at → (view : View)
       → NodeMeans view (constant at (widthAt lexemes at) (valueAt lexemes at) (writtenOf (bytesAt text lexemes at)))
-      (record { known = true; code = 0 + 16 * (width + 128 * written); value = value })
-  is-constant e v view = record { stated = record { code-is = omega (arith, written-is, e); value-is = v }; known-is = λ nowhere. refl }
+      (record { known = true; code = code; value = value })
+  is-constant e c v view =
+      record {
+        stated = record { code-is = c ∙ ap₂ (λ (s w : ℕ). codeWith literalKind (literalHead s w)) e written-is; value-is = v };
+        known-is = λ nowhere. refl;
+      }
 
-extract-number : operatorOf (spelling "extract") ≡ 22
+extract-number : operatorOf (spelling "extract") ≡ operatorCount - 1
 unfolding named operatorOf operators sameBytes
 extract-number = refl
 
 -- Whether the numbers of `(_ extract i j)` are within every width.
-pub cut-small : (high low : ℕ) → leb low high && ltb high 64 ≡ true → (low ≤ high) × (high < 64)
-cut-small high low h = (leb-true low high (and-left (leb low high) (ltb high 64) h), ltb-true high 64 (and-right (leb low high) (ltb high 64) h))
+pub cut-small : (high low : ℕ) → leb low high && ltb high maxWidth ≡ true → (low ≤ high) × (high < maxWidth)
+cut-small high low h = (leb-true low high (and-left (leb low high) (ltb high maxWidth) h), ltb-true high maxWidth (and-right (leb low high) (ltb high maxWidth) h))
 
 module _ (lexemes : List ℕ) (at : ℕ) {high low : ℕ} (eh : high ≡ valueAt lexemes at) (el : low ≡ valueAt lexemes (at + 1)) (view : View) (first : ℕ) where
   -- `(_ extract i j)`
-  pub is-cut : leb low high && ltb high 64 ≡ true
-      → NodeMeans view (cut first at (valueAt lexemes at) (valueAt lexemes (at + 1))) (record { known = true; code = 354; value = 64 * high + low })
-  is-cut h = record { stated = record { code-is = rw (← eh, ← el, h, extract-number); value-is = rw (← eh, ← el, h) }; known-is = λ nowhere. refl }
+  pub is-cut : leb low high && ltb high maxWidth ≡ true
+      → {value : ℕ} → value ≡ cutValue high low
+      → NodeMeans view (cut first at (valueAt lexemes at) (valueAt lexemes (at + 1))) (record { known = true; code = cutCode; value = value })
+  is-cut h e = record { stated = record { code-is = rw (← eh, ← el, h, extract-number); value-is = rw (← eh, ← el, h) e }; known-is = λ nowhere. refl }
 
   -- the same, beyond every width
-  pub is-beyond : leb low high && ltb high 64 ≡ false
-      → NodeMeans view (cut first at (valueAt lexemes at) (valueAt lexemes (at + 1))) (record { known = true; code = 370; value = 0 })
+  pub is-beyond : leb low high && ltb high maxWidth ≡ false
+      → NodeMeans view (cut first at (valueAt lexemes at) (valueAt lexemes (at + 1))) (record { known = true; code = nothingCode; value = 0 })
   is-beyond h = record { stated = record { code-is = rw (← eh, ← el, h); value-is = rw (← eh, ← el, h) }; known-is = λ nowhere. refl }
 
 -- The kinds of nodes.
@@ -77,26 +91,26 @@ kindOf (pattern at c s held) = a-pattern
 -- The same, by its first word, the word that says what it is and the code of that.
 abbrev kindBy : (first head code : ℕ) → Case
 kindBy first head code =
-    cond (isPatternHead first head code) a-pattern (cond (leb 5 code) a-word (cond (eqb code 4) a-constant (cond (ltb first head) a-cut a-number)))
+    cond (isPatternHead first head code) a-pattern (cond (leb firstCode code) a-word (cond (eqb code literalCode) a-constant (cond (ltb first head) a-cut a-number)))
 
 -- A symbol's node is no pattern.
 no-pattern : (at head : ℕ) (name : List ℕ) {code : ℕ} → code ≡ symbolCode name → Headed (word at head name) → isPatternHead at head code ≡ false
-unfolding knownWords
+unfolding codeFor
 no-pattern at head name {code} e headed = go (ltb at head) refl
   where
-    go : (later : Bool) → ltb at head ≡ later → later && (eqb code 45 || eqb code 46) ≡ false
-    go true l = rw (← word-test name e 40 (omega arith), ← word-test name e 41 (omega arith)) (headed (ltb-true at head l))
+    go : (later : Bool) → ltb at head ≡ later → later && (eqb code constantCode || eqb code variableCode) ≡ false
+    go true l = rw (← word-test name e "Constant" refl, ← word-test name e "Variable" refl) (headed (ltb-true at head l))
     go false l = refl
 
 -- The word of a node at which a name stands that is not known.
 module _ (lexemes : List ℕ) (first head nowhere : ℕ) {code : ℕ} (ec : code ≡ codeAt lexemes head) {t : Bool} (et : t ≡ isPatternHead first head code) where
   -- a pattern is within the table
   pub pattern-within : t ≡ true → 6 * head < length lexemes
-  pattern-within h = coded lexemes head (go (ltb first head) (eqb code 45) refl (eqb code 46) refl (sym et ∙ h))
+  pattern-within h = coded lexemes head (go (ltb first head) (eqb code constantCode) refl (eqb code variableCode) refl (sym et ∙ h))
     where
-      go : (later c : Bool) → eqb code 45 ≡ c → (v : Bool) → eqb code 46 ≡ v → later && (c || v) ≡ true → 0 < codeAt lexemes head
-      go true true e v f h = omega (arith, ec, eqb-true code 45 e)
-      go true false e true f h = omega (arith, ec, eqb-true code 46 f)
+      go : (later c : Bool) → eqb code constantCode ≡ c → (v : Bool) → eqb code variableCode ≡ v → later && (c || v) ≡ true → 0 < codeAt lexemes head
+      go true true e v f h = omega (arith, ec, eqb-true code constantCode e)
+      go true false e true f h = omega (arith, ec, eqb-true code variableCode f)
       go true false e false f h = apart h
       go false c e v f h = apart h
 
@@ -110,7 +124,7 @@ module _ (lexemes : List ℕ) (first head nowhere : ℕ) {code : ℕ} (ec : code
     head-word h = rw (unknown, ← ec, ← et, h)
 
 -- The codes of `Constant` and `Variable`.
-two-codes : (c : Bool) → eqb (patternCode c) 45 || eqb (patternCode c) 46 ≡ true
+two-codes : (c : Bool) → eqb (patternCode c) constantCode || eqb (patternCode c) variableCode ≡ true
 two-codes true = refl
 two-codes false = refl
 
@@ -136,8 +150,8 @@ module _ (s : Source) where
   kind-is r y n {first} {head} {code} ef eh ec = rw (pattern-is r y n ef eh ec) (go r y ef eh (rw eh at ec))
     where
       go : (r : Raw) → Says s r → first ≡ firstWord r → head ≡ headWord r → code ≡ codeAt (s .lexemes) (headWord r)
-          → cond (isPatternNode r) a-pattern (cond (leb 5 code) a-word (cond (eqb code 4) a-constant (cond (ltb first head) a-cut a-number))) ≡ kindOf r
-      go (word at h name) y ef eh ec = rw (le-leb 5 code (omega (arith, y .coded)))
+          → cond (isPatternNode r) a-pattern (cond (leb firstCode code) a-word (cond (eqb code literalCode) a-constant (cond (ltb first head) a-cut a-number))) ≡ kindOf r
+      go (word at h name) y ef eh ec = rw (le-leb firstCode code (omega (arith, y .coded)))
       go (number at v) y ef eh ec = rw (ec, y, ef, eh, le-ltb at at (omega arith))
       go (constant at width v written) y ef eh ec = rw (ec, y .coded)
       go (cut at h i j) y ef eh ec = rw (ec, y .coded, ef, eh, lt-ltb at h (y .later))
@@ -247,9 +261,9 @@ module _ {names : List ℕ} {seen : Seen} {text lexemes : List ℕ} {first head 
       no-head : isPatternHead first head code ≡ false
       no-head = sym et ∙ left
 
-      module _ (symbolic : 5 ≤ code) where
+      module _ (symbolic : firstCode ≤ code) where
         of-word : WordOf (sourceOf text lexemes) head (g .node)
-        of-word = by-kind a-word (rw (no-head, le-leb 5 code symbolic))
+        of-word = by-kind a-word (rw (no-head, le-leb firstCode code symbolic))
 
         -- the code of a symbol's node
         pub symbol-coded : {bytes : List ℕ} → bytes ≡ bytesAt text lexemes head → code ≡ symbolCode bytes
@@ -261,25 +275,25 @@ module _ {names : List ℕ} {seen : Seen} {text lexemes : List ℕ} {first head 
             let y = subst (λ (n : List ℕ). SymbolMeans (g .view) n m) eb (f (record { view = g .view; sees = g .sees })) in
             node-means (of-word .is) (record { stated = y .stated; known-is = λ nowhere. ap (λ (b : Bool). cond b nowhere head) (sym (y .known-is)) })
 
-      module _ (no-symbol : code < 5) where
-        module _ (literal : code ≡ 4) where
+      module _ (no-symbol : code < firstCode) where
+        module _ (literal : code ≡ literalCode) where
           -- a literal is written by a small number
           pub literal-small : writtenOf (bytesAt text lexemes head) < mostWritten
           literal-small = g .bounded .literals head (sym ec ∙ literal)
 
-          -- and has at most 64 bits
-          pub literal-narrow : widthAt lexemes head ≤ 64
+          -- and is no wider than a sort may be
+          pub literal-narrow : widthAt lexemes head ≤ maxWidth
           literal-narrow = g .bounded .fit head (sym ec ∙ literal) .sort
 
           pub literal-node : {m : Meaning}
               → ((view : View) → NodeMeans view (constant head (widthAt lexemes head) (valueAt lexemes head) (writtenOf (bytesAt text lexemes head))) m)
               → NodeMeans (g .view) (g .node) m
-          literal-node f = node-means (by-kind a-constant (rw (no-head, lt-leb 5 code no-symbol, eq-eqb code 4 literal)) .is) (f (g .view))
+          literal-node f = node-means (by-kind a-constant (rw (no-head, lt-leb firstCode code no-symbol, eq-eqb code literalCode literal)) .is) (f (g .view))
 
-        module _ (no-literal : code ≡ 4 → ⊥) where
+        module _ (no-literal : code ≡ literalCode → ⊥) where
           module _ (later : first < head) where
             of-cut : CutOf (sourceOf text lexemes) head (g .node)
-            of-cut = by-kind a-cut (rw (no-head, lt-leb 5 code no-symbol, ne-eqb code 4 no-literal, lt-ltb first head later))
+            of-cut = by-kind a-cut (rw (no-head, lt-leb firstCode code no-symbol, ne-eqb code literalCode no-literal, lt-ltb first head later))
 
             -- the word that is the i of `(_ extract i j)` has a code
             pub cut-coded : 0 < codeAt lexemes head
@@ -290,7 +304,7 @@ module _ {names : List ℕ} {seen : Seen} {text lexemes : List ℕ} {first head 
             cut-node f = node-means (of-cut .is) (f (g .view) (of-cut .at))
 
           -- a numeral stands for nothing
-          pub number-node : head ≤ first → NodeMeans (g .view) (g .node) (record { known = true; code = 370; value = 0 })
+          pub number-node : head ≤ first → NodeMeans (g .view) (g .node) (record { known = true; code = nothingCode; value = 0 })
           number-node same =
-              let o = by-kind a-number (rw (no-head, lt-leb 5 code no-symbol, ne-eqb code 4 no-literal, le-ltb first head same)) in
+              let o = by-kind a-number (rw (no-head, lt-leb firstCode code no-symbol, ne-eqb code literalCode no-literal, le-ltb first head same)) in
               node-means (o .is) (record { stated = record { code-is = refl; value-is = refl }; known-is = λ nowhere. refl })

@@ -1,5 +1,5 @@
 pub mod Names
-pub mod Putting
+pub mod NamePut
 pub mod Digits
 pub mod Lookup
 pub mod Symbols
@@ -9,6 +9,6 @@ pub mod ByWords
 pub mod NodeTurns
 pub mod PairNames
 pub mod Members
-pub mod Testing
+pub mod NewNameTested
 pub mod Pair
 pub mod PairTurns

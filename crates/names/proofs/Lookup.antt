@@ -1,5 +1,5 @@
 -- What a symbol that is neither a literal nor an operator stands for, by where its name is found.
-use Prim.Native.Nat.{ℕ, zero, suc, _+_, _*_, _≤_, _<_}
+use Prim.Native.Nat.{ℕ, zero, suc, _+_, _≤_, _<_}
 use native.Mathlib.Nat.{zero-add}
 use native.Mathlib.Omega.{arith}
 use mathlib.Core.Path.{_≡_, refl, sym, ap, _∙_}
@@ -14,8 +14,10 @@ use Rattle.terms.specs.Labels.{defined, function, name}
 use Rattle.derivation.specs.Derivation.{Item, nonTerminal, the}
 use Rattle.derivation.specs.code.Tables.{itemCode, itemValue}
 use Rattle.forest.specs.Search.{placeIn}
+use Rattle.terms.specs.code.Codes.{codeWith, definedKind, functionKind, nameKind, nonTerminalKind}
 use Rattle.names.specs.Scopes.{View, definedNames, functionNames, inOrder, isKnown, isNamed, isSeen, itemOr, namesOf, namedSorts, symbolMeans}
-use Rattle.names.specs.code.Lookup.{Ordinary, Seeing, SymbolMeans}
+use Rattle.names.specs.code.Lookup.{nothingCode}
+use Rattle.names.specs.code.Meanings.{Ordinary, Seeing, SymbolMeans}
 use Rattle.names.specs.code.Table.{definedRow, functionRow, namesFrom, nonTerminalRow, sortIn, sortsFrom}
 use Rattle.names.specs.declared.Seen.{Seen}
 
@@ -116,19 +118,19 @@ module _ {names : List ℕ} {seen : Seen} {n : List ℕ} (given : Seeing names s
   a-name = in-rows names (seen .first) (seen .names) n at-name (namesOf (given .view .names)) (given .sees .names-are)
 
   -- the symbol is an argument or a variable
-  pub is-name : {s : ℕ} → a < seen .names → s ≡ sortIn names (seen .first + a)
-      → SymbolMeans (given .view) n (record { known = true; code = 1 + 16 * s; value = a })
-  is-name {s} h es =
+  pub is-name : {s code : ℕ} → a < seen .names → s ≡ sortIn names (seen .first + a) → code ≡ codeWith nameKind s
+      → SymbolMeans (given .view) n (record { known = true; code = code; value = a })
+  is-name {s} h es ec =
       let sort : s ≡ getD (namedSorts (given .view .names)) a 0 =
       es ∙ sym (sort-at names (seen .first) (seen .names) a h) ∙ ap (λ (l : List ℕ). getD l a 0) (given .sees .sorts-are) in
-      stands-for (the (name s a)) (means-seen ∙ rw (there a-name h, ← a-name .place, sort)) (known-seen ∙ rw (there a-name h))
+      rw ec (stands-for (the (name s a)) (means-seen ∙ rw (there a-name h, ← a-name .place, sort)) (known-seen ∙ rw (there a-name h)))
 
   module _ (no-name : seen .names ≤ a) {b : ℕ} (at-defined : Found names definedRow (seen .defined) n b) where
     a-defined : Looked (definedNames (given .view .defined)) (inOrder (definedNames (given .view .defined))) n (seen .defined) b
     a-defined = back-in-rows names definedRow (seen .defined) n at-defined (definedNames (given .view .defined)) (given .sees .defined-are)
 
     -- the symbol is a `define-fun`
-    pub is-defined : b < seen .defined → SymbolMeans (given .view) n (record { known = true; code = 3; value = b })
+    pub is-defined : b < seen .defined → SymbolMeans (given .view) n (record { known = true; code = codeWith definedKind 0; value = b })
     is-defined h =
         stands-for (the (defined b)) (means-seen ∙ rw (gone a-name no-name, there a-defined h, ← a-defined .place))
         (known-seen ∙ rw (gone a-name no-name, there a-defined h))
@@ -138,7 +140,7 @@ module _ {names : List ℕ} {seen : Seen} {n : List ℕ} (given : Seeing names s
       a-function = back-in-rows names functionRow (seen .functions) n at-function (functionNames (given .view .functions)) (given .sees .functions-are)
 
       -- the symbol is a function
-      pub is-function : f < seen .functions → SymbolMeans (given .view) n (record { known = true; code = 4; value = f })
+      pub is-function : f < seen .functions → SymbolMeans (given .view) n (record { known = true; code = codeWith functionKind 0; value = f })
       is-function h =
           stands-for (the (function f)) (means-seen ∙ rw (gone a-name no-name, gone a-defined no-defined, there a-function h, ← a-function .place))
           (known-seen ∙ rw (gone a-name no-name, gone a-defined no-defined, there a-function h))
@@ -157,12 +159,12 @@ module _ {names : List ℕ} {seen : Seen} {n : List ℕ} (given : Seeing names s
         known-last = known-seen ∙ rw (gone a-name no-name, gone a-defined no-defined, gone a-function no-function)
 
         -- the symbol is a non-terminal
-        pub is-non-terminal : k < seen .«non_terminals» → SymbolMeans (given .view) n (record { known = true; code = 5; value = k })
+        pub is-non-terminal : k < seen .«non_terminals» → SymbolMeans (given .view) n (record { known = true; code = codeWith nonTerminalKind 0; value = k })
         is-non-terminal h =
             stands-for (nonTerminal k) (means-last ∙ rw (there a-non-terminal h, ← a-non-terminal .place)) (known-last ∙ there a-non-terminal h)
 
         -- the symbol is not known
-        pub is-unknown : seen .«non_terminals» ≤ k → SymbolMeans (given .view) n (record { known = false; code = 370; value = 0 })
+        pub is-unknown : seen .«non_terminals» ≤ k → SymbolMeans (given .view) n (record { known = false; code = nothingCode; value = 0 })
         is-unknown h =
             let nothing : symbolMeans (given .view) n ≡ none = means-last ∙ rw (gone a-non-terminal h) in
             record { known-is = sym (known-last ∙ gone a-non-terminal h); stated = record { code-is = rw nothing; value-is = rw nothing } }

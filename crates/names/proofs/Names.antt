@@ -1,45 +1,23 @@
 -- The names in the table, by its rows.
-use Prim.Native.Nat.{ℕ, suc, _+_, _-_, _*_, _≤_, _<_}
+use Prim.Native.Nat.{ℕ, suc, _+_, _-_, _≤_, _<_, _*_, _-_}
 use native.Mathlib.Numerals.{unary-clauses}
 use native.Mathlib.Omega.{arith}
 use mathlib.Core.Path.{_≡_, refl, sym, _∙_}
 use mathlib.Core.Bool.{Bool, true, false, cond}
 use mathlib.Core.List.{List, _++_}
-use lib.ListN.{drop, getD, length, replicate, set, drop-of-length-le, getD-replicate, length-append, length-drop, length-replicate, length-set}
-use lib.ListN.{take-append-drop, List·getD-append}
-use lib.Seq.{getD-append-add, length-take-le, sets}
+use lib.ListN.{drop, getD, length, replicate, set, drop-of-length-le, getD-replicate, length-append, length-replicate, length-set, List·getD-append, take}
+use lib.Seq.{getD-append-add, sets}
 use Rattle.forest.proofs.Lists.{drop-next}
 use Rattle.forest.specs.Lists.{sameBytes}
-use Rattle.operators.proofs.Naming.{Read, nothing-read, other-length}
-use Rattle.operators.proofs.Table.{Stands}
 use Rattle.forest.specs.Search.{placeIn}
-use Rattle.names.specs.code.Lookup.{Names}
-use Rattle.names.specs.code.Table.{longest, nameIn, nameRow, namesFrom, rowCount}
+use Rattle.names.specs.code.Table.{longest, nameIn, nameRow, namesFrom, rowWidth}
 
-module _ {names : List ℕ} (t : Names names) {row : ℕ} (h : row < rowCount) where
-  -- how long the name in a row is
-  long : length (nameIn names row) ≡ getD names (66 * row + 1) 0
-  long = let s = t .sized in let k = t .short row h in length-take-le _ _ (rw length-drop (omega arith))
-
-  -- the name stands in its row behind two bytes
-  in-row : Stands (nameIn names row) names (66 * row + 2) (66 * row + 2 + getD names (66 * row + 1) 0)
-  in-row =
-      let s = t .sized in
-      let k = t .short row h in
-      record {
-        rest = drop (getD names (66 * row + 1) 0) (drop (66 * row + 2) names);
-        is = sym (take-append-drop (getD names (66 * row + 1) 0) (drop (66 * row + 2) names));
-        ends = omega (arith, long);
-        within = omega arith;
-      }
-
-  -- a word of another length is not the name
-  pub other-size : (word : List ℕ) → (getD names (66 * row + 1) 0 ≡ length word → ⊥) → false ≡ sameBytes (nameIn names row) word
-  other-size word q = other-length word in-row (λ e. q (omega arith))
-
-  -- of a word of that length nothing is read at first
-  pub same-size : (word : List ℕ) → getD names (66 * row + 1) 0 ≡ length word → Read (nameIn names row) word names (66 * row + 2) 0
-  same-size word q = nothing-read word in-row (omega arith)
+-- The bytes of the name in a row stand from `start` to `end`.
+pub named-there : (names : List ℕ) (row : ℕ) {start end : ℕ} → start ≡ rowWidth * row + 2 → end ≡ start + getD names (rowWidth * row + 1) 0
+    → take (end - start) (drop start names) ≡ nameIn names row
+named-there names row {start} {end} es ee =
+    let long : end - start ≡ getD names (rowWidth * row + 1) 0 = omega arith in
+    rw (long, es)
 
 -- The names from a place on, of so many from a row on, decide the place of a word among all of them.
 pub record Searching (names word : List ℕ) (first count place : ℕ) : Type 0 where

@@ -8,19 +8,24 @@ use mathlib.Core.Bool.{cond}
 use mathlib.Core.List.{List, [], _∷_, _++_}
 use lib.ListN.{drop, getD, length, drop-of-length-le}
 use lib.Seq.{length-sets, sets}
-use Rattle.forest.specs.Forest.{Forest, Node, count, nodesOf, none, size, tree}
-use Rattle.forest.specs.code.Rows.{numberAt, rows}
+use Rattle.forest.specs.Forest.{Forest, Node, count, nodesOf, none, tree}
+use Rattle.forest.specs.code.Cursors.{size}
+use Rattle.forest.specs.code.Rows.{numberAt}
+use Rattle.forest.specs.Tables.{rows}
 use Rattle.forest.proofs.Lists.{Stands, stands}
 use Rattle.forest.proofs.Nodes.{length-nodes}
 use Rattle.forest.proofs.Rows.{row-at, rows-append}
+use Rattle.terms.specs.code.Nodes.{rowWidth as nodeWidth}
 use Rattle.derivation.specs.code.Tables.{formTable, itemCode, itemRow, itemValue}
 use Rattle.lexemes.specs.code.Standing.{Source}
 use Rattle.lexemes.specs.code.Table.{codeAt}
-use Rattle.term_nodes.specs.code.Gathering.{AllSay, Says}
-use Rattle.term_nodes.specs.code.Table.{firstAt, headAt, operandsAt, rawRow, rawTable, sizeAt}
+use Rattle.term_nodes.specs.code.Table.{firstAt, headAt, operandsAt, rawRow, rawTable, rowWidth, sizeAt}
+use Rattle.term_nodes.specs.code.Says.{AllSay, Says}
 use Rattle.term_nodes.specs.Terms.{Raw}
 use Rattle.names.specs.Scopes.{View, formsOf, itemOr, means}
-use Rattle.names.specs.code.Lookup.{AllHeaded, Headed, NodeAt, NodeMeans, Resolved, Resolving, sourceOf, wordBy}
+use Rattle.names.specs.code.Lookup.{Headed, sourceOf}
+use Rattle.names.specs.code.Nodes.{NodeAt, NodeMeans, wordBy}
+use Rattle.names.specs.code.Forms.{AllHeaded, Resolved, Resolving}
 use Rattle.names.specs.Unknown.{unknownAt, unknownIn}
 use Rattle.names.specs.declared.Meaning.{Meaning}
 use Rattle.names.specs.declared.Seen.{Seen}
@@ -48,8 +53,8 @@ module _ (view : View) where
   form-rows none = refl
   form-rows (tree r ops rest) =
       rw (
-        rows-append itemRow 4 (λ n. refl) (nodesOf (formsOf view ops)) (nodesOf (formsOf view rest)),
-        rows-append (formRow view) 4 (λ n. refl) (nodesOf ops) (nodesOf rest),
+        rows-append itemRow nodeWidth (λ n. refl) (nodesOf (formsOf view ops)) (nodesOf (formsOf view rest)),
+        rows-append (formRow view) nodeWidth (λ n. refl) (nodesOf ops) (nodesOf rest),
         form-rows ops,
         form-rows rest,
         count-form ops,
@@ -92,15 +97,15 @@ unknown-below nowhere view (x ∷ more) = omega (arith, unknown-below nowhere vi
 
 -- Rows behind a row.
 row-after : (l : List ℕ) (i a b c d : ℕ) (more : List ℕ)
-    → sets (sets l (4 * i) (a ∷ b ∷ c ∷ d ∷ [])) (4 * (i + 1)) more ≡ sets l (4 * i) (a ∷ b ∷ c ∷ d ∷ more)
-row-after l i a b c d more = let next : 4 * (i + 1) ≡ suc (suc (suc (suc (4 * i)))) = omega arith in rw next
+    → sets (sets l (nodeWidth * i) (a ∷ b ∷ c ∷ d ∷ [])) (nodeWidth * (i + 1)) more ≡ sets l (nodeWidth * i) (a ∷ b ∷ c ∷ d ∷ more)
+row-after l i a b c d more = let next : nodeWidth * (i + 1) ≡ suc (suc (suc (suc (nodeWidth * i)))) = omega arith in rw next
 
 -- Before a node: with the rows of the nodes from there on all rows are written, and the least word of those nodes and the one that was found is the least of
 -- all.
 pub record Turn {names text lexemes raw forms : List ℕ} {seen : Seen} {count base : ℕ} (p : Resolving names text lexemes raw forms seen count base)
     (nowhere : ℕ) (written : List ℕ) (unknown node : ℕ) : Type 0 where
-  pub left : sets written (4 * (base + node)) (rows (formRow (p .view)) (drop node (nodesOf (p .F))))
-      ≡ sets forms (4 * base) (rows (formRow (p .view)) (nodesOf (p .F)))
+  pub left : sets written (nodeWidth * (base + node)) (rows (formRow (p .view)) (drop node (nodesOf (p .F))))
+      ≡ sets forms (nodeWidth * base) (rows (formRow (p .view)) (nodesOf (p .F)))
   pub least : min unknown (unknownIn nowhere (p .view) (drop node (nodesOf (p .F)))) ≡ unknownIn nowhere (p .view) (nodesOf (p .F))
 
 -- The same whatever the terms are.
@@ -130,7 +135,7 @@ module _ {names text lexemes raw forms : List ℕ} {seen : Seen} {count base now
         let l : length (nodesOf (p .F)) ≤ node = omega (arith, length-nodes (p .F), p .counted) in
         let gone = drop-of-length-le (nodesOf (p .F)) l in
         record {
-          forms-are = (rw gone at (t .left)) ∙ ap (sets forms (4 * base)) (sym (form-rows (p .view) (p .F)));
+          forms-are = (rw gone at (t .left)) ∙ ap (sets forms (nodeWidth * base)) (sym (form-rows (p .view) (p .F)));
           unknown-is = sym (min-eq-left (g .low)) ∙ (rw gone at (t .least));
         }
 
@@ -140,12 +145,12 @@ module _ {names text lexemes raw forms : List ℕ} {seen : Seen} {count base now
       at-node p = stands (nodesOf (p .F)) node (omega (arith, length-nodes (p .F), p .counted))
 
       -- what its row says
-      column-is : (p : Resolving names text lexemes raw forms seen count base) (column : ℕ) → column < 4
-          → numberAt 4 raw node column ≡ getD (rawRow (at-node p .here)) column 0
+      column-is : (p : Resolving names text lexemes raw forms seen count base) (column : ℕ) → column < rowWidth
+          → numberAt rowWidth raw node column ≡ getD (rawRow (at-node p .here)) column 0
       unfolding rawTable
       column-is p column small =
           let x = at-node p in
-          rw (p .is-raw) (row-at rawRow 4 (λ n. refl) (nodesOf (p .F)) (p .rest) node column (x .here) (drop (node + 1) (nodesOf (p .F))) (x .is) small)
+          rw (p .is-raw) (row-at rawRow rowWidth (λ n. refl) (nodesOf (p .F)) (p .rest) node column (x .here) (drop (node + 1) (nodesOf (p .F))) (x .is) small)
 
       -- what its words say
       node-of : (p : Resolving names text lexemes raw forms seen count base) → NodeAt names seen text lexemes first head
@@ -168,7 +173,7 @@ module _ {names text lexemes raw forms : List ℕ} {seen : Seen} {count base now
 
       module _ {meaning : Meaning} (em : (n : NodeAt names seen text lexemes first head) → NodeMeans (n .view) (n .node) meaning)
           {operands size : ℕ} (eo : operands ≡ operandsAt raw node) (es : size ≡ sizeAt raw node)
-          {after : List ℕ} (ea : after ≡ sets written (4 * (base + node)) (meaning .code ∷ meaning .value ∷ operands ∷ size ∷ []))
+          {after : List ℕ} (ea : after ≡ sets written (nodeWidth * (base + node)) (meaning .code ∷ meaning .value ∷ operands ∷ size ∷ []))
           {word : ℕ} (ew : word ≡ cond (meaning .known) nowhere (wordBy first head (codeAt lexemes head))) {least : ℕ} (el : least ≡ min unknown word) where
         -- one node more
         turned : (p : Resolving names text lexemes raw forms seen count base) → Turn p nowhere after least (node + 1)
@@ -188,7 +193,7 @@ module _ {names text lexemes raw forms : List ℕ} {seen : Seen} {count base now
             rw (at-node p .is) at (t .least) in
             record {
               left =
-                  rw (ea ∙ ap (sets written (4 * (base + node))) row, next)
+                  rw (ea ∙ ap (sets written (nodeWidth * (base + node))) row, next)
                   (row-after written (base + node) _ _ _ _ (rows (formRow (p .view)) more) ∙ (rw (at-node p .is) at (t .left)));
               least = omega arith;
             }
@@ -197,7 +202,7 @@ module _ {names text lexemes raw forms : List ℕ} {seen : Seen} {count base now
         turn = record {
           given = g .given;
           passed = omega arith;
-          long = ap length ea ∙ length-sets written (4 * (base + node)) (meaning .code ∷ meaning .value ∷ operands ∷ size ∷ []) ∙ g .long;
+          long = ap length ea ∙ length-sets written (nodeWidth * (base + node)) (meaning .code ∷ meaning .value ∷ operands ∷ size ∷ []) ∙ g .long;
           low = omega (arith, g .low);
           each = turned;
         }

@@ -1,7 +1,7 @@
 -- A pair that stands at a word: its name, its sort, and the row that they are put into.
 use Prim.Native.Nat.{ℕ, _+_, _*_, _≤_, _<_}
 use native.Mathlib.Omega.{arith}
-use mathlib.Core.Path.{_≡_, refl, sym, ap, ap₂, _∙_}
+use mathlib.Core.Path.{_≡_, refl, ap, ap₂, _∙_}
 use mathlib.Core.Bool.{true, _&&_}
 use mathlib.Core.List.{List}
 use lib.Dec.{eqb}
@@ -9,6 +9,7 @@ use lib.ListN.{length}
 use lib.Seq.{sets}
 use Rattle.forest.specs.Forest.{count}
 use Rattle.forest.proofs.Bools.{and-left, and-right}
+use Rattle.operators.specs.Sorts.{maxWidth}
 use Rattle.words.specs.Trees.{Lexeme}
 use Rattle.lexemes.specs.Lists.{Items, inside, isList, isSymbol, item, nameOf}
 use Rattle.lexemes.specs.code.Standing.{ItemAt}
@@ -16,13 +17,13 @@ use Rattle.lexemes.proofs.Listed.{item-room, list-from}
 use Rattle.shapes.specs.Shapes.{pairShape, sortShape}
 use Rattle.written_sorts.specs.code.Places.{ShapedAt, SortAt}
 use Rattle.written_sorts.specs.Written.{sortOf}
-use Rattle.written_sorts.proofs.Parts.{pair-sort, sorted}
+use Rattle.written_sorts.proofs.PairParts.{pair-sort, sorted}
 use Rattle.written_sorts.proofs.Walked.{come-first, item-come}
 use Rattle.names.specs.code.Lookup.{bytesAt, sourceOf}
-use Rattle.names.specs.code.Table.{longest, nameRow, rowCount}
-use Rattle.names.specs.code.NewNames.{Few, NewName, PairAt, PairPut}
+use Rattle.names.specs.code.Table.{longest, nameRow, rowCount, rowWidth}
+use Rattle.names.specs.code.New.{Few, NewName, PairAt, PairPut}
 use Rattle.names.specs.declared.Scope.{Scope}
-use Rattle.names.proofs.Testing.{SymbolAt, symbol-at}
+use Rattle.names.proofs.NewNameTested.{SymbolAt, symbol-at}
 
 -- The name of a pair is a symbol.
 pub name-symbol : (l : Lexeme) (ops : Items) → pairShape l ops ≡ true → isSymbol (item 0 ops) ≡ true
@@ -91,10 +92,10 @@ module _ {text lexemes names : List ℕ} {row i : ℕ} (p : PairAt text lexemes 
 
   module _ {sort : ℕ} (es : (q : SortAt lexemes (i + 2)) → sort ≡ sortOf (q .here .label) (q .here .operands)) where
     -- nor the sort too wide
-    pub sort-small : sort ≤ 64
+    pub sort-small : sort ≤ maxWidth
     sort-small = omega (arith, es sort-here, p .narrow)
 
     -- name and sort are put into the row
-    pub pair-put : {bytes : List ℕ} → bytes ≡ bytesAt text lexemes (i + 1) → {after : List ℕ} → after ≡ sets names (66 * row) (nameRow sort bytes)
+    pub pair-put : {bytes : List ℕ} → bytes ≡ bytesAt text lexemes (i + 1) → {after : List ℕ} → after ≡ sets names (rowWidth * row) (nameRow sort bytes)
         → PairPut p after
-    pair-put eb e = e ∙ ap (sets names (66 * row)) (ap₂ nameRow (es sort-here) (bytes-are eb))
+    pair-put eb e = e ∙ ap (sets names (rowWidth * row)) (ap₂ nameRow (es sort-here) (bytes-are eb))

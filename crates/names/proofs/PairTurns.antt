@@ -5,7 +5,7 @@ use mathlib.Core.Path.{_≡_, refl, sym, ap, ap₂, _∙_, subst}
 use mathlib.Core.Bool.{true}
 use mathlib.Core.List.{List, [], _∷_, _++_, append-assoc, append-nil}
 use lib.ListN.{length}
-use Rattle.forest.specs.Forest.{count, none, tree}
+use Rattle.forest.specs.Forest.{count, tree}
 use Rattle.forest.proofs.Bools.{and-left, and-right}
 use Rattle.lexemes.specs.Lists.{Items, inside, item, nameOf}
 use Rattle.lexemes.specs.code.Standing.{Between, ItemAt, Source, Stands}
@@ -15,10 +15,10 @@ use Rattle.shapes.specs.Shapes.{all, pairShape}
 use Rattle.written_sorts.specs.Written.{sortOf}
 use Rattle.names.specs.Scopes.{namesOf, namedSorts}
 use Rattle.names.specs.code.Lookup.{Kept, Names, sourceOf}
-use Rattle.names.specs.code.Table.{definedRow, functionRow, namesFrom, sortsFrom, variableRow}
-use Rattle.names.proofs.Putting.{Put, kept-more, kept-none, last-row, put-row}
+use Rattle.names.specs.code.Table.{definedRow, functionRow, namesFrom, rowCount, sortsFrom, variableRow}
+use Rattle.names.proofs.NamePut.{Put, kept-more, kept-none, last-row, put-row}
 use Rattle.names.specs.New.{namedBy, newName, newPairs}
-use Rattle.names.specs.code.NewNames.{AllNarrow, NameTested, NewName, NewPairs, PairAt, PairPut, PairsNamed, namesIn}
+use Rattle.names.specs.code.New.{AllNarrow, NameTested, NewName, NewPairs, PairAt, PairPut, PairsNamed, namesIn}
 use Rattle.names.specs.declared.Scope.{Scope}
 use Rattle.names.proofs.Members.{name-between, pairs-below, same-members}
 use Rattle.names.proofs.Pair.{name-fits, name-here}
@@ -92,7 +92,7 @@ module _ {text lexemes names₀ : List ℕ} {scope : Scope} {row first close now
         (source : x .source ≡ sourceOf text lexemes)
         (k : PairsLeft nowhere names place done p (tree (x .label) (x .operands) (x .more))) where
       -- there is a row for it
-      pub pair-fits : row + done < 144
+      pub pair-fits : row + done < rowCount
       unfolding count
       pair-fits = omega (arith, k .counted, p .fits)
 
@@ -197,7 +197,7 @@ module _ {text lexemes names₀ : List ℕ} {scope : Scope} {row first close now
 
       module _ (h : at < close) where
         -- there is a row for the next pair
-        pub go-room : row + done < 144
+        pub go-room : row + done < rowCount
         go-room = pair-fits (s .given) (item-of s h (s .given)) refl (along-here s h (s .given))
 
         -- the name of the next pair

@@ -1,5 +1,5 @@
 -- `(Constant σ)` and `(Variable σ)`, by the words at which they stand.
-use Prim.Native.Nat.{ℕ, _+_, _*_, _≤_, _<_, _^_}
+use Prim.Native.Nat.{ℕ, _+_, _*_, _<_, _^_, _≤_}
 use Prim.Native.String.{String}
 use native.Mathlib.Omega.{arith}
 use mathlib.Core.Path.{_≡_, refl, sym, ap, _∙_}
@@ -7,14 +7,14 @@ use mathlib.Core.Bool.{Bool, true, false, cond, not, _&&_, _||_}
 use mathlib.Core.List.{List, []}
 use lib.Dec.{eqb}
 use lib.ListN.{length}
-use mir.Val.{boolByte}
 use borrow.Author.Tests.{eq-eqb, eqb-true, ne-eqb}
 use Rattle.forest.specs.Forest.{count, none, tree}
 use Rattle.forest.specs.Lists.{sameBytes, spelling}
 use Rattle.forest.proofs.Bools.{and-left, and-right, apart}
 use Rattle.operators.specs.Operators.{operators}
 use Rattle.words.specs.Trees.{Lexeme, list, literal, numeral, symbol}
-use Rattle.lexemes.specs.Reserved.{isWord, knownWords, placeAmong, wordNumber}
+use Rattle.lexemes.specs.Reserved.{isWord}
+use Rattle.lexemes.specs.code.Reserved.{knownWords, placeAmong, wordNumber}
 use Rattle.lexemes.specs.Lists.{Items, after, allNumerals, indexed, is, isList, isSymbol, item, numeralOf}
 use Rattle.lexemes.specs.code.Standing.{Source, Stands, bracketed, ends, word}
 use Rattle.lexemes.proofs.Standing.{coded}
@@ -24,8 +24,11 @@ use Rattle.written_sorts.specs.Written.{sortOf, sortPlace}
 use Rattle.written_sorts.specs.declared.Fault.the-variants.{Unknown}
 use Rattle.derivation.specs.Derivation.{anyArgument, anyLiteral}
 use Rattle.derivation.specs.code.Tables.{itemCode, itemValue}
+use Rattle.lexemes.specs.code.Codes.{boolCode, constantCode, variableCode}
+use Rattle.lexemes.proofs.ByCode.{codeFor}
+use Rattle.terms.specs.code.Codes.{anyArgumentKind, anyLiteralKind, codeWith}
+use Rattle.names.specs.code.Nodes.{patternKind, NodeMeans, PatternAt}
 use Rattle.names.specs.Scopes.{View}
-use Rattle.names.specs.code.Lookup.{NodeMeans, PatternAt}
 use Rattle.names.proofs.Symbols.{word-test}
 
 -- Items of which the first is a word, and the others.
@@ -92,21 +95,17 @@ sort-is {i = i} (bracketed b inner rest) shape =
     vector (b .opened) (n .0) (n .1)
 
 -- A test as a number.
-pub bit-small : (test : Bool) → boolByte test ≤ 1
-bit-small true = omega arith
-bit-small false = omega arith
-
-constant-code : symbolCode (spelling "Constant") ≡ 45
+constant-code : symbolCode (spelling "Constant") ≡ constantCode
 unfolding knownWords operators placeAmong sameBytes wordNumber
 constant-code = refl
 
-variable-code : symbolCode (spelling "Variable") ≡ 46
+variable-code : symbolCode (spelling "Variable") ≡ variableCode
 unfolding knownWords operators placeAmong sameBytes wordNumber
 variable-code = refl
 
 -- The code of the word that says which of the two it is.
 abbrev pub patternCode : Bool → ℕ
-patternCode c = cond c 45 46
+patternCode c = cond c constantCode variableCode
 
 pub pattern-code : (c : Bool) → symbolCode (cond c (spelling "Constant") (spelling "Variable")) ≡ patternCode c
 pattern-code true = constant-code
@@ -118,14 +117,23 @@ turned true a b = refl
 turned false a b = refl
 
 -- A symbol that is a sort, by its code.
-bool-test : (name : List ℕ) {code : ℕ} → code ≡ symbolCode name → isWord "Bool" name ≡ eqb code 38
-unfolding knownWords
-bool-test name e = word-test name e 33 (omega arith)
+bool-test : (name : List ℕ) {code : ℕ} → code ≡ symbolCode name → isWord "Bool" name ≡ eqb code boolCode
+unfolding codeFor
+bool-test name e = word-test name e "Bool" refl
 
 -- The numbers of `(Constant σ)` or `(Variable σ)`, where σ is the sort n.
-kind-code : (c : Bool) (n : ℕ) {code : ℕ} → code ≡ patternCode c → 6 + boolByte (eqb code 46) + 16 * n ≡ itemCode (cond c (anyLiteral n) (anyArgument n))
-kind-code true n {code} e = rw (ne-eqb code 46 (λ z. absurd (omega arith)))
-kind-code false n {code} e = rw (eq-eqb code 46 e)
+kind-code : (c : Bool) (n : ℕ) {code kind : ℕ} → code ≡ patternCode c → kind ≡ patternKind code
+    → codeWith kind n ≡ itemCode (cond c (anyLiteral n) (anyArgument n))
+kind-code true n {code} e k = rw (k, ne-eqb code variableCode (λ z. absurd (omega arith)))
+kind-code false n {code} e k = rw (k, eq-eqb code variableCode e)
+
+-- It is a kind.
+pub kind-small : (code : ℕ) {kind : ℕ} → kind ≡ patternKind code → kind ≤ anyArgumentKind
+kind-small code e = rw e (go (eqb code variableCode))
+  where
+    go : (test : Bool) → cond test anyArgumentKind anyLiteralKind ≤ anyArgumentKind
+    go true = omega arith
+    go false = omega arith
 
 kind-value : (c : Bool) (n : ℕ) → 0 ≡ itemValue (cond c (anyLiteral n) (anyArgument n))
 kind-value true n = refl
@@ -146,14 +154,14 @@ module _ {lexemes : List ℕ} {head : ℕ} (p : PatternAt lexemes head) where
       go true = omega arith
       go false = omega arith
 
-  module _ {code sort : ℕ} (ec : code ≡ codeAt lexemes head) (es : sort ≡ codeAt lexemes (head + 1)) where
+  module _ {code kind sort : ℕ} (ec : code ≡ codeAt lexemes head) (ek : kind ≡ patternKind code) (es : sort ≡ codeAt lexemes (head + 1)) where
     code-is : code ≡ patternCode (p .constant)
     code-is = ec ∙ head-code
 
     sort-code : sort ≡ codeAt (p .source .lexemes) (p .at + 2)
     sort-code = let next : head + 1 ≡ p .at + 2 = omega (arith, p .here) in es ∙ rw (p .same, next)
 
-    module _ (opened : sort ≡ 1) {value : ℕ} (ev : value ≡ valueAt lexemes (head + 4)) where
+    module _ (opened : sort ≡ openCode) {value : ℕ} (ev : value ≡ valueAt lexemes (head + 4)) where
       -- the width of `(_ BitVec n)`
       width-is : (value < 10 ^ 9) × (value ≡ sortOf (p .sort) (p .held))
       width-is = go sort-here
@@ -169,13 +177,12 @@ module _ {lexemes : List ℕ} {head : ℕ} (p : PatternAt lexemes head) where
       pattern-width = width-is .0
 
       -- σ is `(_ BitVec n)`
-      pub pattern-vector : (view : View)
-          → NodeMeans view (pattern (p .at) (p .constant) (p .sort) (p .held))
-          (record { known = true; code = 6 + boolByte (eqb code 46) + 16 * value; value = 0 })
-      pattern-vector view = record {
+      pub pattern-vector : {r : ℕ} → r ≡ codeWith kind value → (view : View)
+          → NodeMeans view (pattern (p .at) (p .constant) (p .sort) (p .held)) (record { known = true; code = r; value = 0 })
+      pattern-vector er view = record {
         stated =
             record {
-              code-is = kind-code (p .constant) value code-is ∙ rw (width-is .1);
+              code-is = er ∙ kind-code (p .constant) value code-is ek ∙ rw (width-is .1);
               value-is = kind-value (p .constant) (sortOf (p .sort) (p .held));
             };
         known-is = go sort-here;
@@ -186,14 +193,14 @@ module _ {lexemes : List ℕ} {head : ℕ} (p : PatternAt lexemes head) where
           go (vector o c v) nowhere = refl
 
     -- σ is a symbol
-    pub pattern-symbol : (sort ≡ 1 → ⊥) → (view : View)
-        → NodeMeans view (pattern (p .at) (p .constant) (p .sort) (p .held)) (record { known = eqb sort 38; code = 6 + boolByte (eqb code 46); value = 0 })
-    pattern-symbol symbolic view = go sort-here
+    pub pattern-symbol : (sort ≡ openCode → ⊥) → {r : ℕ} → r ≡ codeWith kind 0 → (view : View)
+        → NodeMeans view (pattern (p .at) (p .constant) (p .sort) (p .held)) (record { known = eqb sort boolCode; code = r; value = 0 })
+    pattern-symbol symbolic {r} er view = go sort-here
       where
         go : {l : Lexeme} {held : Items} → SortIs (p .source) (p .at + 2) l held
-            → NodeMeans view (pattern (p .at) (p .constant) l held) (record { known = eqb sort 38; code = 6 + boolByte (eqb code 46); value = 0 })
+            → NodeMeans view (pattern (p .at) (p .constant) l held) (record { known = eqb sort boolCode; code = r; value = 0 })
         go (named {at = at} {name = name} e c) = record {
-          stated = record { code-is = omega (arith, kind-code (p .constant) 0 code-is); value-is = kind-value (p .constant) 0 };
-          known-is = λ nowhere. rw (bool-test name (sort-code ∙ c), e) (turned (eqb sort 38) (p .at + 2) nowhere);
+          stated = record { code-is = er ∙ kind-code (p .constant) 0 code-is ek; value-is = kind-value (p .constant) 0 };
+          known-is = λ nowhere. rw (bool-test name (sort-code ∙ c), e) (turned (eqb sort boolCode) (p .at + 2) nowhere);
         }
         go (vector o c v) = absurd (symbolic (sort-code ∙ o))

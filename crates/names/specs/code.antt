@@ -1,3 +1,6 @@
 pub mod Table
 pub mod Lookup
-pub mod NewNames
+pub mod Meanings
+pub mod Forms
+pub mod Nodes
+pub mod New

@@ -35,3 +35,10 @@ pub struct Scope {
     pub first: usize,
     pub arguments: usize,
 }
+
+// Where the forms of gathered nodes are written: how many of the nodes there are, the row from which on their forms stand, and how many words the text has.
+pub struct Target {
+    pub count: usize,
+    pub base: usize,
+    pub nowhere: usize,
+}

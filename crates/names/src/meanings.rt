@@ -11,16 +11,22 @@ use lexemes::codes::FALSE;
 use lexemes::codes::FIRST_OPERATOR;
 use lexemes::codes::OTHER;
 use lexemes::codes::TRUE;
+use operators::operators::OPERATORS;
+use terms::codes;
+use terms::codes::FUNCTION;
+use terms::codes::KINDS;
+use terms::codes::LITERAL;
+use terms::codes::NAME;
+use terms::codes::NON_TERMINAL;
+use terms::codes::OPERATOR;
+use terms::codes::code_with;
 ghost use mathlib.Core.Bool.{true};
 ghost use mathlib.Core.Path.{_≡_};
 ghost use Rattle.lexemes.specs.code.Table.{symbolCode};
-ghost use Rattle.names.specs.code.Lookup.{Ordinary, Seeing, SymbolMeans};
+ghost use Rattle.names.specs.code.Meanings.{Ordinary, Seeing, SymbolMeans};
 
 // The code of a node that stands for nothing: an operator that there is none of.
-pub const NOTHING: u64 = terms::OPERATOR + 16 * 23;
-
-// The kind of a non-terminal.
-const NON_TERMINAL: u64 = 5;
+pub const NOTHING: u64 = OPERATOR + KINDS * OPERATORS as u64;
 
 // What is known, by the two numbers of a node table.
 pub fn known_as(code: u64, value: u64) -> Meaning
@@ -42,17 +48,17 @@ fn name_means(names: &[u8], seen: Seen, word: &[u8]) -> Meaning
     let name = find_name(names, seen.first, seen.names, word);
     if name < seen.names {
         return known_as(
-            terms::NAME + 16 * sort_in(names, seen.first + name),
+            code_with(NAME, sort_in(names, seen.first + name)),
             name as u64,
         );
     }
     let defined = find_name(names, DEFINED, seen.defined, word);
     if defined < seen.defined {
-        return known_as(terms::DEFINED, defined as u64);
+        return known_as(codes::DEFINED, defined as u64);
     }
     let function = find_name(names, FUNCTIONS, seen.functions, word);
     if function < seen.functions {
-        return known_as(terms::FUNCTION, function as u64);
+        return known_as(FUNCTION, function as u64);
     }
     let non_terminal = find_name(names, NON_TERMINALS, seen.non_terminals, word);
     if non_terminal < seen.non_terminals {
@@ -72,13 +78,13 @@ pub fn symbol_means(names: &[u8], seen: Seen, code: u64, word: &[u8]) -> Meaning
     ensures { λ r. ⌜ ((given : Seeing (now (names .entry)) seen) → SymbolMeans (given .view) (now (word .entry)) r) ⌝ }
 {
     if (code == TRUE) | (code == FALSE) {
-        return known_as(terms::LITERAL, (code == TRUE) as u64);
+        return known_as(LITERAL, (code == TRUE) as u64);
     }
     if code == EXTRACT {
         return known_as(NOTHING, 0);
     }
     if (code >= FIRST_OPERATOR) & (code < OTHER) {
-        return known_as(terms::OPERATOR + 16 * (code - FIRST_OPERATOR), 0);
+        return known_as(code_with(OPERATOR, code - FIRST_OPERATOR), 0);
     }
     name_means(names, seen, word)
 }

@@ -17,7 +17,7 @@ ghost use Prim.Native.Nat.{_+_, _≤_};
 ghost use Rattle.names.specs.Scopes.{isNamed};
 ghost use Rattle.names.specs.code.Lookup.{Names};
 ghost use Rattle.names.specs.code.Table.{namesFrom, rowCount};
-ghost use Rattle.names.specs.code.NewNames.{Few, NameTested, NewName, NewPairs, PairAt, PairPut, PairsNamed, namesIn};
+ghost use Rattle.names.specs.code.New.{Few, NameTested, NamesPairs, NewName, NewPairs, PairAt, PairPut, namesIn};
 
 // Whether a word is one of the names in so many rows from a row on.
 fn is_named(names: &[u8], first: usize, count: usize, word: &[u8]) -> bool
@@ -73,7 +73,8 @@ fn put_pair(text: &[u8], lexemes: &[u64], names: &mut [u8], row: usize, at: usiz
     put_name(names, row, sort, bytes_at(text, lexemes, at + 1));
 }
 
-// Puts the names and sorts of the pairs from a word to the bracket that closes their list into the rows from `row` on; returns the least word whose name is reserved or taken.
+// Puts the names and sorts of the pairs from a word to the bracket that closes their list into the rows from `row` on; returns the least word whose name is
+// reserved or taken.
 pub fn new_pairs(
     text: &[u8],
     lexemes: &[u64],
@@ -85,7 +86,7 @@ pub fn new_pairs(
     nowhere: usize,
 ) -> usize
     requires { ⌜ NewPairs (now text) (now lexemes) (now names) scope row first close ⌝ }
-    ensures { λ r. ⌜ ((p : NewPairs (now (text .entry)) (now (lexemes .entry)) (now (names .entry)) scope row first close) → PairsNamed p nowhere (now (names .exit)) r) ⌝ }
+    ensures { λ r. ⌜ NamesPairs (now (text .entry)) (now (lexemes .entry)) (now (names .entry)) scope row first close nowhere (now (names .exit)) r ⌝ }
 {
     let mut place = nowhere;
     let mut at = first;

@@ -15,19 +15,27 @@ use lexemes::codes::CONSTANT;
 use lexemes::codes::VARIABLE;
 use lexemes::value_at;
 use lexemes::width_at;
+use operators::operators::EXTRACT;
+use operators::rules::MAX_WIDTH;
+use terms::codes::ANY_ARGUMENT;
+use terms::codes::ANY_LITERAL;
+use terms::codes::KINDS;
+use terms::codes::OPERATOR;
+use terms::codes::code_with;
+use terms::codes::cut_value;
+use terms::codes::literal_code;
 ghost use mathlib.Core.Path.{_≡_};
 ghost use mathlib.Core.Bool.{cond};
 ghost use Prim.Native.Nat.{ℕ, _+_, _≤_, _<_};
 ghost use Rattle.term_nodes.specs.Terms.{constant, cut, pattern, writtenOf};
+ghost use Rattle.operators.specs.Sorts.{maxWidth};
 ghost use Rattle.lexemes.specs.code.Table.{codeAt, valueAt, widthAt};
 ghost use Rattle.names.specs.Scopes.{View};
-ghost use Rattle.names.specs.code.Lookup.{NodeAt, NodeMeans, PatternAt, bytesAt, isPatternHead, mostWritten, wordBy};
+ghost use Rattle.names.specs.code.Lookup.{bytesAt, mostWritten};
+ghost use Rattle.names.specs.code.Nodes.{NodeAt, NodeMeans, PatternAt, isPatternHead, patternKind, wordBy};
 
 // The code of `(_ extract i j)`: the last operator.
-const CUT: u64 = terms::OPERATOR + 16 * 22;
-
-// The kind of `(Constant σ)`; that of `(Variable σ)` is the next.
-const ANY_LITERAL: u64 = 6;
+const CUT: u64 = OPERATOR + KINDS * EXTRACT as u64;
 
 // Whether a node is `(Constant σ)` or `(Variable σ)`, by its first word, the word that says what it is and the code of that.
 fn is_pattern(first: usize, head: usize, code: u64) -> bool
@@ -36,19 +44,31 @@ fn is_pattern(first: usize, head: usize, code: u64) -> bool
     (first < head) & ((code == CONSTANT) | (code == VARIABLE))
 }
 
+// The kind of `(Constant σ)` or `(Variable σ)`, by the code of the word that says which it is.
+fn pattern_kind(code: u64) -> u64
+    ensures { λ r. ⌜ r ≡ patternKind code ⌝ }
+{
+    if code == VARIABLE {
+        ANY_ARGUMENT
+    } else {
+        ANY_LITERAL
+    }
+}
+
 // What `(Constant σ)` or `(Variable σ)` stands for.
 fn pattern_means(lexemes: &[u64], head: usize) -> Meaning
     requires { ⌜ PatternAt (now lexemes) head ⌝ }
-    ensures { λ r. ⌜ ((given : PatternAt (now (lexemes .entry)) head) (view : View) → NodeMeans view (pattern (given .at) (given .constant) (given .sort) (given .held)) r) ⌝ }
+    ensures { λ r. ⌜ ((given : PatternAt (now (lexemes .entry)) head) (view : View)
+        → NodeMeans view (pattern (given .at) (given .constant) (given .sort) (given .held)) r) ⌝ }
 {
-    let kind = ANY_LITERAL + (code_at(lexemes, head) == VARIABLE) as u64;
+    let kind = pattern_kind(code_at(lexemes, head));
     let sort = code_at(lexemes, head + 1);
     if sort == OPEN {
-        return known_as(kind + 16 * value_at(lexemes, head + 4), 0);
+        return known_as(code_with(kind, value_at(lexemes, head + 4)), 0);
     }
     Meaning {
         known: sort == BOOL,
-        code: kind,
+        code: code_with(kind, 0),
         value: 0,
     }
 }
@@ -56,12 +76,14 @@ fn pattern_means(lexemes: &[u64], head: usize) -> Meaning
 // What a `#x` or `#b` word stands for.
 fn literal_means(text: &[u8], lexemes: &[u64], word: usize) -> Meaning
     requires { ⌜ writtenOf (bytesAt (now text) (now lexemes) word) < mostWritten ⌝ }
-    requires { ⌜ widthAt (now lexemes) word ≤ 64 ⌝ }
-    ensures { λ r. ⌜ ((view : View) → NodeMeans view (constant word (widthAt (now (lexemes .entry)) word) (valueAt (now (lexemes .entry)) word) (writtenOf (bytesAt (now (text .entry)) (now (lexemes .entry)) word))) r) ⌝ }
+    requires { ⌜ widthAt (now lexemes) word ≤ maxWidth ⌝ }
+    ensures { λ r. ⌜ ((view : View)
+        → NodeMeans view (constant word (widthAt (now (lexemes .entry)) word) (valueAt (now (lexemes .entry)) word)
+        (writtenOf (bytesAt (now (text .entry)) (now (lexemes .entry)) word))) r) ⌝ }
 {
     let written = written_of(bytes_at(text, lexemes, word));
     known_as(
-        terms::LITERAL + 16 * (width_at(lexemes, word) + 128 * written),
+        literal_code(width_at(lexemes, word), written),
         value_at(lexemes, word),
     )
 }
@@ -69,12 +91,13 @@ fn literal_means(text: &[u8], lexemes: &[u64], word: usize) -> Meaning
 // What `(_ extract i j)` stands for, by the word that is i.
 fn cut_means(lexemes: &[u64], word: usize) -> Meaning
     requires { ⌜ 0 < codeAt (now lexemes) word ⌝ }
-    ensures { λ r. ⌜ ((view : View) (at : ℕ) → NodeMeans view (cut at word (valueAt (now (lexemes .entry)) word) (valueAt (now (lexemes .entry)) (word + 1))) r) ⌝ }
+    ensures { λ r. ⌜ ((view : View) (at : ℕ)
+        → NodeMeans view (cut at word (valueAt (now (lexemes .entry)) word) (valueAt (now (lexemes .entry)) (word + 1))) r) ⌝ }
 {
     let high = value_at(lexemes, word);
     let low = value_at(lexemes, word + 1);
-    if (low <= high) & (high < 64) {
-        return known_as(CUT, 64 * high + low);
+    if (low <= high) & (high < MAX_WIDTH) {
+        return known_as(CUT, cut_value(high, low));
     }
     known_as(NOTHING, 0)
 }
@@ -89,7 +112,8 @@ pub fn node_means(
     head: usize,
 ) -> Meaning
     requires { ⌜ NodeAt (now names) seen (now text) (now lexemes) first head ⌝ }
-    ensures { λ r. ⌜ ((given : NodeAt (now (names .entry)) seen (now (text .entry)) (now (lexemes .entry)) first head) → NodeMeans (given .view) (given .node) r) ⌝ }
+    ensures { λ r. ⌜ ((given : NodeAt (now (names .entry)) seen (now (text .entry)) (now (lexemes .entry)) first head)
+        → NodeMeans (given .view) (given .node) r) ⌝ }
 {
     let code = code_at(lexemes, head);
     if is_pattern(first, head, code) {
@@ -107,8 +131,8 @@ pub fn node_means(
     known_as(NOTHING, 0)
 }
 
-// The word of a node at which a name stands that is not known: that of σ in `(Constant σ)` and `(Variable σ)`, else the word that says what the node is; `nowhere`
-// where its name is known.
+// The word of a node at which a name stands that is not known: that of σ in `(Constant σ)` and `(Variable σ)`, else the word that says what the node
+// is; `nowhere` where its name is known.
 pub fn unknown_word(
     known: bool,
     lexemes: &[u64],

@@ -1,5 +1,6 @@
 //! The table of names: 66 bytes for each, its sort, its length, and its bytes with zeros behind them.
 use forest::limits;
+use forest::search::same_bytes;
 use word_kinds::kinds::SYMBOL_BYTES;
 ghost use mathlib.Core.Path.{_≡_};
 ghost use Prim.Native.Nat.{_+_, _*_, _<_, _≤_};
@@ -45,17 +46,9 @@ fn is_name(names: &[u8], row: usize, word: &[u8]) -> bool
     ensures { λ r. ⌜ r ≡ sameBytes (nameIn (now (names .entry)) row) (now (word .entry)) ⌝ }
 {
     let at = ROW * row;
-    if names[at + 1] as usize != word.len() {
-        return false;
-    }
-    let mut k = 0;
-    while k < word.len() {
-        if names[at + 2 + k] != word[k] {
-            return false;
-        }
-        k += 1;
-    }
-    true
+    let start = at + 2;
+    let end = start + names[at + 1] as usize;
+    same_bytes(&names[start..end], word)
 }
 
 // The place of the word among the names in so many rows from a row on; past the last of them where it is none of them.

@@ -12,8 +12,9 @@ use Rattle.forest.proofs.Bools.{and-right}
 use Rattle.forest.proofs.Options.{passed}
 use Rattle.operators.specs.Operators.{Operands, Operator, operatorAt, operatorCount, operatorSort, operatorValue}
 use Rattle.operators.specs.Sorts.{cutting, joining, maxWidth, sortBy, width}
-use Rattle.operators.specs.code.Applying.{Applied, Joined, Operable, Width, Word, Words}
-use Rattle.operators.proofs.Rules.{cut, pair, vectors}
+use Rattle.operators.proofs.RuledOperands.{cut, pair, vectors}
+use Rattle.operators.specs.code.Operators.{Applied, Operable}
+use Rattle.operators.specs.code.Vectors.{Joined, Width, Word, Words}
 use Rattle.operators.proofs.Table.{past}
 
 -- The operands as `apply` has them: two widths and three values.

@@ -7,7 +7,7 @@ use lib.Arith.{digits-lt}
 use lib.Bits.{and-lt, or-lt, xor-lt}
 use lib.Dec.{eqb, ltb, lit<}
 use lib.Pow.{ones-lt, ones-sub-lt, pow-add, pow-pos, shr-le}
-use Rattle.operators.specs.code.Applying.{Joined, Words}
+use Rattle.operators.specs.code.Vectors.{Joined, Words}
 use Rattle.operators.specs.Values.{bvandValue, bvlshrValue, bvnotValue, bvorValue, bvshlValue, bvudivValue, bvuremValue, bvxorValue, concatValue, truth}
 
 -- Of two numbers below a bound either is below it.

@@ -14,11 +14,11 @@ use Rattle.operators.specs.Operators.{Operands, one, three, two, widthOf
 use Rattle.operators.specs.Operators.{operatorValue, operators, row}
 use Rattle.forest.proofs.Bools.{and-right}
 use Rattle.operators.specs.Sorts.{AllFit, Fit, choice, cutting, joining, sortBy, width}
-use Rattle.operators.specs.code.Applying.{Word, Words}
+use Rattle.operators.specs.code.Vectors.{Word, Words}
 use Rattle.operators.specs.Values.{concatValue, extractValue, holds, iteValue}
-use Rattle.operators.proofs.Below.{bvand-below, bvlshr-below, bvnot-below, bvor-below, bvshl-below, bvudiv-below, bvurem-below, bvxor-below, concat-below}
-use Rattle.operators.proofs.Below.{mod-below, truth-below}
-use Rattle.operators.proofs.Rules.{chosen, cut, givesBool, pair, truths, vectors, word-fits}
+use Rattle.operators.proofs.Below.{bvand-below, bvlshr-below, bvnot-below, bvor-below, bvshl-below, bvudiv-below, bvurem-below, bvxor-below}
+use Rattle.operators.proofs.Below.{concat-below, mod-below, truth-below}
+use Rattle.operators.proofs.RuledOperands.{chosen, cut, givesBool, pair, truths, vectors, word-fits}
 
 -- P holds of each of some things.
 abbrev Each : {A : Type 0} → (A → Type 0) → List A → Type 0

@@ -1,7 +1,7 @@
 pub mod Powers
 pub mod Table
 pub mod Naming
-pub mod Rules
+pub mod RuledOperands
 pub mod Applying
 pub mod Below
 pub mod Closed

@@ -9,7 +9,7 @@ use lib.Pow.{high, mod-mod-pow, ones-lt, ones-split, shl-exact, shl-lt, split}
 use mir.Facts.{fits-bits}
 use mir.Syntax.{w64}
 use mir.Val.{Fits}
-use Rattle.operators.specs.code.Applying.{Joined, Width, Word, Words}
+use Rattle.operators.specs.code.Vectors.{Joined, Width, Word, Words}
 use Rattle.operators.specs.Values.{bvnegValue, bvsubValue, concatValue}
 
 -- The largest number shifted down by 64 - n leaves n ones.

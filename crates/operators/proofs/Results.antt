@@ -9,9 +9,10 @@ use lib.ListN.{getD, length}
 use borrow.Author.Tests.{leb-true, ltb-true}
 use Rattle.forest.proofs.Options.{never, passed}
 use Rattle.operators.specs.Operators.{operatorAt, operatorCount, operatorSort}
-use Rattle.operators.specs.Sorts.{SortRule, allAre, bool, choice, cutting, equality, joining, logic, maxWidth, order, ruleNumber, sortBy, vector, width}
-use Rattle.operators.specs.code.Applying.{ResultSort, Sortable}
-use Rattle.operators.proofs.Rules.{both, givesBool, ruled, truths}
+use Rattle.operators.specs.Sorts.{SortRule, allAre, bool, choice, cutting, equality, joining, logic, maxWidth, order, sortBy, vector, width}
+use Rattle.operators.specs.code.RuleNumbers.{ruleNumber}
+use Rattle.operators.proofs.RuledOperands.{both, givesBool, ruled, truths}
+use Rattle.operators.specs.code.Operators.{ResultSort, Sortable}
 
 -- The rule of a number.
 abbrev pub ruleAt : ℕ → SortRule
@@ -27,8 +28,13 @@ rule-at order = refl
 rule-at joining = refl
 rule-at cutting = refl
 
+-- Rules of one number are one rule.
+pub rule-told : (one other : SortRule) → ruleNumber one ≡ ruleNumber other → one ≡ other
+rule-told one other e = rule-at one ∙ ap ruleAt e ∙ sym (rule-at other)
+
 -- A rule that has none of the numbers of the four others gives Bool.
-gives-bool : (rule : SortRule) → (ruleNumber rule ≡ 2 → ⊥) → (ruleNumber rule ≡ 3 → ⊥) → (ruleNumber rule ≡ 5 → ⊥) → (ruleNumber rule ≡ 6 → ⊥)
+gives-bool : (rule : SortRule) → (ruleNumber rule ≡ ruleNumber choice → ⊥) → (ruleNumber rule ≡ ruleNumber width → ⊥)
+    → (ruleNumber rule ≡ ruleNumber joining → ⊥) → (ruleNumber rule ≡ ruleNumber cutting → ⊥)
     → givesBool rule ≡ true
 gives-bool logic a b c d = refl
 gives-bool equality a b c d = refl
@@ -81,35 +87,36 @@ module _ {operator high low first second rule k : ℕ} (rule-is : rule ≡ ruleN
   by-number e = rw (rule-at (operatorAt operator .rule) ∙ ap ruleAt (sym rule-is ∙ number)) at (by-rule e)
 
   -- The result of the rule `choice`.
-  pub chosen-result : k ≡ 2 → ResultSort operator high low first second second
+  pub chosen-result : k ≡ ruleNumber choice → ResultSort operator high low first second second
   chosen-result q e = e .sort-two ∙ choice-sort high low (e .sorts) (rw q at (by-number e))
 
   -- The result of the rule `width`.
-  pub width-result : k ≡ 3 → ResultSort operator high low first second first
+  pub width-result : k ≡ ruleNumber width → ResultSort operator high low first second first
   width-result q e = e .sort-one ∙ width-sort high low (e .sorts) (rw q at (by-number e))
 
   -- The result of the rule `joining`.
-  pub joined-result : k ≡ 5 → ResultSort operator high low first second (first + second)
+  pub joined-result : k ≡ ruleNumber joining → ResultSort operator high low first second (first + second)
   joined-result q e = rw (e .sort-one, e .sort-two) (joining-sort high low (e .sorts) (rw q at (by-number e)) .0)
 
   -- It is at most 64.
-  pub joined-narrow : k ≡ 5 → Sortable operator high low first second → first + second ≤ maxWidth
+  pub joined-narrow : k ≡ ruleNumber joining → Sortable operator high low first second → first + second ≤ maxWidth
   joined-narrow q e = rw (e .sort-one, e .sort-two) (joining-sort high low (e .sorts) (rw q at (by-number e)) .1)
 
   -- The result of the rule `cutting`.
-  pub cut-result : k ≡ 6 → ResultSort operator high low first second (high - low + 1)
+  pub cut-result : k ≡ ruleNumber cutting → ResultSort operator high low first second (high - low + 1)
   cut-result q e = cutting-sort high low (e .sorts) (rw q at (by-number e)) .0
 
   -- Its numbers are in order.
-  pub cut-order : k ≡ 6 → Sortable operator high low first second → low ≤ high
+  pub cut-order : k ≡ ruleNumber cutting → Sortable operator high low first second → low ≤ high
   cut-order q e = cutting-sort high low (e .sorts) (rw q at (by-number e)) .1
 
   -- They are below the width.
-  pub cut-below : k ≡ 6 → Sortable operator high low first second → high < first
+  pub cut-below : k ≡ ruleNumber cutting → Sortable operator high low first second → high < first
   cut-below q e = rw (e .sort-one) (cutting-sort high low (e .sorts) (rw q at (by-number e)) .2)
 
 -- Any other rule gives Bool.
 pub bool-result : {operator high low first second rule : ℕ} → rule ≡ ruleNumber (operatorAt operator .rule)
-    → (rule ≡ 2 → ⊥) → (rule ≡ 3 → ⊥) → (rule ≡ 5 → ⊥) → (rule ≡ 6 → ⊥) → ResultSort operator high low first second 0
+    → (rule ≡ ruleNumber choice → ⊥) → (rule ≡ ruleNumber width → ⊥) → (rule ≡ ruleNumber joining → ⊥) → (rule ≡ ruleNumber cutting → ⊥)
+    → ResultSort operator high low first second 0
 bool-result {operator} {high} {low} q a b c d e =
     truths (operatorAt operator .rule) (gives-bool (operatorAt operator .rule) (rw q at a) (rw q at b) (rw q at c) (rw q at d)) high low (e .sorts) (by-rule e)

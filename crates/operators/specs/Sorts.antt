@@ -75,13 +75,3 @@ sortBy joining i j (s ∷ []) = none
 sortBy joining i j [] = none
 sortBy cutting i j (s ∷ more) = when (leb j i && ltb i s) (i - j + 1)
 sortBy cutting i j [] = none
-
--- The number of a rule in the operator table.
-abbrev pub ruleNumber : SortRule → ℕ
-ruleNumber logic = 0
-ruleNumber equality = 1
-ruleNumber choice = 2
-ruleNumber width = 3
-ruleNumber order = 4
-ruleNumber joining = 5
-ruleNumber cutting = 6

@@ -1,1 +1,3 @@
-pub mod Applying
+pub mod Operators
+pub mod Vectors
+pub mod RuleNumbers

@@ -1,4 +1,11 @@
 //! The operator table: names, operand counts and sort rules as constant arrays, and the value of an operator by its number.
+use crate::rules::CHOICE;
+use crate::rules::CUTTING;
+use crate::rules::EQUALITY;
+use crate::rules::JOINING;
+use crate::rules::LOGIC;
+use crate::rules::ORDER;
+use crate::rules::WIDTH;
 use crate::truth::and_of;
 use crate::truth::bvult;
 use crate::truth::distinct;
@@ -22,132 +29,109 @@ use crate::vectors::bvurem;
 use crate::vectors::bvxor;
 use crate::vectors::concat;
 use crate::vectors::extract;
+use forest::search::find_word;
 ghost use mathlib.Core.Path.{_≡_};
-ghost use Prim.Native.Nat.{_<_};
-ghost use Rattle.forest.specs.Lists.{sameBytes, spelling};
-ghost use Rattle.operators.specs.Operators.{operatorAt, operatorCount, operatorOf};
-ghost use Rattle.operators.specs.Sorts.{ruleNumber};
-ghost use Rattle.operators.specs.code.Applying.{Applied, Operable, ResultSort, Sortable};
+ghost use Rattle.operators.specs.Operators.{operatorAt, operatorOf};
+ghost use Rattle.operators.specs.code.RuleNumbers.{ruleNumber};
+ghost use Rattle.operators.specs.code.Operators.{Applied, Operable, ResultSort, Sortable};
 
 // How many operators there are; also the number that stands for none.
 pub const OPERATORS: usize = 23;
 
-// The names of the operators, one after the other, and where each starts; the last number is where the last name ends.
+// The last operator, `(_ extract i j)`.
+pub const EXTRACT: usize = OPERATORS - 1;
+
+// The names of the operators, one after the other.
 const NAMES: [u8; 105] =
     *b"notandorxor=>=distinctitebvnotbvnegbvandbvorbvxorbvaddbvsubbvmulbvudivbvurembvshlbvlshrbvultconcatextract";
 
-const STARTS: [usize; 24] = [
-    0,
-    3,
-    6,
-    8,
-    11,
-    13,
-    14,
-    22,
-    25,
-    30,
-    35,
-    40,
-    44,
-    49,
-    54,
-    59,
-    64,
-    70,
-    76,
-    81,
-    87,
-    92,
-    98,
+// Where the name of each operator starts; the last number is where the last name ends.
+const STARTS: [usize; OPERATORS + 1] = [
+    0, // not
+    3, // and
+    6, // or
+    8, // xor
+    11, // =>
+    13, // =
+    14, // distinct
+    22, // ite
+    25, // bvnot
+    30, // bvneg
+    35, // bvand
+    40, // bvor
+    44, // bvxor
+    49, // bvadd
+    54, // bvsub
+    59, // bvmul
+    64, // bvudiv
+    70, // bvurem
+    76, // bvshl
+    81, // bvlshr
+    87, // bvult
+    92, // concat
+    98, // extract
     105,
 ];
 
 // How many operands each operator has.
-const OPERANDS: [usize; 23] = [
-    1,
-    2,
-    2,
-    2,
-    2,
-    2,
-    2,
-    3,
-    1,
-    1,
-    2,
-    2,
-    2,
-    2,
-    2,
-    2,
-    2,
-    2,
-    2,
-    2,
-    2,
-    2,
-    1,
+const OPERANDS: [usize; OPERATORS] = [
+    1, // not
+    2, // and
+    2, // or
+    2, // xor
+    2, // =>
+    2, // =
+    2, // distinct
+    3, // ite
+    1, // bvnot
+    1, // bvneg
+    2, // bvand
+    2, // bvor
+    2, // bvxor
+    2, // bvadd
+    2, // bvsub
+    2, // bvmul
+    2, // bvudiv
+    2, // bvurem
+    2, // bvshl
+    2, // bvlshr
+    2, // bvult
+    2, // concat
+    1, // extract
 ];
 
 // The sort rule of each operator.
-const RULES: [u64; 23] = [
-    0,
-    0,
-    0,
-    0,
-    0,
-    1,
-    1,
-    2,
-    3,
-    3,
-    3,
-    3,
-    3,
-    3,
-    3,
-    3,
-    3,
-    3,
-    3,
-    3,
-    4,
-    5,
-    6,
+const RULES: [u64; OPERATORS] = [
+    LOGIC, // not
+    LOGIC, // and
+    LOGIC, // or
+    LOGIC, // xor
+    LOGIC, // =>
+    EQUALITY, // =
+    EQUALITY, // distinct
+    CHOICE, // ite
+    WIDTH, // bvnot
+    WIDTH, // bvneg
+    WIDTH, // bvand
+    WIDTH, // bvor
+    WIDTH, // bvxor
+    WIDTH, // bvadd
+    WIDTH, // bvsub
+    WIDTH, // bvmul
+    WIDTH, // bvudiv
+    WIDTH, // bvurem
+    WIDTH, // bvshl
+    WIDTH, // bvlshr
+    ORDER, // bvult
+    JOINING, // concat
+    CUTTING, // extract
 ];
-
-// Whether a word is the name of an operator.
-fn is_name(operator: usize, word: &[u8]) -> bool
-    requires { ⌜ operator < operatorCount ⌝ }
-    ensures { λ r. ⌜ r ≡ sameBytes (spelling (operatorAt operator .name)) (now (word .entry)) ⌝ }
-{
-    let start = STARTS[operator];
-    if word.len() != STARTS[operator + 1] - start {
-        return false;
-    }
-    let mut k = 0;
-    while k < word.len() {
-        if NAMES[start + k] != word[k] {
-            return false;
-        }
-        k += 1;
-    }
-    true
-}
 
 // The number of the operator that a word names; past the last operator where it names none.
 pub fn operator_of(word: &[u8]) -> usize
     ensures { λ r. ⌜ r ≡ operatorOf (now (word .entry)) ⌝ }
 {
-    let mut operator = 0;
-    while operator < OPERATORS {
-        if is_name(operator, word) {
-            return operator;
-        }
-        operator += 1;
-    }
-    operator
+    find_word(&NAMES, &STARTS, word)
 }
 
 // How many operands an operator has; 0 past the last operator.
@@ -180,10 +164,10 @@ pub fn result_sort(operator: usize, high: u64, low: u64, first: u64, second: u64
 {
     let rule = rule_of(operator);
     match rule {
-        2 => second,
-        3 => first,
-        5 => first + second,
-        6 => high - low + 1,
+        CHOICE => second,
+        WIDTH => first,
+        JOINING => first + second,
+        CUTTING => high - low + 1,
         _ => 0,
     }
 }

@@ -1,7 +1,7 @@
 //! The operators on bit vectors: numbers below 2^width, where the width is from 1 to 64.
 ghost use mathlib.Core.Path.{_≡_};
 ghost use Prim.Native.Nat.{_*_, _-_, _%_, _^_, _<_, _≤_};
-ghost use Rattle.operators.specs.code.Applying.{Joined, Width, Word, Words};
+ghost use Rattle.operators.specs.code.Vectors.{Joined, Width, Word, Words};
 ghost use Rattle.operators.specs.Values.{bvaddValue, bvandValue, bvlshrValue, bvmulValue, bvnegValue, bvnotValue, bvorValue};
 ghost use Rattle.operators.specs.Values.{bvshlValue, bvsubValue, bvudivValue, bvuremValue, bvxorValue, concatValue, extractValue};
 

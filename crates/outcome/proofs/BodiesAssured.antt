@@ -1,10 +1,9 @@
 -- The bodies of a response that passes have their functions' sorts, where all `define-fun`s are seen.
 use mathlib.Core.List.{List, [], _∷_, map}
 use mathlib.Core.Path.{_≡_}
-use Rattle.terms.specs.Sorts.{FunctionsSorted, signatures}
+use Rattle.terms.specs.code.Sorted.{FunctionsSorted, signatures}
 use Rattle.names.specs.Scopes.{Defined, Function, signatureOf}
-use Rattle.script.specs.Script.{Known}
-use Rattle.script.specs.code.Tables.{definitionsOf}
+use Rattle.script.specs.Script.{Known, definitionsOf}
 use Rattle.script.specs.Response.{Body, inScriptOrder}
 use Rattle.outcome.specs.Derived.{termsOf}
 use Rattle.outcome.specs.Evaluated.{functionsWith}

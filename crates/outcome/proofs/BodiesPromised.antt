@@ -23,7 +23,7 @@ use Rattle.names.specs.Scopes.{Named, View, definedNames, formsOf, functionName
 use Rattle.term_faults.specs.Faults.{bodyFault, oneSort, rawSorts, scopeOf, termFault}
 use Rattle.script.specs.Script.{labelOf, termOf, termsIn}
 use Rattle.script.proofs.WordsBelow.{WordsBelow, no-fault}
-use Rattle.script.proofs.Terms.{AllWritten, Written, also-written, none-written, terms-written}
+use Rattle.script.proofs.TermsOfForms.{AllWritten, Written, also-written, terms-written}
 
 -- What a node stands for, or nothing, has the sort of the label that it is read as, where no non-terminal is seen.
 record Labelled (scope : Scope) (meant : Option Item) : Type 0 where

@@ -24,9 +24,9 @@ use Rattle.evaluation.specs.Running.{isTrue}
 use Rattle.evaluation.specs.declared.PointList.the-variants.{Good}
 use Rattle.names.specs.Scopes.{Defined, Function, namedSorts}
 use Rattle.term_faults.specs.Faults.{scopeOf}
-use Rattle.script.specs.Script.{Known, constraintView}
-use Rattle.script.specs.code.Tables.{definitionsOf}
-use Rattle.outcome.specs.Sorted.{AllBool, AllRulesSorted, grammarScope}
+use Rattle.script.specs.Script.{Known, constraintView, definitionsOf}
+use Rattle.outcome.specs.Sorted.{grammarScope}
+use Rattle.outcome.specs.code.Sorted.{AllBool, AllRulesSorted}
 use Rattle.outcome.proofs.Sorted.{derived-sorted, rules-derive}
 use Rattle.script.specs.Response.{Body, inScriptOrder}
 use Rattle.script.specs.Outcome.{said, scriptOutcome}

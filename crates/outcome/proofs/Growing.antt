@@ -7,11 +7,13 @@ use mathlib.Core.Option.{some}
 use mathlib.Core.Path.{_≡_}
 use lib.ListN.{length}
 use Rattle.terms.specs.Labels.{Terms}
-use Rattle.terms.specs.Sorts.{AllSorted, BodySorted, Scope, sortsOf as termSorts}
+use Rattle.terms.specs.Sorts.{Scope, sortsOf as termSorts}
+use Rattle.terms.specs.code.Sorted.{AllSorted, BodySorted}
 use Rattle.names.specs.Scopes.{Defined, Function, Named, signatureOf}
 use Rattle.term_faults.specs.Faults.{scopeOf}
 use Rattle.script.specs.Script.{Known, constraintView}
-use Rattle.outcome.specs.Sorted.{AllBool, AllRulesSorted, RulesSorted, Sorted, grammarScope}
+use Rattle.outcome.specs.Sorted.{grammarScope}
+use Rattle.outcome.specs.code.Sorted.{AllBool, AllRulesSorted, RulesSorted, Sorted}
 use Rattle.outcome.proofs.Widening.{bool-wider, wider-defined, wider-functions, wider-names}
 
 -- No function has more `define-fun`s before it than there are.

@@ -1,9 +1,9 @@
 pub mod Widening
 pub mod BodiesPromised
 pub mod Rules
-pub mod Commands
+pub mod OneCommand
 pub mod Growing
-pub mod After
+pub mod AfterCommand
 pub mod Sorted
 pub mod Areas
 pub mod Stages

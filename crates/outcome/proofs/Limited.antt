@@ -19,7 +19,7 @@ use Rattle.term_nodes.specs.Rules.{Ruled, rulePast, rulesIn, rulesOf}
 use Rattle.derivation.specs.Derivation.{formOf}
 use Rattle.names.specs.Scopes.{View, formsOf as formIn}
 use Rattle.script.proofs.WordsBelow.{Below, inside-below, item-below, sort-narrow}
-use Rattle.script.proofs.Terms.{terms-written}
+use Rattle.script.proofs.TermsOfForms.{terms-written}
 use Rattle.outcome.proofs.Rules.{AllPlaced, also, no-rule, said}
 use Rattle.outcome.proofs.Proper.{AllBounded, also-bounded, none-bounded, terms-bounded}
 

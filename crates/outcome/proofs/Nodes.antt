@@ -6,7 +6,8 @@ use mathlib.Core.List.{List, [], _∷_, _++_}
 use mathlib.Core.Option.{some}
 use mathlib.Core.Path.{_≡_, refl}
 use lib.ListN.{length}
-use Rattle.forest.specs.Forest.{Forest, Node, nodesOf, none, size, tree}
+use Rattle.forest.specs.Forest.{Forest, Node, nodesOf, none, tree}
+use Rattle.forest.specs.code.Cursors.{size}
 use Rattle.forest.proofs.Nodes.{length-nodes}
 use Rattle.forest.proofs.Options.{never}
 use Rattle.operators.specs.Operators.{operatorSort}
@@ -19,7 +20,7 @@ use Rattle.names.specs.Scopes.{View, formsOf, itemOr, means}
 use Rattle.term_faults.proofs.Rising.{first-raw}
 use Rattle.script.specs.Script.{labelOf, termOf, termsIn}
 use Rattle.script.proofs.WordsBelow.{Below, WordsBelow}
-use Rattle.script.proofs.Terms.{term-size}
+use Rattle.script.proofs.TermsOfForms.{term-size}
 
 -- All nodes count, and their first words are below nowhere.
 data AllCounted (nowhere : ℕ) : List (Node Raw) → Type 0 where

@@ -7,11 +7,11 @@ use Rattle.words.specs.Reading.{readingOf}
 use Rattle.words.specs.Limits.{scriptLimits}
 use Rattle.words.specs.declared.Reading.{Reading}
 use Rattle.words.specs.declared.Reading.the-variants.{Whole, Refused}
-use Rattle.lexemes.specs.code.Standing.{itemsOf}
-use Rattle.lexemes.proofs.Wholes.{text-stands}
+use Rattle.lexemes.specs.Lists.{itemsOf}
+use Rattle.lexemes.proofs.WholeText.{text-stands}
 use Rattle.forest.specs.Limits.{allowed}
 use Rattle.script.specs.Script.{Known, Read, passed, readAll, refused, nothingKnown}
-use Rattle.outcome.specs.Sorted.{Sorted}
+use Rattle.outcome.specs.code.Sorted.{Sorted}
 use Rattle.outcome.proofs.Sorted.{passed-sorted}
 use Rattle.script.specs.Outcome.{ScriptOutcome, byCommands, byWords, said, scriptOutcome}
 

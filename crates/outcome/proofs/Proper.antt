@@ -16,14 +16,15 @@ use Rattle.operators.specs.Sorts.{maxWidth, valuesOf}
 use Rattle.terms.specs.Labels.{Label, defined, function, literal, name, operator}
 use Rattle.terms.specs.code.Nodes.{Plain}
 use Rattle.terms.specs.Sorts.{labelSort}
-use Rattle.terms.proofs.Parts.{parts}
+use Rattle.terms.proofs.EachOfTrees.{parts}
 use Rattle.terms.proofs.Sorted.{joining}
-use Rattle.derivation.specs.Derivation.{Item, Proper, anyArgument, anyLiteral, nonTerminal, the}
+use Rattle.derivation.specs.Derivation.{Item, anyArgument, anyLiteral, nonTerminal, the}
+use Rattle.derivation.specs.code.Admitted.{Proper}
 use Rattle.lexemes.specs.Reserved.{isWord}
 use Rattle.term_sorts.specs.Forms.{FormScope, formSorts, itemSort}
 use Rattle.term_nodes.specs.Terms.{Raw, constant, cut, number, pattern, word}
 use Rattle.names.specs.Scopes.{View, definedNames, formsOf, functionNames, isNamed, itemOr, means, namesOf, symbolMeans}
-use Rattle.script.proofs.Terms.{AllWritten, Written, also-written}
+use Rattle.script.proofs.TermsOfForms.{AllWritten, Written, also-written}
 
 -- The numbers of an item that its sort does not tell are small: j of `(_ extract i j)`, and σ of `(Constant σ)` and `(Variable σ)`.
 abbrev pub Bounded : Item → Type 0

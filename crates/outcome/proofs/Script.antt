@@ -6,7 +6,8 @@ use mathlib.Core.List.{List, [], _∷_}
 use mathlib.Core.Path.{_≡_}
 use lib.ListN.{length, length-map}
 use Rattle.forest.specs.Forest.{count}
-use Rattle.derivation.specs.Derivation.{Admitted, formOf}
+use Rattle.derivation.specs.Derivation.{formOf}
+use Rattle.derivation.specs.code.Admitted.{Admitted}
 use Rattle.lexemes.specs.Lists.{Items, inside}
 use Rattle.term_nodes.specs.Rules.{itemPast, rulePast, rulesIn}
 use Rattle.written_sorts.specs.Written.{grammarSorts, groupPlace, leastIn, pairPlace}
@@ -19,8 +20,9 @@ use Rattle.script.specs.Script.{Known, knownAfter, limitPlace, viewOf}
 use Rattle.script.proofs.WordsBelow.{Below, inside-below}
 use Rattle.names.proofs.PairNames.{named-long}
 use Rattle.script.proofs.Within.{items-few, past-neither, past-none}
-use Rattle.outcome.specs.Sorted.{AllRulesSorted, RulesSorted, grammarScope}
-use Rattle.outcome.proofs.Commands.{Command, Tests, another, command, constraining, declaring, defining, synthesizing}
+use Rattle.outcome.specs.Sorted.{grammarScope}
+use Rattle.outcome.specs.code.Sorted.{AllRulesSorted, RulesSorted}
+use Rattle.outcome.proofs.OneCommand.{Command, Tests, another, command, constraining, declaring, defining, synthesizing}
 use Rattle.outcome.proofs.Rules.{groups-placed}
 use Rattle.script.specs.Outcome.{said, scriptOutcome}
 use Rattle.script.proofs.Keeping.{script-keeps}

@@ -10,7 +10,8 @@ use lib.ListN.{length, length-map}
 use borrow.Author.Tests.{lt-ltb, ltb-false}
 use Rattle.forest.specs.Forest.{none, tree}
 use Rattle.terms.specs.Labels.{Terms}
-use Rattle.terms.specs.Sorts.{AllSorted, sortOver, sortsOf as termSorts, withSort}
+use Rattle.terms.specs.Sorts.{sortOver, sortsOf as termSorts, withSort}
+use Rattle.terms.specs.code.Sorted.{AllSorted}
 use Rattle.derivation.specs.Derivation.{Derives, nonTerminal}
 use Rattle.derivation.specs.Sorts.{formSorts, itemSort}
 use Rattle.derivation.proofs.Sorts.{derived-sorts}
@@ -23,9 +24,10 @@ use Rattle.shapes.specs.Shapes.{commandShape}
 use Rattle.forest.specs.Limits.{Counts}
 use Rattle.script.specs.Script.{Known, Read, andThen, grammarPlace, judged, tested, knownAfter, limitPlace, namePlace, outOfPlace, passed, readAll, refused}
 use Rattle.script.specs.Script.{sortingPlace, nothingKnown}
-use Rattle.outcome.specs.Sorted.{AllBool, AllRulesSorted, RulesSorted, Sorted, grammarScope}
-use Rattle.outcome.proofs.After.{after-command}
-use Rattle.outcome.proofs.Commands.{command}
+use Rattle.outcome.specs.Sorted.{grammarScope}
+use Rattle.outcome.specs.code.Sorted.{AllBool, AllRulesSorted, RulesSorted, Sorted}
+use Rattle.outcome.proofs.AfterCommand.{after-command}
+use Rattle.outcome.proofs.OneCommand.{command}
 use Rattle.outcome.proofs.Growing.{AllBefore, Sound}
 use Rattle.script.proofs.WordsBelow.{Below, stands-below}
 

@@ -6,15 +6,16 @@ use mathlib.Core.Option.{some}
 use mathlib.Core.Path.{_≡_, refl, ap, sym, subst, _∙_}
 use lib.ListN.{drop, length, take, take-append-drop}
 use Rattle.terms.specs.Labels.{Terms}
-use Rattle.terms.specs.Sorts.{BodySorted, Definition, FunctionsSorted, Scope, Signature, signatures, sortsOf as termSorts}
+use Rattle.terms.specs.Sorts.{Definition, Scope, Signature, sortsOf as termSorts}
+use Rattle.terms.specs.code.Sorted.{BodySorted, FunctionsSorted, signatures}
 use Rattle.terms.specs.Values.{sortsIn}
 use Rattle.terms.specs.declared.Value.{Value}
 use Rattle.terms.proofs.Bodies.{sorts-more}
 use Rattle.terms.proofs.Sound.{pointScope}
 use Rattle.names.specs.Scopes.{Defined, Function, signatureOf, namedSorts}
 use Rattle.term_faults.specs.Faults.{scopeOf}
-use Rattle.script.specs.Script.{Known, constraintView}
-use Rattle.script.specs.code.Tables.{definedSignatures, definitionsOf}
+use Rattle.script.specs.Script.{Known, constraintView, definitionsOf}
+use Rattle.script.specs.code.Tables.{definedSignatures}
 use Rattle.script.specs.Response.{inScriptOrder, responseView}
 use Rattle.outcome.specs.Evaluated.{completed, functionsWith}
 

@@ -16,8 +16,7 @@ use Rattle.script.specs.Script.{Known}
 use Rattle.script.specs.Response.{Body}
 use Rattle.script.specs.Outcome.{ResponseOutcome, ScriptOutcome, given, responseOutcome, said, scriptOutcome}
 use Rattle.script.proofs.Numbers.{Numbered, inResponse, inScript, response-numbered, script-numbered}
-use Rattle.outcome.specs.Checked.{Checked, Passing, Judgement, judged, missized, refusal, response-refused, script-refused, sizeAnswer}
-use Rattle.outcome.specs.Checked.{unshown}
+use Rattle.outcome.specs.Checked.{Checked, Passing, Judgement, judged, missized, refusal, response-refused, script-refused, sizeAnswer, unshown}
 use Rattle.outcome.specs.Demands.{Showing, accepted, budget-ended, constraint-false}
 use Rattle.outcome.specs.Derived.{blankArea}
 use Rattle.outcome.specs.Evaluated.{ranOutcome}

@@ -10,8 +10,7 @@ use Rattle.evaluation.specs.Points.{pointsOf}
 use Rattle.evaluation.specs.declared.PointList.the-variants.{Good}
 use Rattle.evaluation.specs.declared.Ran.{Ran}
 use Rattle.names.specs.Scopes.{namedSorts}
-use Rattle.script.specs.Script.{Known}
-use Rattle.script.specs.code.Tables.{definitionsOf}
+use Rattle.script.specs.Script.{Known, definitionsOf}
 use Rattle.script.specs.Response.{Body}
 use Rattle.outcome.specs.Checked.{Checked, Passing, Judgement, evaluated, judged, missized, points-refused, response-refused, script-refused, underived}
 use Rattle.outcome.specs.Demands.{InOrder, Showing, UnitsStated}

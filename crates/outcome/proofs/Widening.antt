@@ -1,21 +1,20 @@
 -- Scopes that grow: a term that has a sort keeps it.
 use Prim.Native.Nat.{ℕ, _<_}
 use native.Mathlib.Omega.{arith}
-use mathlib.Core.Bool.{Bool, true, false, cond}
+use mathlib.Core.Bool.{Bool}
 use mathlib.Core.List.{List, [], _∷_, _++_}
-use mathlib.Core.Option.{Option, some}
+use mathlib.Core.Option.{some}
 use mathlib.Core.Path.{_≡_, refl, ap, _∙_}
-use lib.Dec.{eqb}
 use lib.ListN.{getD, length, length-append, List·getD-append}
-use borrow.Author.Tests.{eqb-true, lt-ltb, ltb-true, ne-eqb}
+use borrow.Author.Tests.{lt-ltb, ltb-true, ne-eqb}
 use Rattle.forest.specs.Forest.{none, tree}
 use Rattle.forest.proofs.Bools.{and-left}
-use Rattle.forest.proofs.Options.{never, passed}
+use Rattle.forest.proofs.Options.{passed}
 use Rattle.terms.specs.Labels.{Label, Terms, defined, function, literal, name, operator}
 use Rattle.terms.specs.Sorts.{Scope, Signature, calledSort, labelSort, sortsOf}
 use Rattle.terms.proofs.Bodies.{called-within}
 use Rattle.terms.proofs.Sorted.{sorted, sorts-tree}
-use Rattle.outcome.specs.Sorted.{AllBool}
+use Rattle.outcome.specs.code.Sorted.{AllBool}
 
 -- A call that has a sort where the ones are seen has it where the others are.
 abbrev pub Keeps : (fs gs : List Signature) → Type 0

@@ -7,7 +7,7 @@ use mathlib.Core.Path.{_≡_}
 use lib.Dec.{eqb, ltb}
 use lib.ListN.{length}
 use Rattle.words.specs.Limits.{responseLimits, scriptLimits}
-use Rattle.forest.specs.Limits.{areaSize}
+use Rattle.forest.specs.Limits.{areaSize, mostNumbers}
 use Rattle.evaluation.specs.Points.{pointsOf}
 use Rattle.evaluation.specs.declared.PointList.the-variants.{Good, Bad}
 use Rattle.names.specs.Scopes.{namedSorts}
@@ -17,7 +17,6 @@ use Rattle.script.specs.Outcome.{ResponseOutcome, ScriptOutcome, given, offsetO
 use Rattle.outcome.specs.Derived.{FirstUnderived, ListsShown, blankArea, shownArea, termsOf}
 use Rattle.outcome.specs.Evaluated.{ranOutcome, ranWith}
 use Rattle.outcome.specs.declared.Outcome.{Outcome}
-use Rattle.forest.specs.Limits.{mostNumbers}
 
 -- An answer that names a text and a place: its second number is 0, and it has no units.
 abbrev pub refusal : (number text place : ℕ) → Outcome

@@ -14,8 +14,7 @@ use Rattle.evaluation.specs.Points.{pointAt, pointsOf}
 use Rattle.evaluation.specs.Running.{isTrue}
 use Rattle.evaluation.specs.declared.PointList.the-variants.{Good}
 use Rattle.names.specs.Scopes.{namedSorts}
-use Rattle.script.specs.Script.{Known}
-use Rattle.script.specs.code.Tables.{definitionsOf}
+use Rattle.script.specs.Script.{Known, definitionsOf}
 use Rattle.script.specs.Response.{Body, inScriptOrder}
 use Rattle.script.specs.Outcome.{offsetOf}
 use Rattle.outcome.specs.Checked.{Passing, unshown}

@@ -7,8 +7,7 @@ use Rattle.evaluation.specs.Running.{runPoints}
 use Rattle.evaluation.specs.declared.Ran.{Ran}
 use Rattle.evaluation.specs.declared.Ran.the-variants.{Passed, False, Ended}
 use Rattle.names.specs.Scopes.{Function, signatureOf, namedSorts}
-use Rattle.script.specs.Script.{Known}
-use Rattle.script.specs.code.Tables.{definitionsOf}
+use Rattle.script.specs.Script.{Known, definitionsOf}
 use Rattle.script.specs.Response.{inScriptOrder}
 use Rattle.outcome.specs.declared.Outcome.{Outcome}
 

@@ -1,6 +1,6 @@
 //! What the checker answers for a script, a response, a list of points and a budget, and what follows from that.
 //! What holds of a script that passes: its rules, bodies and constraints have their sorts, and so has every term that its grammars derive.
-//! What is sure of a script and a response that pass: the sizes and sorts that the search for derivations and the evaluation rely on, and the tables that hold both.
+//! What is sure of a script and a response that pass: the sizes and sorts that the search for derivations and the evaluation rely on.
 
 ghost use mathlib.Core.Path.{_≡_};
 ghost use Rattle.outcome.specs.Checked.{refusal};

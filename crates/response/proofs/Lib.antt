@@ -1,8 +1,8 @@
-pub mod Parts
+pub mod BodyItem
 pub mod Picked
-pub mod Limits
-pub mod Comparing
-pub mod Taking
-pub mod Reading
-pub mod Turns
-pub mod Wholes
+pub mod ShapeAndLimits
+pub mod HeldToFunction
+pub mod BodyTaken
+pub mod ItemRead
+pub mod ListRead
+pub mod NoList

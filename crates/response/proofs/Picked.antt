@@ -4,20 +4,21 @@ use native.Mathlib.Numerals.{add-one}
 use native.Mathlib.Omega.{arith}
 use mathlib.Core.Path.{_≡_, refl, sym, ap, _∙_, subst}
 use mathlib.Core.List.{List, [], _∷_, _++_, map}
-use lib.ListN.{drop, getD, length, length-append, length-map}
+use lib.ListN.{drop, length, length-append, length-map}
 use lib.Seq.{drop-nil}
 use Rattle.forest.proofs.Lists.{within as below}
 use Rattle.terms.specs.Labels.{Terms}
 use Rattle.evaluation.specs.code.Tables.{TermStands}
-use Rattle.forest.specs.Limits.{mostDefined}
+use Rattle.forest.specs.Limits.{mostArguments}
 use Rattle.term_sorts.specs.code.Signatures.{RowIs, RowsAre}
 use Rattle.names.specs.Scopes.{Defined, Function, definedNames, functionNames, inOrder, namesOf, signatureOf, namedSorts}
 use Rattle.names.specs.code.Table.{nameIn, namesFrom, ownArgumentRow, sortsFrom}
-use Rattle.names.proofs.Putting.{last-row}
+use Rattle.names.proofs.NamePut.{last-row}
 use Rattle.script.specs.code.Tables.{ArgumentsHold, GrammarHeld, GrammarsHold, definedSignatures}
-use Rattle.script.specs.code.Places.{bodiesPlace, firstsPlace}
+use Rattle.script.specs.code.Places.{bodyIn, offsetIn}
+use Rattle.script.specs.Outcome.{offsetOf}
 use Rattle.script.specs.Response.{Body, inScriptOrder}
-use Rattle.response.specs.code.Responding.{ResponseAt}
+use Rattle.response.specs.code.Answers.{ResponseAt}
 
 -- The function is number j of functions that stand the last first.
 pub data At : (fs : List Function) → (j : ℕ) → Function → Type 0 where
@@ -74,7 +75,7 @@ last-same (a ∷ xs) (b ∷ ys) x y e =
 pub record Own (names : List ℕ) (j : ℕ) (f : Function) : Type 0 where
   pub names-are : namesFrom names (ownArgumentRow j) (length (f .arguments)) ≡ namesOf (f .arguments)
   pub sorts-are : sortsFrom names (ownArgumentRow j) (length (f .arguments)) ≡ namedSorts (f .arguments)
-  pub few : length (f .arguments) ≤ 8
+  pub few : length (f .arguments) ≤ mostArguments
 
 -- The last of names in rows, and those before it.
 names-last : (names : List ℕ) (r n : ℕ) (earlier : List (List ℕ)) (m : List ℕ) → namesFrom names r (suc n) ≡ inOrder (m ∷ earlier)
@@ -139,18 +140,18 @@ rows-before places base zero defs h = h
 rows-before places base (suc n) [] h = h
 rows-before places base (suc n) (d ∷ earlier) h = rows-before places base n earlier (h .1)
 
--- The body of function j begins at its node, and its first word stands in the table.
-pub record BodyAt (all : Terms) (places : List ℕ) (j : ℕ) (b : Body) : Type 0 where
-  pub begins : TermStands all (getD places (bodiesPlace + mostDefined + j) 0) (b .term)
-  pub first-is : getD places (firstsPlace + j) 0 ≡ b .first
+-- The body of function j begins at its node, and the offset of its first word stands in the table.
+pub record BodyAt (text : List ℕ) (all : Terms) (places : List ℕ) (j : ℕ) (b : Body) : Type 0 where
+  pub begins : TermStands all (bodyIn places j) (b .term)
+  pub offset-is : offsetIn places j ≡ offsetOf text (b .first)
 
 -- Of bodies from that of function m on, the one that has n before it.
-pub body-at : {all : Terms} {places : List ℕ} (m n j : ℕ) (bs : List Body) {b : Body} {more : List Body} → j ≡ m + n → ResponseAt all places m bs
-    → drop n bs ≡ b ∷ more → BodyAt all places j b
+pub body-at : {text : List ℕ} {all : Terms} {places : List ℕ} (m n j : ℕ) (bs : List Body) {b : Body} {more : List Body} → j ≡ m + n
+    → ResponseAt text all places m bs → drop n bs ≡ b ∷ more → BodyAt text all places j b
 unfolding ResponseAt
 body-at m n j [] {b} {more} e held is = absurd (omega (arith, below [] n b more is))
 body-at m zero j (c ∷ bs) {b} e held is =
     let same : c ≡ b = cc in
     let here : j ≡ m = omega arith in
-    rw (here, ← same) (record { begins = held .0; first-is = held .1 })
+    rw (here, ← same) (record { begins = held .0; offset-is = held .1 })
 body-at m (suc n) j (c ∷ bs) e held is = body-at (m + 1) n j bs (omega arith) (held .2) is

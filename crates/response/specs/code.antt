@@ -1,1 +1,4 @@
 pub mod Responding
+pub mod Answers
+pub mod Outlines
+pub mod Functions

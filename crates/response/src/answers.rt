@@ -1,19 +1,24 @@
 //! The `define-fun`s of a response, one after the other.
+use crate::Turn;
 use crate::functions::read_body;
 use crate::outlines::extra;
-use crate::outlines::verdict;
 use lexemes::OPEN;
 use lexemes::code_at;
-use lexemes::codes::FAIL;
-use lexemes::codes::INFEASIBLE;
+use lexemes::codes;
 use lexemes::next_at;
 use script::Progress;
 use script::Verdict;
+use script::answers::ACCEPTED;
+use script::answers::FAIL;
+use script::answers::HEADER;
+use script::answers::INFEASIBLE;
+use script::answers::SHAPE;
+use script::answers::verdict;
 ghost use mathlib.Core.Path.{_≡_};
 ghost use Rattle.lexemes.specs.code.Table.{codeAt, openCode};
-ghost use Rattle.response.specs.code.Responding.{AnyReading, ItemRead, Responded, Responding};
+ghost use Rattle.response.specs.code.Answers.{ItemAnswered, ItemAsked, Responding, Responds};
 
-// The item of a response's list at a word, before which there are so many functions and rows of their bodies.
+// The item of a response's list that is for the next function.
 fn read_item(
     text: &[u8],
     lexemes: &[u64],
@@ -21,36 +26,19 @@ fn read_item(
     raw: &mut [u64],
     places: &mut [u64],
     nodes: &mut [u64],
-    progress: Progress,
-    at: usize,
-    close: usize,
-    function: usize,
-    rows: usize,
-    nowhere: usize,
+    turn: Turn,
 ) -> Verdict
-    requires { ⌜ AnyReading (now text) (now lexemes) (now names) (now raw) (now places) (now nodes) progress at close function rows nowhere ⌝ }
-    ensures { λ r. ⌜ ((a : AnyReading (now (text .entry)) (now (lexemes .entry)) (now (names .entry)) (now (raw .entry)) (now (places .entry)) (now (nodes .entry)) progress at close function rows nowhere) → ItemRead a (now (places .exit)) (now (nodes .exit)) r) ⌝ }
+    requires { ⌜ ItemAsked (now text) (now lexemes) (now names) (now raw) (now places) (now nodes) turn ⌝ }
+    ensures { λ r. ⌜ ItemAnswered (now (text .entry)) (now (lexemes .entry)) (now (names .entry)) (now (raw .entry)) (now (places .entry))
+        (now (nodes .entry)) turn (now (places .exit)) (now (nodes .exit)) r ⌝ }
 {
-    if code_at(lexemes, at) != OPEN {
-        return verdict(5, at, 0);
+    if code_at(lexemes, turn.at) != OPEN {
+        return verdict(SHAPE, turn.at, 0);
     }
-    if function == progress.functions {
-        return extra(lexemes, raw, at, nowhere);
+    if turn.function == turn.progress.functions {
+        return extra(lexemes, raw, turn.at, turn.nowhere);
     }
-    let base = progress.nodes + rows;
-    read_body(
-        text,
-        lexemes,
-        names,
-        raw,
-        places,
-        nodes,
-        progress,
-        at,
-        function,
-        base,
-        nowhere,
-    )
+    read_body(text, lexemes, names, raw, places, nodes, turn)
 }
 
 // The items of the list that a response is, each for the next function, and what stands behind it.
@@ -66,28 +54,24 @@ fn read_list(
 ) -> Verdict
     requires { ⌜ Responding (now text) (now lexemes) (now names) (now raw) (now places) (now nodes) progress nowhere ⌝ }
     requires { ⌜ codeAt (now lexemes) 0 ≡ openCode ⌝ }
-    ensures { λ r. ⌜ ((q : Responding (now (text .entry)) (now (lexemes .entry)) (now (names .entry)) (now (raw .entry)) (now (places .entry)) (now (nodes .entry)) progress nowhere) → Responded q (now (places .exit)) (now (nodes .exit)) r) ⌝ }
+    ensures { λ r. ⌜ Responds (now (text .entry)) (now (lexemes .entry)) (now (names .entry)) (now (raw .entry)) (now (places .entry))
+        (now (nodes .entry)) progress nowhere (now (places .exit)) (now (nodes .exit)) r ⌝ }
 {
     let close = next_at(lexemes, 0) - 1;
     let mut at = 1;
     let mut function = 0;
     let mut rows = 0;
     while at < close {
-        let read = read_item(
-            text,
-            lexemes,
-            names,
-            raw,
-            places,
-            nodes,
+        let base = progress.nodes + rows;
+        let turn = Turn {
             progress,
             at,
-            close,
             function,
-            rows,
+            base,
             nowhere,
-        );
-        if read.number != 0 {
+        };
+        let read = read_item(text, lexemes, names, raw, places, nodes, turn);
+        if read.number != ACCEPTED {
             return read;
         }
         at = next_at(lexemes, at);
@@ -95,12 +79,12 @@ fn read_list(
         rows += read.rows;
     }
     if function < progress.functions {
-        return verdict(12, close, rows);
+        return verdict(HEADER, close, rows);
     }
     if close + 1 < nowhere {
-        return verdict(5, close + 1, rows);
+        return verdict(SHAPE, close + 1, rows);
     }
-    verdict(0, nowhere, rows)
+    verdict(ACCEPTED, nowhere, rows)
 }
 
 // Reads a response of so many words to a script whose tables are given; its bodies stand in the tables where it passes.
@@ -115,20 +99,21 @@ pub fn read_response(
     nowhere: usize,
 ) -> Verdict
     requires { ⌜ Responding (now text) (now lexemes) (now names) (now raw) (now places) (now nodes) progress nowhere ⌝ }
-    ensures { λ r. ⌜ ((q : Responding (now (text .entry)) (now (lexemes .entry)) (now (names .entry)) (now (raw .entry)) (now (places .entry)) (now (nodes .entry)) progress nowhere) → Responded q (now (places .exit)) (now (nodes .exit)) r) ⌝ }
+    ensures { λ r. ⌜ Responds (now (text .entry)) (now (lexemes .entry)) (now (names .entry)) (now (raw .entry)) (now (places .entry))
+        (now (nodes .entry)) progress nowhere (now (places .exit)) (now (nodes .exit)) r ⌝ }
 {
     if nowhere == 0 {
-        return verdict(5, nowhere, 0);
+        return verdict(SHAPE, nowhere, 0);
     }
     let code = code_at(lexemes, 0);
     if code == OPEN {
         return read_list(text, lexemes, names, raw, places, nodes, progress, nowhere);
     }
-    if (code == FAIL) & (nowhere == 1) {
-        return verdict(10, 0, 0);
+    if (code == codes::FAIL) & (nowhere == 1) {
+        return verdict(FAIL, 0, 0);
     }
-    if (code == INFEASIBLE) & (nowhere == 1) {
-        return verdict(11, 0, 0);
+    if (code == codes::INFEASIBLE) & (nowhere == 1) {
+        return verdict(INFEASIBLE, 0, 0);
     }
-    verdict(5, 0, 0)
+    verdict(SHAPE, 0, 0)
 }

@@ -1,42 +1,40 @@
 //! The `define-fun` of a response that is for a function of the script.
+use crate::Turn;
 use crate::outlines::body_word;
 use crate::outlines::outline;
-use crate::outlines::verdict;
 use bodies::read::body_names;
 use bodies::read::body_sort;
+use forest::limits::ARGUMENTS;
 use forest::numbers::least;
 use headers::compare::header_differs;
+use lexemes::start_at;
 use names::Seen;
+use names::Target;
 use names::table::OWN_ARGUMENTS;
 use script::Progress;
 use script::Verdict;
+use script::answers::ACCEPTED;
+use script::answers::HEADER;
+use script::answers::NAME;
+use script::answers::SORT;
+use script::answers::verdict;
+use script::places::arguments_of;
+use script::places::defined_before;
+use script::places::put_body;
+use script::places::result_of;
 ghost use Prim.Native.Nat.{_<_};
 ghost use mathlib.Core.Path.{_≡_};
-ghost use lib.ListN.{length};
-ghost use Rattle.script.specs.code.Places.{placesLength};
-ghost use Rattle.response.specs.code.Responding.{Answering, Comparing, Matched, Taken, seenBy};
-
-// Where the signatures of functions begin, ten numbers for each.
-const SIGNATURES: usize = 320;
-
-// Where the nodes at which their bodies begin stand.
-const BODIES: usize = 592;
-
-// Where their numbers begin, four for each; the last is how many `define-fun`s stand before the function.
-const NUMBERS: usize = 664;
-
-// Where the first words of their bodies stand.
-const FIRSTS: usize = 2744;
+ghost use Rattle.forest.specs.Limits.{mostFunctions};
+ghost use Rattle.response.specs.code.Functions.{TurnAsked, TurnGathered, TurnMatched, TurnTaken, seenBy};
 
 // What the body for a function sees: its arguments, and the `define-fun`s before it.
 fn seen_by(places: &[u64], progress: Progress, function: usize) -> Seen
-    requires { ⌜ function < 8 ⌝ }
-    requires { ⌜ length (now places) ≡ placesLength ⌝ }
+    requires { ⌜ function < mostFunctions ⌝ }
     ensures { λ r. ⌜ r ≡ seenBy (now (places .entry)) progress function ⌝ }
 {
-    let first = OWN_ARGUMENTS + 8 * function;
-    let names = places[SIGNATURES + 10 * function] as usize;
-    let before = places[NUMBERS + 4 * function + 3] as usize;
+    let first = OWN_ARGUMENTS + ARGUMENTS * function;
+    let names = arguments_of(places, function);
+    let before = defined_before(places, function);
     let defined = least(before, progress.defined);
     Seen {
         first,
@@ -47,7 +45,7 @@ fn seen_by(places: &[u64], progress: Progress, function: usize) -> Seen
     }
 }
 
-// 12, 7 and 8 of the `define-fun` at a word for a function, the nodes of whose body are gathered; writes the terms that they are from row `base` on.
+// 12, 7 and 8 of the `define-fun` of a turn, the nodes of whose body are gathered in so many rows; writes the terms that they are.
 fn held_to(
     text: &[u8],
     lexemes: &[u64],
@@ -55,44 +53,47 @@ fn held_to(
     raw: &mut [u64],
     places: &[u64],
     nodes: &mut [u64],
-    progress: Progress,
-    at: usize,
-    function: usize,
+    turn: Turn,
     rows: usize,
-    base: usize,
-    nowhere: usize,
 ) -> Verdict
-    requires { ⌜ Comparing (now text) (now lexemes) (now names) (now raw) (now places) (now nodes) progress at function rows base nowhere ⌝ }
-    ensures { λ r. ⌜ ((q : Comparing (now (text .entry)) (now (lexemes .entry)) (now (names .entry)) (now (raw .entry)) (now (places .entry)) (now (nodes .entry)) progress at function rows base nowhere) → Matched q (now (nodes .exit)) r) ⌝ }
+    requires { ⌜ TurnGathered (now text) (now lexemes) (now names) (now raw) (now places) (now nodes) turn rows ⌝ }
+    ensures { λ r. ⌜ TurnMatched (now (text .entry)) (now (lexemes .entry)) (now (names .entry)) (now (raw .entry)) (now (places .entry))
+        (now (nodes .entry)) turn rows (now (nodes .exit)) r ⌝ }
 {
-    let arguments = places[SIGNATURES + 10 * function] as usize;
-    let result = places[SIGNATURES + 10 * function + 1];
+    let nowhere = turn.nowhere;
+    let arguments = arguments_of(places, turn.function);
+    let result = result_of(places, turn.function);
     let header = header_differs(
         text,
         lexemes,
         names,
-        at,
-        function,
+        turn.at,
+        turn.function,
         arguments,
         result,
         nowhere,
     );
     if header < nowhere {
-        return verdict(12, header, rows);
+        return verdict(HEADER, header, rows);
     }
-    let seen = seen_by(places, progress, function);
-    let name = body_names(text, lexemes, names, raw, nodes, seen, rows, base, nowhere);
+    let seen = seen_by(places, turn.progress, turn.function);
+    let target = Target {
+        count: rows,
+        base: turn.base,
+        nowhere,
+    };
+    let name = body_names(text, lexemes, names, raw, nodes, seen, target);
     if name < nowhere {
-        return verdict(7, name, rows);
+        return verdict(NAME, name, rows);
     }
-    let sort = body_sort(raw, nodes, places, rows, base, result, nowhere);
+    let sort = body_sort(raw, nodes, places, rows, turn.base, result, nowhere);
     if sort < nowhere {
-        return verdict(8, sort, rows);
+        return verdict(SORT, sort, rows);
     }
-    verdict(0, sort, rows)
+    verdict(ACCEPTED, sort, rows)
 }
 
-// The `define-fun` at a word for a function: its body stands in the tables, from row `base` on, where it passes.
+// The `define-fun` of a turn: where it passes its body stands in the tables, and with it the offset of the body's first word.
 pub fn read_body(
     text: &[u8],
     lexemes: &[u64],
@@ -100,17 +101,14 @@ pub fn read_body(
     raw: &mut [u64],
     places: &mut [u64],
     nodes: &mut [u64],
-    progress: Progress,
-    at: usize,
-    function: usize,
-    base: usize,
-    nowhere: usize,
+    turn: Turn,
 ) -> Verdict
-    requires { ⌜ Answering (now text) (now lexemes) (now names) (now raw) (now places) (now nodes) progress at function base nowhere ⌝ }
-    ensures { λ r. ⌜ ((q : Answering (now (text .entry)) (now (lexemes .entry)) (now (names .entry)) (now (raw .entry)) (now (places .entry)) (now (nodes .entry)) progress at function base nowhere) → Taken q (now (places .exit)) (now (nodes .exit)) r) ⌝ }
+    requires { ⌜ TurnAsked (now text) (now lexemes) (now names) (now raw) (now places) (now nodes) turn ⌝ }
+    ensures { λ r. ⌜ TurnTaken (now (text .entry)) (now (lexemes .entry)) (now (names .entry)) (now (raw .entry)) (now (places .entry))
+        (now (nodes .entry)) turn (now (places .exit)) (now (nodes .exit)) r ⌝ }
 {
-    let outlined = outline(lexemes, raw, at, nowhere);
-    if outlined.number != 0 {
+    let outlined = outline(lexemes, raw, turn.at, turn.nowhere);
+    if outlined.number != ACCEPTED {
         return outlined;
     }
     let held = held_to(
@@ -120,18 +118,13 @@ pub fn read_body(
         raw,
         places,
         nodes,
-        progress,
-        at,
-        function,
+        turn,
         outlined.rows,
-        base,
-        nowhere,
     );
-    if held.number != 0 {
+    if held.number != ACCEPTED {
         return held;
     }
-    let first = body_word(lexemes, at);
-    places[BODIES + function] = base as u64;
-    places[FIRSTS + function] = first as u64;
+    let offset = start_at(lexemes, body_word(lexemes, turn.at));
+    put_body(places, turn.function, turn.base, offset);
     held
 }

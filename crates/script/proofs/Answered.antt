@@ -12,45 +12,45 @@ use Rattle.terms.specs.Labels.{Terms}
 use Rattle.terms.specs.code.Nodes.{nodeTable}
 use Rattle.term_sorts.specs.code.Signatures.{functionSignature}
 use Rattle.names.specs.Scopes.{Defined, Function, signatureOf}
-use Rattle.script.specs.Script.{Known}
-use Rattle.script.specs.code.Tables.{GrammarHeld, GrammarsHold, PlacesHold, definitionsOf}
-use Rattle.script.specs.code.Places.{bodiesPlace, constraintsPlace, firstsPlace, functionBodiesPlace, functionWidth, functionsPlace, rulesPlace}
-use Rattle.script.proofs.Nodes.{Grown, bodies-wider, constraints-wider, nodes-grow, rows-elsewhere, rows-grown}
+use Rattle.script.specs.Script.{Known, definitionsOf}
+use Rattle.script.specs.code.Tables.{GrammarHeld, GrammarsHold, PlacesHold}
+use Rattle.script.specs.code.Places.{constraintsPlace, functionBodiesPlace, functionWidth, functionsPlace, rulesPlace, offsetsPlace}
+use Rattle.script.proofs.OneTermMore.{Grown, bodies-wider, constraints-wider, nodes-grow, rows-elsewhere, rows-grown}
 use Rattle.terms.proofs.Bodies.{plain-join}
 
 -- The numbers of two tables of places are the same, but for those of the bodies of functions.
 pub record SamePlaces (places placesAfter : List ℕ) : Type 0 where
   pub long : length placesAfter ≡ length places
   pub front : (n : ℕ) → n < functionBodiesPlace → getD placesAfter n 0 ≡ getD places n 0
-  pub middle : (n : ℕ) → constraintsPlace ≤ n → n < firstsPlace → getD placesAfter n 0 ≡ getD places n 0
+  pub middle : (n : ℕ) → constraintsPlace ≤ n → n < offsetsPlace → getD placesAfter n 0 ≡ getD places n 0
 
 -- A table in which nothing is put.
 pub same-places : {places : List ℕ} → SamePlaces places places
 same-places = record { long = refl; front = λ n h. refl; middle = λ n l h. refl }
 
-module _ (places : List ℕ) {placesAfter : List ℕ} (j node first : ℕ) (low : j < mostFunctions)
-    (put : placesAfter ≡ set (set places (functionBodiesPlace + j) node) (firstsPlace + j) first) where
+module _ (places : List ℕ) {placesAfter : List ℕ} (j node offset : ℕ) (low : j < mostFunctions)
+    (put : placesAfter ≡ set (set places (functionBodiesPlace + j) node) (offsetsPlace + j) offset) where
   -- A number other than the two that are put is what it was.
-  pub other-place : (n : ℕ) → (n ≡ functionBodiesPlace + j → ⊥) → (n ≡ firstsPlace + j → ⊥) → getD placesAfter n 0 ≡ getD places n 0
+  pub other-place : (n : ℕ) → (n ≡ functionBodiesPlace + j → ⊥) → (n ≡ offsetsPlace + j → ⊥) → getD placesAfter n 0 ≡ getD places n 0
   other-place n one other =
-      rw put (getD-set-other (set places (functionBodiesPlace + j) node) (firstsPlace + j) n first 0 other ∙ getD-set-other places
+      rw put (getD-set-other (set places (functionBodiesPlace + j) node) (offsetsPlace + j) n offset 0 other ∙ getD-set-other places
       (functionBodiesPlace + j) n node 0 one)
 
   -- The first of them is the node.
   pub node-put : functionBodiesPlace + j < length places → getD placesAfter (functionBodiesPlace + j) 0 ≡ node
   node-put h =
-      rw put (getD-set-other (set places (functionBodiesPlace + j) node) (firstsPlace + j) (functionBodiesPlace + j) first 0 (λ e. omega arith)
+      rw put (getD-set-other (set places (functionBodiesPlace + j) node) (offsetsPlace + j) (functionBodiesPlace + j) offset 0 (λ e. omega arith)
       ∙ getD-set-same places (functionBodiesPlace + j) node 0 h)
 
-  -- The other is the first word.
-  pub first-put : firstsPlace + j < length places → getD placesAfter (firstsPlace + j) 0 ≡ first
-  first-put h =
-      rw put (getD-set-same (set places (functionBodiesPlace + j) node) (firstsPlace + j) first 0 (omega (arith, length-set places (functionBodiesPlace + j) node)))
+  -- The other is the offset.
+  pub offset-put : offsetsPlace + j < length places → getD placesAfter (offsetsPlace + j) 0 ≡ offset
+  offset-put h =
+      rw put (getD-set-same (set places (functionBodiesPlace + j) node) (offsetsPlace + j) offset 0 (omega (arith, length-set places (functionBodiesPlace + j) node)))
 
   -- Where the two are put for one of the functions, the others are the same.
   pub body-places : SamePlaces places placesAfter
   body-places = record {
-    long = ap length put ∙ length-set (set places (functionBodiesPlace + j) node) (firstsPlace + j) first ∙ length-set places (functionBodiesPlace + j) node;
+    long = ap length put ∙ length-set (set places (functionBodiesPlace + j) node) (offsetsPlace + j) offset ∙ length-set places (functionBodiesPlace + j) node;
     front = λ n h. other-place n (λ e. omega arith) (λ e. omega arith);
     middle = λ n l h. other-place n (λ e. omega arith) (λ e. omega arith);
   }

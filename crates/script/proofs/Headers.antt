@@ -12,7 +12,7 @@ use Rattle.lexemes.specs.Lists.{Items, inside, item}
 use Rattle.written_sorts.specs.Written.{leastIn, pairPlace, sortOf}
 use Rattle.written_sorts.specs.declared.Fault.the-variants.{TooWide}
 use Rattle.term_nodes.specs.Rules.{itemPast}
-use Rattle.names.specs.code.NewNames.{AllNarrow}
+use Rattle.names.specs.code.New.{AllNarrow}
 use Rattle.headers.specs.Heads.{headerPast}
 use Rattle.forest.specs.Limits.{allowed}
 use Rattle.script.proofs.WordsBelow.{Below, inside-below, item-below, sort-narrow}

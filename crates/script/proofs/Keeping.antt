@@ -12,9 +12,8 @@ use Rattle.words.specs.Trees.{wordOf}
 use Rattle.words.specs.Limits.{scriptLimits}
 use Rattle.words.specs.declared.Reading.{Reading}
 use Rattle.words.specs.declared.Reading.the-variants.{Whole, Refused}
-use Rattle.lexemes.specs.Lists.{Items, isList}
-use Rattle.lexemes.specs.code.Standing.{itemsOf}
-use Rattle.lexemes.proofs.Wholes.{text-stands}
+use Rattle.lexemes.specs.Lists.{Items, isList, itemsOf}
+use Rattle.lexemes.proofs.WholeText.{text-stands}
 use Rattle.shapes.specs.Carried.{notCarried}
 use Rattle.shapes.specs.Shapes.{commandShape}
 use Rattle.forest.specs.Limits.{allowed}

@@ -17,8 +17,7 @@ use Rattle.words.specs.Limits.{responseLimits, scriptLimits}
 use Rattle.words.specs.declared.Limits.{Limits}
 use Rattle.words.specs.declared.Reading.{Reading}
 use Rattle.words.specs.declared.Reading.the-variants.{Whole, Refused}
-use Rattle.lexemes.specs.Lists.{Items, inside, is, isList, item}
-use Rattle.lexemes.specs.code.Standing.{itemsOf}
+use Rattle.lexemes.specs.Lists.{Items, inside, is, isList, item, itemsOf}
 use Rattle.shapes.specs.Carried.{anyUncarried, notCarried}
 use Rattle.shapes.specs.Shapes.{commandShape, defineFunShape}
 use Rattle.headers.specs.Tokens.{differing, headerOf, headerTokens, wordsIn}

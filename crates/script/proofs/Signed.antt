@@ -13,7 +13,7 @@ use Rattle.operators.specs.Sorts.{maxWidth}
 use Rattle.terms.specs.Sorts.{Signature}
 use Rattle.term_sorts.specs.code.Signatures.{RowIs, RowsAre, allRows, signatureWidth}
 use Rattle.names.specs.code.Table.{sortsFrom}
-use Rattle.script.specs.code.Signing.{SignedIn, Signing, signatureRow}
+use Rattle.script.specs.code.Signatures.{SignedIn, Signing, signatureRow}
 use Rattle.script.proofs.Written.{before-written, behind-written, drop-written, read-written, take-written}
 
 -- there is a sort for each row

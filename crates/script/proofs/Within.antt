@@ -11,7 +11,8 @@ use Rattle.forest.specs.Forest.{count, join, tree}
 use Rattle.lexemes.specs.Lists.{Items, inside}
 use Rattle.lexemes.specs.code.Standing.{Source, Stands, bracketed, ends, word}
 use Rattle.lexemes.proofs.Standing.{forward}
-use Rattle.term_faults.specs.code.Seeking.{AllSingle, Rising}
+use Rattle.term_faults.specs.code.Bodies.{Rising}
+use Rattle.term_faults.specs.code.Grammars.{AllSingle}
 use Rattle.term_nodes.specs.Rules.{Ruled, itemPast, rulePast, sides}
 use Rattle.script.proofs.WordsBelow.{Below, item-below, no-fault}
 

@@ -10,7 +10,7 @@ use Rattle.words.specs.Answers.{faultNumber}
 use Rattle.words.specs.Limits.{responseLimits, scriptLimits}
 use Rattle.words.specs.declared.Reading.{Reading}
 use Rattle.words.specs.declared.Reading.the-variants.{Whole, Refused}
-use Rattle.lexemes.specs.code.Standing.{itemsOf}
+use Rattle.lexemes.specs.Lists.{itemsOf}
 use Rattle.forest.specs.Limits.{allowed}
 use Rattle.script.specs.Script.{Known, Read, passed, readAll, refused, nothingKnown}
 use Rattle.script.specs.Response.{Answered, Body, answered, bodies, inScriptOrder, refused as declined}

@@ -1,6 +1,6 @@
 -- Scripts: the order of commands and of their refusals, and what a script that passes says.
 use Prim.Native.Nat.{ℕ, min}
-use mathlib.Core.Bool.{Bool, true, false, cond, _&&_, _||_, not}
+use mathlib.Core.Bool.{Bool, false, cond, _&&_, _||_, not}
 use mathlib.Core.List.{List, [], _∷_, _++_, map}
 use lib.Dec.{eqb, ltb}
 use lib.ListN.{length}
@@ -182,3 +182,7 @@ readAll counts nowhere k none = cond (k .ended) (passed k) (refused 5 nowhere)
 readAll counts nowhere k (tree l c more) =
     let next : Known → Read = λ (later : Known). readAll counts nowhere later more in
     cond (isList l) (andThen (judged counts nowhere k (wordOf l) c (knownAfter k c)) next) (refused 5 (wordOf l))
+
+-- The definitions of `define-fun`s.
+abbrev pub definitionsOf : List Defined → List Definition
+definitionsOf ds = map (λ (d : Defined). d .definition) ds

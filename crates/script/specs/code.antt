@@ -1,3 +1,3 @@
-pub mod Signing
 pub mod Tables
 pub mod Places
+pub mod Signatures

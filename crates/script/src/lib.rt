@@ -1,6 +1,7 @@
 //! Scripts: what is known after each command, in tables.
 //! The table of signatures: ten numbers for each `define-fun`, synthesized function and non-terminal, how many arguments it has, its sort, and the sorts of its
 //! arguments.
+pub mod answers;
 pub mod places;
 pub mod signatures;
 

@@ -10,8 +10,9 @@ ghost use Prim.Native.Nat.{_+_, _*_, _≤_, _<_};
 ghost use lib.ListN.{drop, length, set};
 ghost use lib.Seq.{sets};
 ghost use Rattle.forest.specs.Limits.{mostConstraints, mostDefined, mostFunctions, mostRules};
-ghost use Rattle.script.specs.code.Places.{argumentsIn, beforeIn, bodiesPlace, bodyIn, constraintsOf, constraintsPlace, firstIn, firstsPlace, formRowsIn};
-ghost use Rattle.script.specs.code.Places.{formsIn, functionBodiesPlace, functionWidth, functionsPlace, ownRules, placesLength, resultIn, ruleCountIn, rulesOf};
+ghost use Rattle.script.specs.code.Places.{argumentsIn, beforeIn, bodiesPlace, bodyIn, constraintsOf, constraintsPlace, formRowsIn, formsIn};
+ghost use Rattle.script.specs.code.Places.{functionBodiesPlace, functionWidth, functionsPlace, offsetIn, offsetsPlace, ownRules, placesLength};
+ghost use Rattle.script.specs.code.Places.{resultIn, ruleCountIn, rulesOf};
 
 // Where the numbers of bodies begin, behind the rows of signatures: those of `define-fun`s, then those of synthesized functions.
 const BODIES: usize = signatures::ROW * signatures::ROWS;
@@ -31,11 +32,11 @@ const RULES: usize = NUMBERS + NUMBER_ROW * limits::FUNCTIONS;
 
 pub const OWN_RULES: usize = derivation::rules::RULE * limits::RULES;
 
-// Where the first words of their bodies begin.
-const FIRSTS: usize = RULES + OWN_RULES * limits::FUNCTIONS;
+// Where the offsets of the first words of their bodies begin.
+const OFFSETS: usize = RULES + OWN_RULES * limits::FUNCTIONS;
 
 // How many numbers the table has.
-pub const PLACES: usize = FIRSTS + limits::FUNCTIONS;
+pub const PLACES: usize = OFFSETS + limits::FUNCTIONS;
 
 // How many arguments a synthesized function has.
 pub fn arguments_of(places: &[u64], function: usize) -> usize
@@ -99,12 +100,12 @@ pub fn defined_before(places: &[u64], function: usize) -> usize
     entry_at(places, NUMBERS + NUMBER_ROW * function + 3) as usize
 }
 
-// The first word of the body of a synthesized function.
-pub fn first_of(places: &[u64], function: usize) -> usize
+// The offset of the first word of the body of a synthesized function.
+pub fn offset_of(places: &[u64], function: usize) -> usize
     requires { ⌜ function < mostFunctions ⌝ }
-    ensures { λ r. ⌜ r ≡ firstIn (now (places .entry)) function ⌝ }
+    ensures { λ r. ⌜ r ≡ offsetIn (now (places .entry)) function ⌝ }
 {
-    entry_at(places, FIRSTS + function) as usize
+    entry_at(places, OFFSETS + function) as usize
 }
 
 // Where the rules of a synthesized function begin.
@@ -161,17 +162,17 @@ pub fn put_constraint(places: &mut [u64], constraint: usize, node: usize)
     put_entry(places, CONSTRAINTS + constraint, node as u64);
 }
 
-// Puts the node at which the body of a synthesized function begins, and the body's first word.
-pub fn put_body(places: &mut [u64], function: usize, node: usize, first: usize)
+// Puts the node at which the body of a synthesized function begins, and the offset of the body's first word.
+pub fn put_body(places: &mut [u64], function: usize, node: usize, offset: usize)
     requires { ⌜ function < mostFunctions ⌝ }
-    ensures { λ _. ⌜ now (places .exit) ≡ set (set (now (places .entry)) (functionBodiesPlace + function) node) (firstsPlace + function) first ⌝ }
+    ensures { λ _. ⌜ now (places .exit) ≡ set (set (now (places .entry)) (functionBodiesPlace + function) node) (offsetsPlace + function) offset ⌝ }
 {
     put_entry(places, FUNCTION_BODIES + function, node as u64);
-    put_entry(places, FIRSTS + function, first as u64);
+    put_entry(places, OFFSETS + function, offset as u64);
 }
 
-// Puts the numbers of a synthesized function: the row at which its forms begin, how many rows they take, how many rules it has, and how many `define-fun`s stand
-// before it.
+// Puts the numbers of a synthesized function: the row at which its forms begin, how many rows they take, how many rules it has, and how many `define-fun`s
+// stand before it.
 pub fn put_numbers(
     places: &mut [u64],
     function: usize,

@@ -5,7 +5,7 @@ use forest::limits::DEFINED;
 use forest::limits::FUNCTIONS;
 use names::table::NON_TERMINALS;
 use names::table::sort_in;
-ghost use Rattle.script.specs.code.Signing.{Listed, Listing, SignedIn, Signing};
+ghost use Rattle.script.specs.code.Signatures.{Listed, Listing, SignedIn, Signing};
 
 // How many numbers a row has.
 pub const ROW: usize = 2 + ARGUMENTS;

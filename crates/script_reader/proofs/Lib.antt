@@ -1,7 +1,7 @@
-pub mod Words
-pub mod After
-pub mod Judging
-pub mod Parts
-pub mod Testing
-pub mod Reading
-pub mod Walking
+pub mod CommandWords
+pub mod KnownAfter
+pub mod JudgedInOrder
+pub mod NodeTableParts
+pub mod TestedByCode
+pub mod CommandReading
+pub mod ScriptWalk

@@ -1,1 +1,4 @@
 pub mod Commands
+pub mod Command
+pub mod Scripts
+pub mod Progress

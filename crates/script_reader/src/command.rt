@@ -1,8 +1,8 @@
 //! Commands, each with its tests in their order.
 use crate::Step;
-use crate::steps::answer;
-use crate::steps::out_of_place;
-use crate::steps::step_by;
+use crate::progress::answer;
+use crate::progress::out_of_place;
+use crate::progress::step_by;
 use commands::constraint::constrain;
 use commands::declare_var::declare_var;
 use commands::define_fun::define_fun;
@@ -11,27 +11,19 @@ use lexemes::codes::CONSTRAINT;
 use lexemes::codes::DECLARE_VAR;
 use lexemes::codes::DEFINE_FUN;
 use lexemes::codes::SYNTH_FUN;
+use script::Command;
 use script::FORMS;
-use script::Progress;
 use script::Verdict;
+use script::answers::ACCEPTED;
+use script::answers::NOT_CARRIED;
+use script::answers::SHAPE;
+use script::answers::verdict;
 use shapes::carried::not_carried;
 use shapes::commands::command_shape;
 use synth_fun::command::synth_fun;
-ghost use mathlib.Core.Path.{_≡_};
-ghost use Rattle.script_reader.specs.code.Commands.{CommandRead, CommandTested, Commanded, Shaped};
+ghost use Rattle.script_reader.specs.code.Command.{Commanded, ReadsCommand, Shaped, TestsCommand};
 
-// The verdict of a command that says nothing but itself.
-fn passing(place: usize) -> Verdict
-    ensures { λ r. ⌜ r ≡ record { number = 0; place = place; rows = 0 } ⌝ }
-{
-    Verdict {
-        number: 0,
-        place: place,
-        rows: 0,
-    }
-}
-
-// Tests the command of the code at a word, which is of its shape: 4, 7, 8 and 9.
+// Tests the command of the code, which is of its shape: 4, 7, 8 and 9; one that says nothing but itself passes.
 fn test_command(
     text: &[u8],
     lexemes: &[u64],
@@ -39,16 +31,16 @@ fn test_command(
     raw: &mut [u64],
     places: &mut [u64],
     nodes: &mut [u64],
-    progress: Progress,
+    command: Command,
     code: u64,
-    at: usize,
-    nowhere: usize,
 ) -> Verdict
-    requires { ⌜ Shaped (now text) (now lexemes) (now names) (now raw) (now places) (now nodes) progress code at nowhere ⌝ }
-    ensures { λ r. ⌜ ((c : Shaped (now (text .entry)) (now (lexemes .entry)) (now (names .entry)) (now (raw .entry)) (now (places .entry)) (now (nodes .entry)) progress code at nowhere) → CommandTested c (now (names .exit)) (now (raw .exit)) (now (places .exit)) (now (nodes .exit)) r) ⌝ }
+    requires { ⌜ Shaped (now text) (now lexemes) (now names) (now raw) (now places) (now nodes)
+        (command .progress) code (command .at) (command .nowhere) ⌝ }
+    ensures { λ r. ⌜ TestsCommand (now (text .entry)) (now (lexemes .entry)) (now (names .entry)) (now (raw .entry)) (now (places .entry)) (now (nodes .entry))
+        command code (now (names .exit)) (now (raw .exit)) (now (places .exit)) (now (nodes .exit)) r ⌝ }
 {
     match code {
-        DECLARE_VAR => declare_var(text, lexemes, names, progress, at, nowhere),
+        DECLARE_VAR => declare_var(text, lexemes, names, command),
         DEFINE_FUN => define_fun(
             text,
             lexemes,
@@ -56,9 +48,7 @@ fn test_command(
             raw,
             places,
             &mut nodes[..FORMS],
-            progress,
-            at,
-            nowhere,
+            command,
         ),
         SYNTH_FUN => synth_fun(
             text,
@@ -67,9 +57,7 @@ fn test_command(
             raw,
             places,
             &mut nodes[FORMS..],
-            progress,
-            at,
-            nowhere,
+            command,
         ),
         CONSTRAINT => constrain(
             text,
@@ -78,15 +66,13 @@ fn test_command(
             raw,
             places,
             &mut nodes[..FORMS],
-            progress,
-            at,
-            nowhere,
+            command,
         ),
-        _ => passing(at),
+        _ => verdict(ACCEPTED, command.at, 0),
     }
 }
 
-// Reads the command at a word: 6, 5, then 4, 7, 8 and 9 by its own tests.
+// Reads a command: 6, 5, then 4, 7, 8 and 9 by its own tests.
 pub fn read_command(
     text: &[u8],
     lexemes: &[u64],
@@ -94,31 +80,22 @@ pub fn read_command(
     raw: &mut [u64],
     places: &mut [u64],
     nodes: &mut [u64],
-    progress: Progress,
-    at: usize,
-    nowhere: usize,
+    command: Command,
 ) -> Step
-    requires { ⌜ Commanded (now text) (now lexemes) (now names) (now raw) (now places) (now nodes) progress at nowhere ⌝ }
-    ensures { λ r. ⌜ ((c : Commanded (now (text .entry)) (now (lexemes .entry)) (now (names .entry)) (now (raw .entry)) (now (places .entry)) (now (nodes .entry)) progress at nowhere) → CommandRead c (now (names .exit)) (now (raw .exit)) (now (places .exit)) (now (nodes .exit)) r) ⌝ }
+    requires { ⌜ Commanded (now text) (now lexemes) (now names) (now raw) (now places) (now nodes)
+        (command .progress) (command .at) (command .nowhere) ⌝ }
+    ensures { λ r. ⌜ ReadsCommand (now (text .entry)) (now (lexemes .entry)) (now (names .entry)) (now (raw .entry)) (now (places .entry)) (now (nodes .entry))
+        command (now (names .exit)) (now (raw .exit)) (now (places .exit)) (now (nodes .exit)) r ⌝ }
 {
+    let progress = command.progress;
+    let at = command.at;
     if not_carried(lexemes, at) {
-        return answer(6, at, progress);
+        return answer(NOT_CARRIED, at, progress);
     }
     let code = code_at(lexemes, at + 1);
     if !command_shape(lexemes, at) | out_of_place(progress, code) {
-        return answer(5, at, progress);
+        return answer(SHAPE, at, progress);
     }
-    let verdict = test_command(
-        text,
-        lexemes,
-        names,
-        raw,
-        places,
-        nodes,
-        progress,
-        code,
-        at,
-        nowhere,
-    );
-    step_by(progress, code, verdict)
+    let tested = test_command(text, lexemes, names, raw, places, nodes, command, code);
+    step_by(progress, code, tested)
 }

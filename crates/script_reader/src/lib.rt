@@ -1,7 +1,7 @@
 //! The reader of scripts: one command after the other, each refusal at its place, and the tables of a script that passes.
 pub mod command;
+mod progress;
 pub mod scripts;
-mod steps;
 
 use script::Progress;
 

@@ -1,16 +1,19 @@
 //! The commands of a script, one after the other.
 use crate::Step;
 use crate::command::read_command;
-use crate::steps::answer;
+use crate::progress::answer;
 use lexemes::OPEN;
 use lexemes::code_at;
 use lexemes::next_at;
+use script::Command;
 use script::Progress;
+use script::answers::ACCEPTED;
+use script::answers::SHAPE;
 ghost use mathlib.Core.Path.{_≡_};
-ghost use Rattle.script_reader.specs.code.Commands.{ScriptAt, ScriptRead, lastStep, nothingSaid};
+ghost use Rattle.script_reader.specs.code.Scripts.{ReadsScript, ScriptAt, lastStep, nothingSaid};
 
 // What is said before the first command.
-fn nothing_said() -> Progress
+pub fn nothing_said() -> Progress
     ensures { λ r. ⌜ r ≡ nothingSaid ⌝ }
 {
     Progress {
@@ -30,9 +33,9 @@ fn end_of_script(progress: Progress, nowhere: usize) -> Step
     ensures { λ r. ⌜ r ≡ lastStep nowhere (progress .ended) progress ⌝ }
 {
     if progress.ended {
-        return answer(0, nowhere, progress);
+        return answer(ACCEPTED, nowhere, progress);
     }
-    answer(5, nowhere, progress)
+    answer(SHAPE, nowhere, progress)
 }
 
 // Reads the commands of a script of so many words, up to the first faulty one.
@@ -46,25 +49,21 @@ pub fn read_script(
     nowhere: usize,
 ) -> Step
     requires { ⌜ ScriptAt (now text) (now lexemes) (now names) (now raw) (now places) (now nodes) nowhere ⌝ }
-    ensures { λ r. ⌜ ((p : ScriptAt (now (text .entry)) (now (lexemes .entry)) (now (names .entry)) (now (raw .entry)) (now (places .entry)) (now (nodes .entry)) nowhere) → ScriptRead p (now (names .exit)) (now (places .exit)) (now (nodes .exit)) r) ⌝ }
+    ensures { λ r. ⌜ ReadsScript (now (text .entry)) (now (lexemes .entry)) (now (names .entry)) (now (raw .entry)) (now (places .entry)) (now (nodes .entry))
+        nowhere (now (names .exit)) (now (places .exit)) (now (nodes .exit)) r ⌝ }
 {
     let mut progress = nothing_said();
     let mut at = 0;
     while at < nowhere {
         if code_at(lexemes, at) != OPEN {
-            return answer(5, at, progress);
+            return answer(SHAPE, at, progress);
         }
-        let step = read_command(
-            text,
-            lexemes,
-            names,
-            raw,
-            places,
-            nodes,
+        let command = Command {
             progress,
             at,
             nowhere,
-        );
+        };
+        let step = read_command(text, lexemes, names, raw, places, nodes, command);
         if step.number != 0 {
             return step;
         }

@@ -7,6 +7,7 @@ use mathlib.Core.List.{List, [], _∷_}
 use lib.Dec.{eqb}
 use borrow.Author.Tests.{eqb-true, ne-eqb}
 use Rattle.forest.specs.Forest.{count}
+use Rattle.lexemes.specs.code.Codes.{bangCode, bitVecCode, bvCode, existsCode, extractCode, forallCode, letCode, setLogicCode, synthFunCode, underscoreCode}
 use Rattle.lexemes.specs.Lists.{after, is}
 use Rattle.lexemes.specs.code.Table.{codeAt}
 use Rattle.lexemes.specs.code.Standing.{ListAt}
@@ -27,7 +28,8 @@ module _ {lexemes : List ℕ} {at : ℕ} where
 
   module _ {first : ℕ} (ef : first ≡ codeAt lexemes (at + 1)) {second : ℕ} (es : second ≡ codeAt lexemes (at + 2)) where
     pub start-test : (x : ListAt lexemes at)
-        → eqb first 42 || eqb first 43 || eqb first 44 || eqb first 41 || eqb first 40 && not (eqb second 39 || eqb second 69) ≡ uncarriedStart (x .operands)
+        → eqb first letCode || eqb first existsCode || eqb first forallCode || eqb first bangCode
+        || eqb first underscoreCode && not (eqb second bitVecCode || eqb second extractCode) ≡ uncarriedStart (x .operands)
     unfolding after codeFor
     start-test x =
         rw (
@@ -37,7 +39,7 @@ module _ {lexemes : List ℕ} {at : ℕ} where
           front-word "_" refl 0 (x .operands),
           front-words ("BitVec" ∷ "extract" ∷ []) refl 1 (x .operands),
         )
-        (ap (λ (t : Bool). eqb f 42 || eqb f 43 || eqb f 44 || eqb f 41 || t) (go (eqb f 40) refl))
+        (ap (λ (t : Bool). eqb f letCode || eqb f existsCode || eqb f forallCode || eqb f bangCode || t) (go (eqb f underscoreCode) refl))
       where
         f : ℕ
         f = frontCode (x .operands)
@@ -45,30 +47,31 @@ module _ {lexemes : List ℕ} {at : ℕ} where
         s : ℕ
         s = frontCode (after 1 (x .operands))
 
-        go : (b : Bool) → eqb f 40 ≡ b → b && not (eqb second 39 || eqb second 69) ≡ b && not (eqb s 39 || eqb s 69)
-        go true e = rw (es, second-code x (omega (arith, eqb-true f 40 e)))
+        go : (b : Bool) → eqb f underscoreCode ≡ b
+            → b && not (eqb second bitVecCode || eqb second extractCode) ≡ b && not (eqb s bitVecCode || eqb s extractCode)
+        go true e = rw (es, second-code x (omega (arith, eqb-true f underscoreCode e)))
         go false e = refl
 
     -- `set-logic` with another logic
-    pub logic-test : first ≡ 8 → {r : Bool} → ((x : ListAt lexemes at) → r ≡ setLogicShape (x .operands))
-        → (x : ListAt lexemes at) → r && not (eqb second 5) ≡ otherLogic (x .operands)
+    pub logic-test : first ≡ setLogicCode → {r : Bool} → ((x : ListAt lexemes at) → r ≡ setLogicShape (x .operands))
+        → (x : ListAt lexemes at) → r && not (eqb second bvCode) ≡ otherLogic (x .operands)
     unfolding after codeFor
     logic-test e8 known x =
-        let f : frontCode (x .operands) ≡ 8 = sym (first-code x) ∙ sym ef ∙ e8 in
+        let f : frontCode (x .operands) ≡ setLogicCode = sym (first-code x) ∙ sym ef ∙ e8 in
         rw (known x, es, second-code x (omega arith), front-word "set-logic" refl 0 (x .operands), front-word "BV" refl 1 (x .operands), f)
 
   module _ {first : ℕ} (ef : first ≡ codeAt lexemes (at + 1)) where
-    pub no-logic-test : (first ≡ 8 → ⊥) → (x : ListAt lexemes at) → false ≡ otherLogic (x .operands)
+    pub no-logic-test : (first ≡ setLogicCode → ⊥) → (x : ListAt lexemes at) → false ≡ otherLogic (x .operands)
     unfolding after codeFor
     no-logic-test other x =
-        rw (front-word "set-logic" refl 0 (x .operands), ← first-code x, ← ef, ne-eqb first 8 other)
+        rw (front-word "set-logic" refl 0 (x .operands), ← first-code x, ← ef, ne-eqb first setLogicCode other)
 
-    pub no-grammar-test : (first ≡ 11 → ⊥) → (x : ListAt lexemes at) → false ≡ noGrammar (x .operands)
+    pub no-grammar-test : (first ≡ synthFunCode → ⊥) → (x : ListAt lexemes at) → false ≡ noGrammar (x .operands)
     unfolding after codeFor
     no-grammar-test other x =
-        rw (front-word "synth-fun" refl 0 (x .operands), ← first-code x, ← ef, ne-eqb first 11 other)
+        rw (front-word "synth-fun" refl 0 (x .operands), ← first-code x, ← ef, ne-eqb first synthFunCode other)
 
     pub grammar-test : {n : ℕ} → ((x : ListAt lexemes at) → n ≡ count (x .operands))
-        → (x : ListAt lexemes at) → eqb first 11 && eqb n 4 ≡ noGrammar (x .operands)
+        → (x : ListAt lexemes at) → eqb first synthFunCode && eqb n 4 ≡ noGrammar (x .operands)
     unfolding after codeFor
     grammar-test counted x = rw (front-word "synth-fun" refl 0 (x .operands), ← first-code x, ← ef, counted x)

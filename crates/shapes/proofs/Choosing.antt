@@ -5,6 +5,7 @@ use mathlib.Core.Bool.{Bool, false, cond}
 use mathlib.Core.List.{List}
 use lib.Dec.{eqb}
 use borrow.Author.Tests.{ne-eqb}
+use Rattle.lexemes.specs.code.Codes.{checkSynthCode, constraintCode, declareVarCode, defineFunCode, setLogicCode, synthFunCode}
 use Rattle.lexemes.specs.Lists.{Items, after}
 use Rattle.lexemes.specs.code.Table.{codeAt}
 use Rattle.lexemes.specs.code.Standing.{ListAt}
@@ -15,12 +16,12 @@ use Rattle.shapes.specs.Shapes.{checkSynthShape, commandShape, constrain
 -- the shape of the command that a code names
 abbrev pub shapeBy : (code : ℕ) → Items → Bool
 shapeBy code F =
-    cond (eqb code 8) (setLogicShape F)
-    (cond (eqb code 9) (declareVarShape F)
-    (cond (eqb code 10) (defineFunShape F)
-    (cond (eqb code 11) (synthFunShape F)
-    (cond (eqb code 12) (constraintShape F)
-    (cond (eqb code 13) (checkSynthShape F)
+    cond (eqb code setLogicCode) (setLogicShape F)
+    (cond (eqb code declareVarCode) (declareVarShape F)
+    (cond (eqb code defineFunCode) (defineFunShape F)
+    (cond (eqb code synthFunCode) (synthFunShape F)
+    (cond (eqb code constraintCode) (constraintShape F)
+    (cond (eqb code checkSynthCode) (checkSynthShape F)
     false)))))
 
 by-word : (F : Items) → commandShape F ≡ shapeBy (frontCode F) F
@@ -43,13 +44,14 @@ module _ {lexemes : List ℕ} {at : ℕ} {command : ℕ} (ec : command ≡ codeA
   pub named-command : {code : ℕ} → command ≡ code → (x : ListAt lexemes at) → shapeBy code (x .operands) ≡ commandShape (x .operands)
   named-command e x = sym (by-word (x .operands) ∙ ap (λ (k : ℕ). shapeBy k (x .operands)) (front-is x ∙ e))
 
-  pub no-command : (command ≡ 8 → ⊥) → (command ≡ 9 → ⊥) → (command ≡ 10 → ⊥) → (command ≡ 11 → ⊥) → (command ≡ 12 → ⊥) → (command ≡ 13 → ⊥)
+  pub no-command : (command ≡ setLogicCode → ⊥) → (command ≡ declareVarCode → ⊥) → (command ≡ defineFunCode → ⊥)
+      → (command ≡ synthFunCode → ⊥) → (command ≡ constraintCode → ⊥) → (command ≡ checkSynthCode → ⊥)
       → (x : ListAt lexemes at) → false ≡ commandShape (x .operands)
   no-command n8 n9 n10 n11 n12 n13 x =
-      let e8 = ne-eqb command 8 n8 in
-      let e9 = ne-eqb command 9 n9 in
-      let e10 = ne-eqb command 10 n10 in
-      let e11 = ne-eqb command 11 n11 in
-      let e12 = ne-eqb command 12 n12 in
-      let e13 = ne-eqb command 13 n13 in
+      let e8 = ne-eqb command setLogicCode n8 in
+      let e9 = ne-eqb command declareVarCode n9 in
+      let e10 = ne-eqb command defineFunCode n10 in
+      let e11 = ne-eqb command synthFunCode n11 in
+      let e12 = ne-eqb command constraintCode n12 in
+      let e13 = ne-eqb command checkSynthCode n13 in
       rw (e8, e9, e10, e11, e12, e13) at (named-command refl x)

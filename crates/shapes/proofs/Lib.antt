@@ -1,8 +1,8 @@
-pub mod Parts
-pub mod Tests
+pub mod ListItems
+pub mod TestsByCode
 pub mod Shaped
 pub mod Every
-pub mod Walks
+pub mod TermWalk
 pub mod Choosing
 pub mod CarriedWalks
 pub mod CarriedTests

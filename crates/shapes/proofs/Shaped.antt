@@ -14,8 +14,8 @@ use Rattle.lexemes.specs.code.Standing.{Between, ItemAt, ListAt}
 use Rattle.lexemes.proofs.Listed.{as-list, between, is-list, list-from}
 use Rattle.shapes.specs.Shapes.{all, constraintShape, declareVarShape, defineFunShape, groupShape, headerShape, isPattern, isListOf, pairShape, ruleShape}
 use Rattle.shapes.specs.Shapes.{setLogicShape, sortShape, synthFunShape, termShape}
-use Rattle.shapes.specs.code.Items.{ItemOf}
-use Rattle.shapes.proofs.Parts.{not-so-many, part, so-many}
+use Rattle.shapes.specs.code.Lists.{ItemOf}
+use Rattle.shapes.proofs.ListItems.{not-so-many, part, so-many}
 
 -- a test says of an item whether it is of a shape
 abbrev Tells : (lexemes : List ℕ) → (at : ℕ) → (shape : Lexeme → Items → Bool) → Bool → Type 0

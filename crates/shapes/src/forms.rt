@@ -9,7 +9,7 @@ use crate::terms::term_shape;
 ghost use mathlib.Core.Path.{_≡_};
 ghost use Rattle.lexemes.specs.code.Standing.{ListAt};
 ghost use Rattle.shapes.specs.Shapes.{constraintShape, declareVarShape, headerShape, setLogicShape, synthFunShape};
-ghost use Rattle.shapes.specs.code.Items.{Long};
+ghost use Rattle.shapes.specs.code.Lists.{Long};
 
 // Whether the second to fourth items of a list that has so many are a function's name, arguments and sort.
 pub fn header_shape(lexemes: &[u64], at: usize) -> bool

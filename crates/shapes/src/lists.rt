@@ -9,7 +9,7 @@ ghost use Prim.Native.Nat.{_+_};
 ghost use Rattle.forest.specs.Forest.{count};
 ghost use Rattle.lexemes.specs.Lists.{isSymbol, item};
 ghost use Rattle.lexemes.specs.code.Standing.{ListAt};
-ghost use Rattle.shapes.specs.code.Items.{ItemOf, Long};
+ghost use Rattle.shapes.specs.code.Lists.{ItemOf, Long};
 
 // How many items a list holds.
 pub fn count_in(lexemes: &[u64], list: usize) -> usize

@@ -1,1 +1,5 @@
 pub mod Synthesizing
+pub mod Command
+pub mod NameTests
+pub mod SortTests
+pub mod Rows

@@ -1,24 +1,29 @@
 //! The test of the names of the command, before those of its sorts.
 use crate::Header;
+use crate::Parts;
 use crate::sort_tests::sorts_tested;
+use forest::limits::ARGUMENTS;
 use forest::numbers::least;
 use grammars::read::grammar_names;
 use headers::heads::head_names;
 use lexemes::items::count_items;
 use lexemes::next_at;
 use names::Scope;
+use names::Target;
 use names::table::OWN_ARGUMENTS;
-use script::Progress;
+use script::Command;
 use script::Verdict;
+use script::answers::NAME;
+use script::answers::verdict;
 use term_nodes::Gathered;
 use written_sorts::places::sort_of;
-ghost use Rattle.written_sorts.specs.code.Places.{SynthFunAt};
-ghost use Rattle.synth_fun.specs.code.Synthesizing.{Gathering, HeaderOf, NamesFound, Synthesized, Unnamed};
+ghost use Rattle.written_sorts.specs.code.Headers.{SynthFunAt};
+ghost use Rattle.synth_fun.specs.code.NameTests.{FindsNames, Gathering, ReadsHeader, TestsNames, Unnamed};
 
 // How many arguments and non-terminals the `synth-fun` at a word declares, and the sort of its result.
 fn header_of(lexemes: &[u64], at: usize) -> Header
     requires { ⌜ SynthFunAt (now lexemes) at ⌝ }
-    ensures { λ r. ⌜ ((p : SynthFunAt (now (lexemes .entry)) at) → HeaderOf (p .here .operands) r) ⌝ }
+    ensures { λ r. ⌜ ReadsHeader (now (lexemes .entry)) at r ⌝ }
 {
     let arguments = next_at(lexemes, at + 2);
     let result = next_at(lexemes, arguments);
@@ -41,37 +46,34 @@ fn names_place(
     names: &mut [u8],
     raw: &mut [u64],
     forms: &mut [u64],
-    progress: Progress,
+    command: Command,
     arguments: usize,
     rows: usize,
-    at: usize,
-    nowhere: usize,
 ) -> usize
-    requires { ⌜ Unnamed (now text) (now lexemes) (now names) (now raw) (now forms) progress arguments rows at nowhere ⌝ }
-    ensures { λ r. ⌜ ((u : Unnamed (now (text .entry)) (now (lexemes .entry)) (now (names .entry)) (now (raw .entry)) (now (forms .entry)) progress arguments rows at nowhere) → NamesFound u (now (names .exit)) (now (raw .exit)) (now (forms .exit)) r) ⌝ }
+    requires { ⌜ Unnamed (now text) (now lexemes) (now names) (now raw) (now forms) (command .progress) arguments rows
+        (command .at) (command .nowhere) ⌝ }
+    ensures { λ r. ⌜ FindsNames (now (text .entry)) (now (lexemes .entry)) (now (names .entry)) (now (raw .entry)) (now (forms .entry))
+        command arguments rows (now (names .exit)) (now (raw .exit)) (now (forms .exit)) r ⌝ }
 {
+    let at = command.at;
+    let nowhere = command.nowhere;
+    let progress = command.progress;
     let mut scope = Scope {
         variables: progress.variables,
         defined: progress.defined,
         functions: progress.functions,
-        first: OWN_ARGUMENTS + 8 * progress.functions,
+        first: OWN_ARGUMENTS + ARGUMENTS * progress.functions,
         arguments: 0,
     };
     let head = head_names(text, lexemes, names, scope, true, at, nowhere);
     scope.functions += 1;
     scope.arguments = arguments;
-    let grammar = grammar_names(
-        text,
-        lexemes,
-        names,
-        raw,
-        forms,
-        scope,
-        at,
-        rows,
-        progress.forms,
+    let target = Target {
+        count: rows,
+        base: progress.forms,
         nowhere,
-    );
+    };
+    let grammar = grammar_names(text, lexemes, names, raw, forms, scope, at, target);
     least(head, grammar)
 }
 
@@ -83,45 +85,28 @@ pub(crate) fn names_tested(
     raw: &mut [u64],
     places: &mut [u64],
     forms: &mut [u64],
-    progress: Progress,
+    command: Command,
     gathered: Gathered,
-    at: usize,
-    nowhere: usize,
 ) -> Verdict
-    requires { ⌜ Gathering (now text) (now lexemes) (now names) (now raw) (now places) (now forms) progress gathered at nowhere ⌝ }
-    ensures { λ r. ⌜ ((s : Gathering (now (text .entry)) (now (lexemes .entry)) (now (names .entry)) (now (raw .entry)) (now (places .entry)) (now (forms .entry)) progress gathered at nowhere) → Synthesized (s .given) (now (names .exit)) (now (raw .exit)) (now (places .exit)) (now (forms .exit)) r) ⌝ }
+    requires { ⌜ Gathering (now text) (now lexemes) (now names) (now raw) (now places) (now forms)
+        (command .progress) gathered (command .at) (command .nowhere) ⌝ }
+    ensures { λ r. ⌜ TestsNames (now (text .entry)) (now (lexemes .entry)) (now (names .entry)) (now (raw .entry)) (now (places .entry))
+        (now (forms .entry)) command gathered (now (names .exit)) (now (raw .exit)) (now (places .exit)) (now (forms .exit)) r ⌝ }
 {
-    let header = header_of(lexemes, at);
+    let header = header_of(lexemes, command.at);
     let place = names_place(
         text,
         lexemes,
         names,
         raw,
         forms,
-        progress,
+        command,
         header.arguments,
         gathered.row,
-        at,
-        nowhere,
     );
-    if place < nowhere {
-        return Verdict {
-            number: 7,
-            place,
-            rows: 0,
-        };
+    if place < command.nowhere {
+        return verdict(NAME, place, 0);
     }
-    sorts_tested(
-        text,
-        lexemes,
-        names,
-        raw,
-        places,
-        forms,
-        progress,
-        gathered,
-        header,
-        at,
-        nowhere,
-    )
+    let parts = Parts { header, gathered };
+    sorts_tested(text, lexemes, names, raw, places, forms, command, parts)
 }

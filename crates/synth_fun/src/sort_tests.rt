@@ -1,27 +1,23 @@
 //! The tests of the sorts of the command and of its grammar.
-use crate::Header;
-use crate::rows::RULES;
+use crate::Parts;
 use crate::rows::put_function;
+use bodies::read::no_sorts;
 use forest::numbers::least;
 use grammars::read::grammar_sorts;
 use grammars::read::lists_misfit;
-use script::Progress;
+use script::Command;
 use script::Verdict;
+use script::answers::ACCEPTED;
+use script::answers::GRAMMAR;
+use script::answers::SORT;
+use script::answers::verdict;
+use script::places::rules_place;
 use script::signatures::put_sorts;
 use term_faults::grammars::rules_misfit;
-use term_nodes::Gathered;
+use terms::ROW;
 use written_sorts::Fault;
 use written_sorts::headers::header_place;
-ghost use mathlib.Core.Path.{_≡_};
-ghost use Rattle.bodies.specs.code.Bodies.{noSorts};
-ghost use Rattle.synth_fun.specs.code.Synthesizing.{Synthesized, Unsorted};
-
-// The column of sorts before it is filled.
-fn no_sorts() -> [u64; 4096]
-    ensures { λ r. ⌜ r ≡ noSorts ⌝ }
-{
-    [0; 4096]
-}
+ghost use Rattle.synth_fun.specs.code.SortTests.{TestsSorts, Unsorted};
 
 // The tests of the sorts and of the grammar, where the names are in order; and what is known of the function, where they pass.
 pub(crate) fn sorts_tested(
@@ -31,54 +27,37 @@ pub(crate) fn sorts_tested(
     raw: &[u64],
     places: &mut [u64],
     forms: &[u64],
-    progress: Progress,
-    gathered: Gathered,
-    header: Header,
-    at: usize,
-    nowhere: usize,
+    command: Command,
+    parts: Parts,
 ) -> Verdict
-    requires { ⌜ Unsorted (now text) (now lexemes) (now names) (now raw) (now places) (now forms) progress gathered header at nowhere ⌝ }
-    ensures { λ r. ⌜ ((s : Unsorted (now (text .entry)) (now (lexemes .entry)) (now (names .entry)) (now (raw .entry)) (now (places .entry)) (now (forms .entry)) progress gathered header at nowhere) → Synthesized (s .given) (now (names .entry)) (now (raw .entry)) (now (places .exit)) (now (forms .entry)) r) ⌝ }
+    requires { ⌜ Unsorted (now text) (now lexemes) (now names) (now raw) (now places) (now forms)
+        (command .progress) (parts .gathered) (parts .header) (command .at) (command .nowhere) ⌝ }
+    ensures { λ r. ⌜ TestsSorts (now (text .entry)) (now (lexemes .entry)) (now (names .entry)) (now (raw .entry)) (now (places .entry))
+        (now (forms .entry)) command parts (now (places .exit)) r ⌝ }
 {
-    let base = 4 * progress.forms;
-    let first = RULES + 256 * progress.functions;
-    let row = gathered.row;
+    let at = command.at;
+    let nowhere = command.nowhere;
+    let listed = parts.header.listed;
+    let row = parts.gathered.row;
+    let own = &forms[ROW * command.progress.forms..];
+    let first = rules_place(command.progress.functions);
     let mut column = no_sorts();
-    put_sorts(names, places, header.listed);
+    put_sorts(names, places, listed);
     let head = header_place(lexemes, at, Fault::Empty, nowhere);
-    let own = &forms[base..];
     let within = grammar_sorts(lexemes, raw, own, places, &mut column, at, row, nowhere);
     let place = least(head, within);
     if place < nowhere {
-        return Verdict {
-            number: 8,
-            place,
-            rows: 0,
-        };
+        return verdict(SORT, place, 0);
     }
-    let lists = lists_misfit(text, lexemes, names, at, header.listed, nowhere);
+    let lists = lists_misfit(text, lexemes, names, at, listed, nowhere);
     let table = &places[..];
-    let sides = rules_misfit(
-        raw,
-        &table[first..],
-        table,
-        &column,
-        gathered.rule,
-        header.listed,
-        nowhere,
-    );
+    let rules = &table[first..];
+    let rule = parts.gathered.rule;
+    let sides = rules_misfit(raw, rules, table, &column, rule, listed, nowhere);
     let misfit = least(lists, sides);
     if misfit < nowhere {
-        return Verdict {
-            number: 9,
-            place: misfit,
-            rows: 0,
-        };
+        return verdict(GRAMMAR, misfit, 0);
     }
-    put_function(names, places, progress, gathered, header);
-    Verdict {
-        number: 0,
-        place: 0,
-        rows: row,
-    }
+    put_function(names, places, command.progress, parts);
+    verdict(ACCEPTED, 0, row)
 }

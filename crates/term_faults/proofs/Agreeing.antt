@@ -7,17 +7,19 @@ use mathlib.Core.List.{List, [], _++_}
 use mathlib.Core.Option.{Option, none as nothing, some}
 use borrow.Author.Tests.{le-ltb, lt-ltb}
 use lib.Dec.{ltb}
-use Rattle.forest.specs.Forest.{Forest, from, join, nodesOf, none, size, tree}
+use Rattle.forest.specs.Forest.{Forest, join, nodesOf, none, tree}
+use Rattle.forest.specs.code.Cursors.{from, size}
 use Rattle.forest.proofs.Laws.{from-one, from-over}
 use Rattle.forest.proofs.Nodes.{node-at}
 use Rattle.forest.proofs.Rows.{row-at}
 use Rattle.terms.specs.Sorts.{withSort}
-use Rattle.term_sorts.specs.Forms.{faultFrom, formSorts, sorted, treeSort}
-use Rattle.term_nodes.specs.code.Table.{firstAt, rawRow, rawTable}
+use Rattle.term_sorts.specs.Forms.{formSorts, sorted, treeSort}
+use Rattle.term_nodes.specs.code.Table.{firstAt, rawRow, rawTable, rowWidth}
+use Rattle.term_sorts.specs.code.Forms.{faultFrom}
 use Rattle.term_nodes.specs.Terms.{Raw, firstWord}
 use Rattle.names.specs.Scopes.{View, formsOf, itemOr, means}
 use Rattle.term_faults.specs.Faults.{scopeOf, termFault}
-use Rattle.term_faults.specs.code.Seeking.{Rising}
+use Rattle.term_faults.specs.code.Bodies.{Rising}
 use Rattle.term_faults.proofs.Forms.{size-form}
 
 -- The first word of the node at a cursor.
@@ -25,7 +27,7 @@ pub first-word : (F : Forest Raw) (rest : List ℕ) {raw : List ℕ} → raw ≡
     → from F node ≡ tree r ops later → firstAt raw node ≡ firstWord r
 unfolding rawTable
 first-word F rest is node r ops later here =
-    rw is (row-at rawRow 4 (λ n. refl) (nodesOf F) rest node 0 _ _ (node-at F node r ops later here) (omega arith))
+    rw is (row-at rawRow rowWidth (λ n. refl) (nodesOf F) rest node 0 _ _ (node-at F node r ops later here) (omega arith))
 
 -- The sorts of one tree are there just when its sort is.
 sorted-alone : (t : Option ℕ) → sorted (withSort t (some [])) ≡ sorted t

@@ -12,6 +12,7 @@ use lib.ListN.{drop, getD, length, drop-of-length-le}
 use lib.Pow.{pow-add, pow-mono}
 use Rattle.forest.proofs.Bools.{and-left, and-right}
 use Rattle.forest.proofs.Lists.{drop-next}
+use Rattle.word_kinds.specs.Limits.{literalBits, numeralDigits, symbolBytes}
 use Rattle.operators.specs.Sorts.{Fit}
 use Rattle.word_kinds.specs.Bytes.{binaryDigit, digit, hexDigit, uncarried}
 use Rattle.word_kinds.specs.Kinds.{allIn, formed, hashed, inClass, kindOf, literal as literalOf, numeral as numeralOf, spelled, symbol as symbolOf}
@@ -20,7 +21,7 @@ use Rattle.word_kinds.specs.declared.Class.{Class}
 use Rattle.word_kinds.specs.declared.Class.the-variants.{BinaryDigits, Digits, HexDigits}
 use Rattle.word_kinds.specs.declared.Kind.{Kind}
 use Rattle.word_kinds.proofs.Digits.{all-below, below-goes, spell-more}
-use Rattle.words.specs.code.Table.{valueOf, widthOf}
+use Rattle.words.specs.Table.{valueOf, widthOf}
 use Rattle.words.specs.Trees.{bytesOf}
 use Rattle.words.specs.Words.{Word, bytesAt, wordAt, wordsOf}
 use Rattle.lexemes.specs.code.Table.{kindCode, literalCode, numeralCode}
@@ -109,7 +110,7 @@ cases-below (b ∷ w) k before h =
 
 -- What a word of a kind keeps to.
 pub record Kept (bytes : List ℕ) (kind : Kind) : Type 0 where
-  pub low : kindCode kind bytes ≡ numeralCode → valueOf kind < 10 ^ 9
+  pub low : kindCode kind bytes ≡ numeralCode → valueOf kind < 10 ^ numeralDigits
   pub fits : kindCode kind bytes ≡ literalCode → Fit (widthOf kind) (valueOf kind)
   pub written : kindCode kind bytes ≡ literalCode → writtenOf bytes < mostWritten
   pub short : literalCode < kindCode kind bytes → length bytes ≤ longest
@@ -133,7 +134,7 @@ formed-kept right small f = choice right (λ r. choice small (λ e. f r e) (λ e
 numeral-kept : (w : List ℕ) → Kept w (numeralOf w)
 unfolding numeralOf
 numeral-kept w = formed-kept _ _ (λ right small.
-    let few : 10 ^ length w ≤ 10 ^ 9 = pow-le-pow-right (omega arith) (leb-true (length w) 9 small) in
+    let few : 10 ^ length w ≤ 10 ^ numeralDigits = pow-le-pow-right (omega arith) (leb-true (length w) numeralDigits small) in
     let below = spelled-below 10 w (decimal-below w (and-left (allIn Digits w) _ right)) in
     record { low = λ e. omega arith; fits = λ e. absurd (omega arith); written = λ e. absurd (omega arith); short = λ e. absurd (omega arith) })
 
@@ -145,15 +146,15 @@ symbol-kept w = formed-kept _ _ (λ right small.
       low = λ e. absurd (omega arith);
       fits = λ e. absurd (omega arith);
       written = λ e. absurd (omega arith);
-      short = λ e. leb-true (length w) 64 small;
+      short = λ e. leb-true (length w) symbolBytes small;
     })
 
 -- a literal, by its digits
 literal-kept : (class : Class) (bits : ℕ) (w : List ℕ) {bytes : List ℕ} → (allIn class w ≡ true → digitsBelow (2 ^ bits) w ≡ true)
-    → ((length w ≡ 0 → ⊥) → 0 < bits * length w) → (bits * length w ≤ 64 → writtenOf bytes < mostWritten) → Kept bytes (literalOf class bits w)
+    → ((length w ≡ 0 → ⊥) → 0 < bits * length w) → (bits * length w ≤ literalBits → writtenOf bytes < mostWritten) → Kept bytes (literalOf class bits w)
 unfolding literalOf
 literal-kept class bits w digits some small = formed-kept _ _ (λ right size.
-    let fit = leb-true (bits * length w) 64 size in
+    let fit = leb-true (bits * length w) literalBits size in
     let below = spelled-below (2 ^ bits) w (digits (and-left (allIn class w) _ right)) in
     let wide = lt-ltb 0 (bits * length w) (some (eqb-false (length w) 0 (not-true _ (and-right (allIn class w) _ right)))) in
     record {
@@ -172,7 +173,7 @@ hashed-kept first (b ∷ w) =
     (λ no-hex. choice (eqb b (code "b")) (λ e. literal-kept BinaryDigits 1 w (binary-below w) (λ n. omega arith) (λ h. rw no-hex (omega arith)))
     (λ e. other (omega arith)))
   where
-    cased : 4 * length w ≤ 64 → cases 1 w < mostWritten
+    cased : 4 * length w ≤ literalBits → cases 1 w < mostWritten
     cased h =
         let digits : 1 + length w ≤ 17 = omega arith in
         let few : 2 ^ (1 + length w) ≤ 2 ^ 17 = pow-mono digits in

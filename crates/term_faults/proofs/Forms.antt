@@ -1,7 +1,8 @@
 -- The forms that terms say, node by node.
 use Prim.Native.Nat.{ℕ, zero, suc}
 use mathlib.Core.Path.{_≡_, refl, sym, ap, _∙_}
-use Rattle.forest.specs.Forest.{Forest, from, join, none, size, tree}
+use Rattle.forest.specs.Forest.{Forest, join, none, tree}
+use Rattle.forest.specs.code.Cursors.{from, size}
 use Rattle.derivation.specs.Derivation.{Item}
 use Rattle.term_nodes.specs.Terms.{Raw}
 use Rattle.names.specs.Scopes.{View, formsOf, itemOr, means}

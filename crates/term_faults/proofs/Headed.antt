@@ -14,10 +14,12 @@ use Rattle.lexemes.specs.Reserved.{isOneOf, isWord}
 use Rattle.lexemes.specs.Lists.{Items, inside, is, isList, item}
 use Rattle.lexemes.specs.code.Standing.{Source, Stands, bracketed, ends, word}
 use Rattle.shapes.specs.Shapes.{all, applicationShape, groupShape, headShape, isPattern, ruleShape, termShapes}
-use Rattle.term_nodes.specs.Terms.{Raw, headedBy, operandsOf, rawOf, rawRule, rawTerms}
+use Rattle.term_nodes.specs.Terms.{Raw, headedBy, rawOf, rawRule, rawTerms}
+use Rattle.term_nodes.specs.code.Table.{operandsOf}
 use Rattle.term_nodes.proofs.TermWords.{listShape}
 use Rattle.term_nodes.specs.Rules.{Ruled, rulesIn, sides}
-use Rattle.names.specs.code.Lookup.{AllHeaded, Headed}
+use Rattle.names.specs.code.Lookup.{Headed}
+use Rattle.names.specs.code.Forms.{AllHeaded}
 use Rattle.term_faults.proofs.Groups.{groups-keep}
 
 -- what holds of the heads of two forests holds of those of both

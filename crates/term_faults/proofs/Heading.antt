@@ -6,8 +6,8 @@ use mathlib.Core.Path.{_≡_, sym, _∙_}
 use mathlib.Core.List.{List, [], _∷_}
 use lib.ListN.{getD, length, List·getD-eq-default}
 use Rattle.forest.specs.code.Rows.{numberAt}
-use Rattle.term_sorts.specs.code.Signatures.{RowIs, SortsAre}
-use Rattle.term_faults.specs.code.Seeking.{HeadSort, Heads}
+use Rattle.term_sorts.specs.code.Signatures.{RowIs, SortsAre, nonTerminalSignature, signatureWidth}
+use Rattle.term_faults.specs.code.Grammars.{HeadSort, Heads}
 
 -- The row of a non-terminal has its sort.
 row-of : (signatures : List ℕ) (r : ℕ) (sorts : List ℕ) (k : ℕ) → SortsAre signatures r sorts → k < length sorts
@@ -26,12 +26,12 @@ module _ {signatures : List ℕ} {listed head : ℕ} where
 
   module _ (h : head < listed) where
     -- The table has the sort.
-    pub head-there : {r : ℕ} → r ≡ getD signatures (10 * (40 + head) + 1) 0 → (p : Heads signatures listed) → HeadSort p head r
+    pub head-there : {r : ℕ} → r ≡ getD signatures (signatureWidth * (nonTerminalSignature + head) + 1) 0 → (p : Heads signatures listed) → HeadSort p head r
     unfolding numberAt
     head-there e p =
-        let row = row-of signatures 40 (p .sorts) head (p .are) (omega (arith, p .counted)) in
+        let row = row-of signatures nonTerminalSignature (p .sorts) head (p .are) (omega (arith, p .counted)) in
         record { is = e ∙ row .result-is; low = rw (e ∙ row .result-is) (row .sort) }
 
     -- The table ends before.
-    pub head-gone : length signatures ≤ 10 * (40 + head) + 1 → (p : Heads signatures listed) → HeadSort p head 0
+    pub head-gone : length signatures ≤ signatureWidth * (nonTerminalSignature + head) + 1 → (p : Heads signatures listed) → HeadSort p head 0
     head-gone l p = head-there (sym (List·getD-eq-default signatures 0 l)) p

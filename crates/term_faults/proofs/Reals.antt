@@ -19,11 +19,11 @@ use Rattle.lexemes.specs.Reserved.{isWord}
 use Rattle.term_sorts.specs.code.Signatures.{AllReal, Real}
 use Rattle.lexemes.specs.code.Standing.{Source}
 use Rattle.lexemes.specs.code.Table.{codeAt, literalCode, valueAt, widthAt}
-use Rattle.term_nodes.specs.code.Gathering.{AllSay, Says}
+use Rattle.term_nodes.specs.code.Says.{AllSay, Says}
 use Rattle.term_nodes.specs.Terms.{Raw, constant, cut, number, pattern, word}
 use Rattle.forest.specs.Search.{placeIn}
-use Rattle.names.specs.Scopes.{Defined, Function, Named, View, definedNames, formsOf, functionNames, inOrder, isNamed, itemOr, means, namesOf}
-use Rattle.names.specs.Scopes.{signatureOf, namedSorts, symbolMeans}
+use Rattle.names.specs.Scopes.{Defined, Function, Named, View, definedNames, formsOf, functionNames, inOrder, isNamed, itemOr, means, namesOf, signatureOf}
+use Rattle.names.specs.Scopes.{namedSorts, symbolMeans}
 use Rattle.term_faults.specs.Faults.{scopeOf}
 
 -- A name that is one of the names has a place among them.

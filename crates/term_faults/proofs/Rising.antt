@@ -12,10 +12,11 @@ use Rattle.lexemes.specs.Lists.{Items, inside, is, item}
 use Rattle.lexemes.specs.code.Standing.{Source, Stands, bracketed, ends, word}
 use Rattle.lexemes.proofs.Standing.{forward}
 use Rattle.shapes.specs.Shapes.{all, groupShape, isPattern, ruleShape, termShapes}
-use Rattle.term_nodes.specs.Terms.{Raw, firstWord, headedBy, operandsOf, rawOf, rawRule, rawTerms}
+use Rattle.term_nodes.specs.Terms.{Raw, firstWord, headedBy, rawOf, rawRule, rawTerms}
+use Rattle.term_nodes.specs.code.Table.{operandsOf}
 use Rattle.term_nodes.proofs.TermWords.{first-of}
 use Rattle.term_nodes.specs.Rules.{Ruled, rulesIn, sides}
-use Rattle.term_faults.specs.code.Seeking.{Rising}
+use Rattle.term_faults.specs.code.Bodies.{Rising}
 use Rattle.term_faults.proofs.Groups.{Gathers, groups-hold}
 
 -- ---- nodes that rise

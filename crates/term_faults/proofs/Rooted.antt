@@ -10,15 +10,16 @@ use lib.Dec.{eqb}
 use lib.ListN.{getD, length, length-append}
 use lib.Seq.{drop-append-seam}
 use Rattle.forest.specs.Forest.{none, tree}
-use Rattle.forest.specs.code.Rows.{over}
+use Rattle.forest.specs.Tables.{over}
 use Rattle.forest.proofs.Laws.{inside}
 use Rattle.terms.specs.Sorts.{withSort}
-use Rattle.term_sorts.specs.Forms.{formSorts, sortColumn, sortNumber, treeSort}
+use Rattle.term_sorts.specs.Forms.{formSorts, treeSort}
+use Rattle.term_sorts.specs.code.Forms.{sortColumn, sortNumber}
 use Rattle.term_sorts.proofs.Columns.{column-at, column-length}
 use Rattle.term_nodes.specs.code.Table.{firstAt}
 use Rattle.names.specs.Scopes.{formsOf, itemOr, means}
 use Rattle.term_faults.specs.Faults.{oneSort, rawSorts, scopeOf}
-use Rattle.term_faults.specs.code.Seeking.{RootAt, RootFits}
+use Rattle.term_faults.specs.code.Roots.{RootAt, RootFits}
 use Rattle.term_faults.proofs.Agreeing.{first-word}
 use Rattle.term_faults.proofs.Forms.{form-at, size-form}
 

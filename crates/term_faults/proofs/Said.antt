@@ -8,12 +8,13 @@ use Rattle.words.specs.Trees.{Lexeme, wordOf}
 use Rattle.lexemes.specs.Lists.{Items, inside, is, item}
 use Rattle.lexemes.specs.code.Standing.{Source, Stands}
 use Rattle.shapes.specs.Shapes.{all, groupShape, isPattern}
-use Rattle.term_nodes.specs.code.Gathering.{AllSay}
-use Rattle.term_nodes.specs.Terms.{operandsOf, pattern, rawOf, rawRule, rawTerms}
+use Rattle.term_nodes.specs.code.Says.{AllSay}
+use Rattle.term_nodes.specs.Terms.{pattern, rawOf, rawRule, rawTerms}
+use Rattle.term_nodes.specs.code.Table.{operandsOf}
 use Rattle.term_nodes.proofs.PastLimit.{say-join}
 use Rattle.term_nodes.proofs.Saying.{say-rule}
 use Rattle.term_nodes.specs.Rules.{Ruled, rulesIn, sides}
-use Rattle.term_faults.specs.code.Seeking.{AllSingle, Single}
+use Rattle.term_faults.specs.code.Grammars.{AllSingle, Single}
 use Rattle.term_faults.proofs.Groups.{groups-keep, ruleOf}
 use Rattle.term_faults.proofs.Rising.{first-raw}
 

@@ -4,13 +4,14 @@ use native.Mathlib.Omega.{arith}
 use mathlib.Core.Path.{_≡_, sym, ap, _∙_}
 use mathlib.Core.List.{List}
 use lib.ListN.{length-map}
-use Rattle.forest.specs.Forest.{none, size}
+use Rattle.forest.specs.Forest.{none}
+use Rattle.forest.specs.code.Cursors.{size}
 use Rattle.forest.proofs.Laws.{join-none}
 use Rattle.term_sorts.specs.code.Sorting.{SortsFilled, SortsFilling}
 use Rattle.term_nodes.specs.code.Table.{firstAt}
 use Rattle.names.specs.Scopes.{formsOf}
 use Rattle.term_faults.specs.Faults.{scopeOf, termFault}
-use Rattle.term_faults.specs.code.Seeking.{Found, Sought}
+use Rattle.term_faults.specs.code.Bodies.{Found, Sought}
 use Rattle.term_faults.proofs.Agreeing.{Agree, clear, faulty, faults-agree}
 use Rattle.term_faults.proofs.Forms.{from-first, size-form}
 use Rattle.term_faults.proofs.Reals.{all-real}

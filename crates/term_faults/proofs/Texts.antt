@@ -9,7 +9,7 @@ use Rattle.forest.proofs.Rows.{length-rows}
 use Rattle.words.specs.declared.Limits.{Limits}
 use Rattle.words.specs.declared.Reading.the-variants.{Whole}
 use Rattle.words.specs.Reading.{readingOf}
-use Rattle.words.specs.code.Table.{entries}
+use Rattle.words.specs.Table.{entries}
 use Rattle.words.specs.Trees.{bytesOf}
 use Rattle.words.specs.Words.{Word, wordsOf}
 use Rattle.words.proofs.Chains.{entries-long}
@@ -17,8 +17,8 @@ use Rattle.lexemes.specs.code.Standing.{Source, allOf}
 use Rattle.lexemes.specs.code.Table.{codeAt, lexemeRow, lexemeTable}
 use Rattle.lexemes.proofs.Said.{Saying, say}
 use Rattle.lexemes.proofs.Standing.{coded}
-use Rattle.lexemes.proofs.Wholes.{whole-count}
-use Rattle.term_faults.specs.code.Seeking.{Lawful}
+use Rattle.lexemes.proofs.WholeText.{whole-count}
+use Rattle.term_faults.specs.code.Bodies.{Lawful}
 use Rattle.term_faults.proofs.Bounds.{Kept, word-kept}
 
 -- What is known of a word that has a code.

@@ -1,1 +1,3 @@
-pub mod Seeking
+pub mod Bodies
+pub mod Roots
+pub mod Grammars

@@ -2,7 +2,7 @@
 use crate::roots::root_misfit;
 use term_nodes::first_at;
 use term_sorts::fill_sorts;
-ghost use Rattle.term_faults.specs.code.Seeking.{BodyFound, BodySought, Found, Sought};
+ghost use Rattle.term_faults.specs.code.Bodies.{Finds, FindsInBody, BodyFound, BodySought, Found, Sought};
 
 // The least word at fault in the sorts of terms; fills in the sorts of their nodes.
 pub fn fault_word(
@@ -14,7 +14,7 @@ pub fn fault_word(
     nowhere: usize,
 ) -> usize
     requires { ⌜ Sought (now raw) (now forms) (now signatures) (now column) count nowhere ⌝ }
-    ensures { λ r. ⌜ ((p : Sought (now (raw .entry)) (now (forms .entry)) (now (signatures .entry)) (now (column .entry)) count nowhere) → Found p (now (column .exit)) r) ⌝ }
+    ensures { λ r. ⌜ Finds (now (raw .entry)) (now (forms .entry)) (now (signatures .entry)) (now (column .entry)) count nowhere (now (column .exit)) r ⌝ }
 {
     let fault = fill_sorts(forms, signatures, count, column);
     if fault < count {
@@ -34,7 +34,7 @@ pub fn body_fault(
     nowhere: usize,
 ) -> usize
     requires { ⌜ BodySought (now raw) (now forms) (now signatures) (now column) count sort nowhere ⌝ }
-    ensures { λ r. ⌜ ((p : BodySought (now (raw .entry)) (now (forms .entry)) (now (signatures .entry)) (now (column .entry)) count sort nowhere) → BodyFound p r) ⌝ }
+    ensures { λ r. ⌜ FindsInBody (now (raw .entry)) (now (forms .entry)) (now (signatures .entry)) (now (column .entry)) count sort nowhere r ⌝ }
 {
     let fault = fault_word(raw, forms, signatures, column, count, nowhere);
     if fault < nowhere {

@@ -1,13 +1,15 @@
 //! Rules that are not of their non-terminal's sort.
 use crate::roots::root_misfit;
+use derivation::rules::RULE;
+use forest::limits;
 use forest::numbers::least;
-ghost use Rattle.term_faults.specs.code.Seeking.{HeadSort, Heads, RulesFound, RulesSought};
+ghost use Rattle.term_faults.specs.code.Grammars.{FindsInRules, HeadSort, Heads, RulesFound, RulesSought};
 
 // How many numbers a signature has.
-const ROW: usize = 10;
+const ROW: usize = 2 + limits::ARGUMENTS;
 
 // The signature of the first non-terminal.
-const FIRST: usize = 40;
+const FIRST: usize = limits::DEFINED + limits::FUNCTIONS;
 
 // The sort of the non-terminal at a place, of which `listed` are declared; 0 past the last.
 fn head_sort(signatures: &[u64], head: usize, listed: usize) -> u64
@@ -35,13 +37,13 @@ pub fn rules_misfit(
     nowhere: usize,
 ) -> usize
     requires { ⌜ RulesSought (now raw) (now rules) (now signatures) (now column) count listed ⌝ }
-    ensures { λ r. ⌜ ((p : RulesSought (now (raw .entry)) (now (rules .entry)) (now (signatures .entry)) (now (column .entry)) count listed) → RulesFound p nowhere r) ⌝ }
+    ensures { λ r. ⌜ FindsInRules (now (raw .entry)) (now (rules .entry)) (now (signatures .entry)) (now (column .entry)) count listed nowhere r ⌝ }
 {
     let mut place = nowhere;
     let mut rule = 0;
     while rule < count {
-        let start = rules[2 * rule] as usize;
-        let head = rules[2 * rule + 1] as usize;
+        let start = rules[RULE * rule] as usize;
+        let head = rules[RULE * rule + 1] as usize;
         let sort = head_sort(signatures, head, listed);
         place = least(place, root_misfit(raw, column, start, sort, nowhere));
         rule += 1;

@@ -1,6 +1,6 @@
 //! The sort of the tree at a node.
 use term_nodes::first_at;
-ghost use Rattle.term_faults.specs.code.Seeking.{RootAt, RootFits};
+ghost use Rattle.term_faults.specs.code.Roots.{RootAt, RootFits};
 
 // The first word of the tree at a node, where it is not of the sort; `nowhere` where it is.
 pub fn root_misfit(raw: &[u64], column: &[u64], node: usize, sort: u64, nowhere: usize) -> usize

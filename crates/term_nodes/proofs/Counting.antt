@@ -5,26 +5,28 @@ use native.Mathlib.Omega.{arith}
 use mathlib.Core.Path.{_≡_, refl, ap, _∙_}
 use mathlib.Core.List.{List, [], _∷_, _++_}
 use lib.ListN.{length, drop, getD, set, length-append, length-set, List·getD-append}
-use Rattle.forest.specs.Forest.{Forest, Node, count, from, join, nodesOf, size, tree}
-use Rattle.forest.specs.code.Rows.{numberAt, rows}
+use Rattle.forest.specs.Forest.{Forest, Node, count, join, nodesOf, tree}
+use Rattle.forest.specs.code.Cursors.{from, size}
+use Rattle.forest.specs.code.Rows.{numberAt}
+use Rattle.forest.specs.Tables.{rows}
 use Rattle.forest.proofs.Laws.{count-tree, count-zero, from-one, from-over, size-from, size-tree, tree-at, tree-of-count}
 use Rattle.forest.proofs.Lists.{within}
 use Rattle.forest.proofs.Nodes.{length-nodes, node-at}
 use Rattle.forest.proofs.Rows.{length-rows, row-at}
-use Rattle.term_nodes.specs.code.Gathering.{Counted, Counting, PastTree, TreeAt, partTable}
-use Rattle.term_nodes.specs.code.Table.{operandsAt, rawRow, rawTable, sizeAt, uncounted, uncountedTable}
-use Rattle.term_nodes.specs.Terms.{Raw, firstWord, headWord}
+use Rattle.term_nodes.specs.code.Table.{operandsAt, rawRow, rawTable, rowWidth, sizeAt, uncounted, uncountedTable, headWord}
+use Rattle.term_nodes.specs.Terms.{Raw, firstWord}
+use Rattle.term_nodes.specs.code.Sizes.{Counted, Counting, PastTree, TreeAt, partTable}
 
 pub wide : (n : Node Raw) → length (rawRow n) ≡ 4
 wide n = refl
 
-skip : (a b c d : ℕ) (table : List ℕ) (i column : ℕ) → numberAt 4 (a ∷ b ∷ c ∷ d ∷ table) (suc i) column ≡ numberAt 4 table i column
+skip : (a b c d : ℕ) (table : List ℕ) (i column : ℕ) → numberAt rowWidth (a ∷ b ∷ c ∷ d ∷ table) (suc i) column ≡ numberAt rowWidth table i column
 unfolding numberAt
 skip a b c d table i column =
-    let e : 4 * suc i + column ≡ suc (suc (suc (suc (4 * i + column)))) = omega arith in
+    let e : rowWidth * suc i + column ≡ suc (suc (suc (suc (rowWidth * i + column)))) = omega arith in
     ap (λ (k : ℕ). getD (a ∷ b ∷ c ∷ d ∷ table) k 0) e
 
-first-row : (row table : List ℕ) (column : ℕ) → column < length row → numberAt 4 (row ++ table) 0 column ≡ getD row column 0
+first-row : (row table : List ℕ) (column : ℕ) → column < length row → numberAt rowWidth (row ++ table) 0 column ≡ getD row column 0
 unfolding numberAt
 first-row row table column h = rw zero-add (List·getD-append row table 0 column h)
 
@@ -35,9 +37,9 @@ rowOf (suc at) zero n = uncounted n
 rowOf (suc at) (suc i) n = rowOf at i n
 
 part-at : (at : ℕ) (nodes : List (Node Raw)) (rest : List ℕ) (i column : ℕ) (n : Node Raw) (more : List (Node Raw))
-    → drop i nodes ≡ n ∷ more → column < 4 → numberAt 4 (partTable at nodes ++ rest) i column ≡ getD (rowOf at i n) column 0
+    → drop i nodes ≡ n ∷ more → column < rowWidth → numberAt rowWidth (partTable at nodes ++ rest) i column ≡ getD (rowOf at i n) column 0
 unfolding partTable rowOf
-part-at zero nodes rest i column n more e h = row-at rawRow 4 wide nodes rest i column n more e h
+part-at zero nodes rest i column n more e h = row-at rawRow rowWidth wide nodes rest i column n more e h
 part-at (suc at) [] rest i column n more e h = absurd (omega (arith, within [] i n more e))
 part-at (suc at) (x ∷ nodes) rest zero column n more e h =
     let q : x ≡ n = cc in
@@ -58,24 +60,24 @@ size-of (suc at) (suc i) n h = size-of at i n (omega arith)
 
 -- one node more is counted
 count-row : (i : ℕ) (nodes : List (Node Raw)) (rest : List ℕ) (n : Node Raw) (more : List (Node Raw)) → drop i nodes ≡ n ∷ more
-    → set (partTable (suc i) nodes ++ rest) (4 * i + 3) (suc (size (n .operands))) ≡ partTable i nodes ++ rest
+    → set (partTable (suc i) nodes ++ rest) (rowWidth * i + 3) (suc (size (n .operands))) ≡ partTable i nodes ++ rest
 unfolding partTable rows
 count-row i [] rest n more e = absurd (omega (arith, within [] i n more e))
 count-row zero (x ∷ nodes) rest n more e = let q : x ≡ n = cc in rw q
 count-row (suc i) (x ∷ nodes) rest n more e =
-    let q : 4 * suc i + 3 ≡ suc (suc (suc (suc (4 * i + 3)))) = omega arith in
+    let q : rowWidth * suc i + 3 ≡ suc (suc (suc (suc (rowWidth * i + 3)))) = omega arith in
     rw q (ap (λ (t : List ℕ). firstWord (x .label) ∷ headWord (x .label) ∷ count (x .operands) ∷ 0 ∷ t) (count-row i nodes rest n more e))
 
-part-long : (at : ℕ) (nodes : List (Node Raw)) → length (partTable at nodes) ≡ 4 * length nodes
+part-long : (at : ℕ) (nodes : List (Node Raw)) → length (partTable at nodes) ≡ rowWidth * length nodes
 unfolding partTable
-part-long zero nodes = length-rows rawRow 4 wide nodes
+part-long zero nodes = length-rows rawRow rowWidth wide nodes
 part-long (suc at) [] = refl
 part-long (suc at) (x ∷ nodes) = let r = part-long at nodes in omega arith
 
 -- ---- the node past a tree
 
 -- a tree is within the table
-tree-room : {raw : List ℕ} {node : ℕ} (p : TreeAt raw node) → 4 * (node + suc (size (p .operands))) ≤ length raw
+tree-room : {raw : List ℕ} {node : ℕ} (p : TreeAt raw node) → rowWidth * (node + suc (size (p .operands))) ≤ length raw
 tree-room {raw} {node} p =
     let all = size-from (p .F) node in
     let tree-size = size-tree (record { l = p .label; ops = p .operands; rest = p .more; is = p .here }) in
@@ -94,7 +96,7 @@ pub record Passes (raw : List ℕ) (node next passed : ℕ) : Type 0 where
   pub each : (p : TreeAt raw node) → Passing p next passed
 
 module _ {raw : List ℕ} {node : ℕ} where
-  pub node-fits : TreeAt raw node → 4 * (node + 1) ≤ length raw
+  pub node-fits : TreeAt raw node → rowWidth * (node + 1) ≤ length raw
   node-fits p = omega (arith, tree-room p)
 
   pub passes-begins : Passes raw node (node + 1) 0
@@ -151,7 +153,7 @@ module _ {raw : List ℕ} {node : ℕ} where
             sized = size-tree t;
           }
 
-      pub step-fits : TreeAt raw node → 4 * (next + step) ≤ length raw
+      pub step-fits : TreeAt raw node → rowWidth * (next + step) ≤ length raw
       step-fits p = let o = operand p in omega (arith, tree-room p, passes .each p .sized, o .sized, o .stepped)
 
       pub passes-goes : Passes raw node (next + step) (passed + 1)
@@ -180,7 +182,7 @@ part-all (x ∷ nodes) = ap (λ (t : List ℕ). uncounted x ++ t) (part-all node
 pub record Sweep (raw₀ : List ℕ) (count : ℕ) (raw : List ℕ) (node : ℕ) : Type 0 where
   pub reached : node ≤ count
   pub long : length raw ≡ length raw₀
-  pub room : 4 * count ≤ length raw₀
+  pub room : rowWidth * count ≤ length raw₀
   pub is : (p : Counting raw₀ count) → raw ≡ partTable node (nodesOf (p .F)) ++ p .rest
 
 pub sweep-begins : {raw : List ℕ} {count : ℕ} → Counting raw count → Sweep raw count raw count
@@ -188,7 +190,9 @@ unfolding uncountedTable
 sweep-begins {raw} {count} given = record {
   reached = omega arith;
   long = refl;
-  room = rw (given .is, length-append, length-rows uncounted 4 (λ n. refl) (nodesOf (given .F)), length-nodes (given .F)) (omega (arith, given .counted));
+  room =
+      rw (given .is, length-append, length-rows uncounted rowWidth (λ n. refl) (nodesOf (given .F)), length-nodes (given .F))
+      (omega (arith, given .counted));
   is = λ p. rw (p .counted, ← length-nodes (p .F), part-all (nodesOf (p .F))) (p .is);
 }
 
@@ -207,10 +211,10 @@ module _ {raw₀ : List ℕ} {count : ℕ} {raw : List ℕ} {node : ℕ} (sweep 
     pub sweep-less : Counting raw₀ count → node - 1 ≤ past
     sweep-less p = omega (arith, ep (sweep-asks p))
 
-    pub sweep-goes : Sweep raw₀ count (set raw (4 * (node - 1) + 3) (past - (node - 1))) (node - 1)
+    pub sweep-goes : Sweep raw₀ count (set raw (rowWidth * (node - 1) + 3) (past - (node - 1))) (node - 1)
     sweep-goes = record { reached = omega (arith, sweep .reached); long = length-set raw _ _ ∙ sweep .long; room = sweep .room; is = goes }
       where
-        goes : (p : Counting raw₀ count) → set raw (4 * (node - 1) + 3) (past - (node - 1)) ≡ partTable (node - 1) (nodesOf (p .F)) ++ p .rest
+        goes : (p : Counting raw₀ count) → set raw (rowWidth * (node - 1) + 3) (past - (node - 1)) ≡ partTable (node - 1) (nodesOf (p .F)) ++ p .rest
         goes p =
             let t = sweep-asks p in
             let counted : past - (node - 1) ≡ suc (size (t .operands)) = omega (arith, ep t) in

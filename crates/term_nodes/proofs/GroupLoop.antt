@@ -5,8 +5,9 @@ use mathlib.Core.Path.{_≡_, refl, subst}
 use mathlib.Core.Bool.{true}
 use mathlib.Core.List.{List, []}
 use lib.ListN.{length}
-use Rattle.forest.specs.Forest.{nodesOf, size, tree}
-use Rattle.forest.specs.code.Rows.{rows}
+use Rattle.forest.specs.Forest.{nodesOf, tree}
+use Rattle.forest.specs.code.Cursors.{size}
+use Rattle.forest.specs.Tables.{rows}
 use Rattle.forest.proofs.Bools.{and-left, and-right}
 use Rattle.lexemes.specs.Lists.{Items, after, inside, isList, item}
 use Rattle.lexemes.specs.code.Standing.{Between, ItemAt, Source, Stands}
@@ -15,10 +16,10 @@ use Rattle.lexemes.proofs.Along.{Along, along-ahead, along-end, along-here, alo
 use Rattle.lexemes.proofs.Listed.{at-item, from-item}
 use Rattle.lexemes.proofs.Standing.{forward, here-as}
 use Rattle.shapes.specs.Shapes.{all, groupShape, ruleShape}
-use Rattle.written_sorts.proofs.Parts.{group-parts}
+use Rattle.written_sorts.proofs.PairParts.{group-parts}
 use Rattle.term_nodes.specs.code.Table.{uncountedTable}
-use Rattle.term_nodes.specs.Rules.{Ruled, nodesPast, rulePast, rulesIn, rulesOf, sides, startTable}
-use Rattle.term_nodes.specs.code.RuleGathering.{GroupGathered, GroupsBetween, Holds, RulesBetween, RulesGathered}
+use Rattle.term_nodes.specs.Rules.{Ruled, nodesPast, rulePast, rulesIn, rulesOf, sides}
+use Rattle.term_nodes.specs.code.RuleGathering.{GroupGathered, GroupsBetween, Holds, RulesBetween, RulesGathered, startTable}
 use Rattle.term_nodes.specs.declared.Gathered.{Gathered}
 use Rattle.term_nodes.proofs.Listing.{rules-fit}
 use Rattle.term_nodes.proofs.Onward.{GatheredTo, gathered-all, gathered-on, lent-as, next-within}

@@ -4,7 +4,7 @@ pub mod TermWords
 pub mod Saying
 pub mod TermsAt
 pub mod NodeRows
-pub mod Walk
+pub mod GatheringWalk
 pub mod RuleNodes
 pub mod Past
 pub mod Listing

@@ -7,15 +7,19 @@ use mathlib.Core.List.{List, [], _∷_, _++_}
 use lib.Dec.{leb}
 use lib.ListN.{length}
 use borrow.Author.Tests.{le-leb}
-use Rattle.forest.specs.Forest.{join, nodesOf, none, size, tree}
+use Rattle.forest.specs.Forest.{join, nodesOf, none, tree}
+use Rattle.forest.specs.code.Cursors.{size}
 use Rattle.forest.proofs.Laws.{join-assoc, join-none, size-join}
+use Rattle.derivation.specs.code.Rules.{ruleWidth}
 use Rattle.words.specs.Trees.{Lexeme}
 use Rattle.lexemes.specs.Lists.{Items, is, item}
 use Rattle.lexemes.specs.code.Standing.{Source, Stands, bracketed, ends, word}
 use Rattle.lexemes.proofs.Standing.{forward}
 use Rattle.shapes.specs.Shapes.{isPattern}
-use Rattle.term_nodes.specs.Terms.{nodeWord, operandsOf, rawRule, rawTerms}
-use Rattle.term_nodes.specs.Rules.{Ruled, nodesPast, rulePast, rulesOf, sides, startTable}
+use Rattle.term_nodes.specs.Terms.{nodeWord, rawRule, rawTerms}
+use Rattle.term_nodes.specs.code.Table.{operandsOf}
+use Rattle.term_nodes.specs.Rules.{Ruled, nodesPast, rulePast, rulesOf, sides}
+use Rattle.term_nodes.specs.code.RuleGathering.{startTable}
 
 -- ---- their right sides
 
@@ -37,7 +41,7 @@ sides-more done A l ops = sides-append done (rulesOf A (tree l ops none)) ∙ rw
 -- ---- where they start
 
 -- two numbers for each rule
-pub length-starts : (start : ℕ) (rules : List Ruled) → length (startTable start rules) ≡ 2 * length rules
+pub length-starts : (start : ℕ) (rules : List Ruled) → length (startTable start rules) ≡ ruleWidth * length rules
 unfolding startTable
 length-starts start [] = refl
 length-starts start (r ∷ more) = omega (arith, length-starts (start + size (r .side)) more)

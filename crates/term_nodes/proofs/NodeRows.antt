@@ -6,9 +6,9 @@ use mathlib.Core.List.{List, [], _∷_, _++_, append-assoc}
 use lib.ListN.{length, drop, set, length-append}
 use lib.Seq.{drop-append-add, sets, sets-eq, take-append-seam}
 use Rattle.forest.specs.Forest.{Node}
-use Rattle.forest.specs.code.Rows.{rows}
+use Rattle.forest.specs.Tables.{rows}
 use Rattle.forest.proofs.Rows.{length-rows, rows-append}
-use Rattle.term_nodes.specs.code.Table.{uncounted}
+use Rattle.term_nodes.specs.code.Table.{rowWidth, uncounted}
 use Rattle.term_nodes.specs.Terms.{Raw}
 
 -- four numbers written one after the other
@@ -21,15 +21,15 @@ row-written l i a b c d =
 
 -- the row of one node more, written behind those of the nodes
 pub row-added : (raw : List ℕ) (nodes : List (Node Raw)) (rest : List ℕ) (n : Node Raw) (next : ℕ) (row : List ℕ)
-    → raw ≡ rows uncounted nodes ++ rest → next ≡ length nodes → row ≡ uncounted n → 4 * next + 4 ≤ length raw
-    → sets raw (4 * next) row ≡ rows uncounted (nodes ++ n ∷ []) ++ drop 4 rest
+    → raw ≡ rows uncounted nodes ++ rest → next ≡ length nodes → row ≡ uncounted n → rowWidth * next + rowWidth ≤ length raw
+    → sets raw (rowWidth * next) row ≡ rows uncounted (nodes ++ n ∷ []) ++ drop rowWidth rest
 unfolding rows
 row-added raw nodes rest n next row is counted written room =
-    let long = length-rows uncounted 4 (λ x. refl) nodes in
+    let long = length-rows uncounted rowWidth (λ x. refl) nodes in
     let all : length raw ≡ length (rows uncounted nodes) + length rest = ap length is ∙ length-append (rows uncounted nodes) rest in
-    let place : 4 * next ≡ length (rows uncounted nodes) = omega arith in
-    ap (λ (l : List ℕ). sets l (4 * next) row) is
-    ∙ ap (λ (l : List ℕ). sets (rows uncounted nodes ++ rest) (4 * next) l) written
+    let place : rowWidth * next ≡ length (rows uncounted nodes) = omega arith in
+    ap (λ (l : List ℕ). sets l (rowWidth * next) row) is
+    ∙ ap (λ (l : List ℕ). sets (rows uncounted nodes ++ rest) (rowWidth * next) l) written
     ∙ ap (λ (i : ℕ). sets (rows uncounted nodes ++ rest) i (uncounted n)) place
     ∙ sets-eq (uncounted n) (rows uncounted nodes ++ rest) (length (rows uncounted nodes)) (rw length-append (omega arith))
-    ∙ rw (take-append-seam, drop-append-add (rows uncounted nodes) rest 4, rows-append uncounted 4 (λ x. refl) nodes (n ∷ []), append-assoc)
+    ∙ rw (take-append-seam, drop-append-add (rows uncounted nodes) rest rowWidth, rows-append uncounted rowWidth (λ x. refl) nodes (n ∷ []), append-assoc)

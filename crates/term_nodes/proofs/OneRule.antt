@@ -6,28 +6,32 @@ use mathlib.Core.Path.{_≡_, refl, sym, ap, _∙_}
 use mathlib.Core.List.{List, [], _∷_, _++_}
 use lib.ListN.{length, drop, set, length-append}
 use lib.Seq.{drop-append-seam, length-sets, sets}
-use Rattle.forest.specs.Forest.{size}
-use Rattle.forest.specs.code.Rows.{over}
+use Rattle.forest.specs.code.Cursors.{size}
+use Rattle.forest.specs.Tables.{over}
 use Rattle.forest.proofs.Laws.{size-join}
 use Rattle.forest.proofs.Rows.{over-more}
+use Rattle.derivation.specs.code.Rules.{ruleWidth}
 use Rattle.words.specs.Trees.{Lexeme, wordOf}
 use Rattle.lexemes.specs.Lists.{Items}
-use Rattle.term_nodes.specs.code.Gathering.{GatheredRule, GatheringRule, TermNodes, WordPast}
+use Rattle.term_nodes.specs.code.Gather.{GatheredRule, GatheringRule}
+use Rattle.term_nodes.specs.code.Limits.{TermNodes, WordPast}
 use Rattle.term_nodes.specs.Terms.{rawRule}
 use Rattle.term_nodes.proofs.Saying.{say-rule}
 use Rattle.written_sorts.proofs.Walked.{placed}
-use Rattle.term_nodes.specs.Rules.{Ruled, nodesPast, rulePast, rulesOf, sides, startTable}
-use Rattle.term_nodes.specs.code.RuleGathering.{RuleAt, RuleGathered}
+use Rattle.term_nodes.specs.Rules.{Ruled, nodesPast, rulePast, rulesOf, sides}
+use Rattle.term_nodes.specs.code.RuleGathering.{RuleAt, RuleGathered, startTable}
 use Rattle.term_nodes.specs.declared.Gathered.{Gathered}
-use Rattle.term_nodes.proofs.Listing.{first-past, length-starts, no-rule-past, nodes-more, nodes-within, sides-more, some-node, starts-append, still-past}
+use Rattle.term_nodes.proofs.Listing.{first-past, length-starts, no-rule-past, nodes-more, nodes-within, sides-more, some-node, starts-append}
+use Rattle.term_nodes.proofs.Listing.{still-past}
 
 -- two numbers written one after the other
 pub pair-written : (l : List ℕ) (i a b : ℕ) → set (set l i a) (i + 1) b ≡ sets l i (a ∷ b ∷ [])
 pair-written l i a b = let one : i + 1 ≡ suc i = omega arith in rw one
 
 -- the row of one rule more, written behind those of the rules
-starts-written : (table : List ℕ) (done : List Ruled) (r : Ruled) (more : List ℕ) → table ≡ startTable 0 done ++ more → 2 * length done + 2 ≤ length table
-    → sets table (2 * length done) (size (sides done) ∷ r .head ∷ []) ≡ over (startTable 0 (done ++ r ∷ [])) table
+starts-written : (table : List ℕ) (done : List Ruled) (r : Ruled) (more : List ℕ) → table ≡ startTable 0 done ++ more
+    → ruleWidth * length done + ruleWidth ≤ length table
+    → sets table (ruleWidth * length done) (size (sides done) ∷ r .head ∷ []) ≡ over (startTable 0 (done ++ r ∷ [])) table
 unfolding startTable
 starts-written table done r more is room =
     let starts = startTable 0 done in
@@ -36,7 +40,7 @@ starts-written table done r more is room =
     let all : startTable 0 (done ++ r ∷ []) ≡ starts ++ row = rw zero-add at (starts-append 0 done (r ∷ [])) in
     let lent : table ≡ over starts table =
     is ∙ ap (λ (l : List ℕ). starts ++ l) (sym (drop-append-seam starts more) ∙ ap (λ (l : List ℕ). drop (length starts) l) (sym is)) in
-    ap (λ (l : List ℕ). sets l (2 * length done) row) lent
+    ap (λ (l : List ℕ). sets l (ruleWidth * length done) row) lent
     ∙ ap (λ (i : ℕ). sets (over starts table) i row) (sym long)
     ∙ over-more starts row table (omega arith)
     ∙ ap (λ (l : List ℕ). over l table) (sym all)
@@ -112,7 +116,7 @@ module _ {lexemes : List ℕ} {at nowhere most nodes : ℕ} {raw rules : List �
             }
 
       -- its start and its non-terminal are put into the table, which has room for it
-      pub rule-put : g .rule < most → {rulesAfter : List ℕ} → rulesAfter ≡ sets rules (2 * g .rule) (g .row ∷ A ∷ [])
+      pub rule-put : g .rule < most → {rulesAfter : List ℕ} → rulesAfter ≡ sets rules (ruleWidth * g .rule) (g .row ∷ A ∷ [])
           → (p : RuleAt lexemes at nowhere most nodes raw rules g)
           → RuleGathered p A rawAfter rulesAfter (record { row = row; rule = g .rule + 1; place = place })
       unfolding all rulesOf
@@ -124,7 +128,7 @@ module _ {lexemes : List ℕ} {at nowhere most nodes : ℕ} {raw rules : List �
           let before = no-rule-past nowhere most done (omega (arith, p .holds .counted)) in
           let now = no-rule-past nowhere most (all p) (omega (arith, counted p)) in
           one-more p (drop (length (startTable 0 (all p))) rules) (λ _. put ∙ rw (p .holds .counted, p .holds .rows) written)
-          (ap length put ∙ length-sets rules (2 * g .rule) (g .row ∷ A ∷ [])) (omega (arith, p .holds .place-is))
+          (ap length put ∙ length-sets rules (ruleWidth * g .rule) (g .row ∷ A ∷ [])) (omega (arith, p .holds .place-is))
 
       -- it is the first for which there is no room
       pub rule-past : most ≤ g .rule → g .rule ≡ most → {lesser : ℕ} → lesser ≡ min place at

@@ -5,8 +5,10 @@ use mathlib.Core.Path.{_≡_, sym, ap, _∙_, subst}
 use mathlib.Core.Bool.{Bool, true}
 use mathlib.Core.List.{List, [], _++_, append-assoc, append-nil}
 use lib.ListN.{length}
-use Rattle.forest.specs.Forest.{none, size, tree}
+use Rattle.forest.specs.Forest.{none, tree}
+use Rattle.forest.specs.code.Cursors.{size}
 use Rattle.forest.proofs.Bools.{and-right}
+use Rattle.term_nodes.specs.code.Table.{rowWidth}
 use Rattle.words.specs.Trees.{Lexeme}
 use Rattle.lexemes.specs.Lists.{Items}
 use Rattle.lexemes.specs.code.Standing.{Between}
@@ -46,7 +48,7 @@ module _ (shape : Lexeme → Items → Bool) (listed : (A : ℕ) → Items → L
     pub done : List Ruled
     pub whole-is : done ++ listed A left ≡ whole
     pub holds : Holds nowhere most nodes rawLent rulesLent raw rules done g
-    pub room : 4 * (g .row + (close - at)) ≤ length rawLent
+    pub room : rowWidth * (g .row + (close - at)) ≤ length rawLent
 
 module _ {shape : Lexeme → Items → Bool} {listed : (A : ℕ) → Items → List Ruled} {A nowhere most nodes at close : ℕ}
     {rawLent rulesLent raw rules : List ℕ} {g : Gathered} {whole : List Ruled} where

@@ -8,16 +8,18 @@ use mathlib.Core.List.{List, _∷_, _++_}
 use borrow.Author.Tests.{eq-eqb, ne-eqb}
 use lib.Dec.{eqb}
 use lib.ListN.{getD}
-use Rattle.forest.specs.Forest.{Forest, Node, from, join, nodesOf, none, size, tree}
+use Rattle.forest.specs.Forest.{Forest, Node, join, nodesOf, none, tree}
+use Rattle.forest.specs.code.Cursors.{from, size}
 use Rattle.forest.specs.code.Rows.{numberAt}
 use Rattle.forest.proofs.Laws.{from-one, from-past, size-from, size-join, size-zero, tree-at}
 use Rattle.forest.proofs.Nodes.{node-at, nodes-join}
 use Rattle.forest.proofs.Rows.{row-at}
 use Rattle.lexemes.specs.code.Standing.{Source}
 use Rattle.lexemes.specs.code.Table.{codeAt, numeralCode}
-use Rattle.term_nodes.specs.code.Gathering.{AllSay, Says, TermNodes, WordPast}
-use Rattle.term_nodes.specs.code.Table.{firstAt, headAt, uncounted, uncountedTable}
-use Rattle.term_nodes.specs.Terms.{Raw, constant, cut, firstWord, headWord, isNode, nodeWord, number, pattern, word}
+use Rattle.term_nodes.specs.code.Table.{firstAt, headAt, rowWidth, uncounted, uncountedTable, headWord}
+use Rattle.term_nodes.specs.Terms.{Raw, constant, cut, firstWord, isNode, nodeWord, number, pattern, word}
+use Rattle.term_nodes.specs.code.Limits.{TermNodes, WordPast}
+use Rattle.term_nodes.specs.code.Says.{AllSay, Says}
 
 -- what is said of every node of two forests is said of every node of both
 pub say-join : (s : Source) (a b : Forest Raw) → AllSay s a → AllSay s b → AllSay s (join a b)
@@ -52,9 +54,10 @@ module _ (nowhere : ℕ) (x : Node Raw) (more : List (Node Raw)) where
 
 -- number `column` of the node at a cursor
 read : (F : Forest Raw) (rest : List ℕ) (node : ℕ) {l : Raw} {ops more : Forest Raw} → from F node ≡ tree l ops more
-    → (column : ℕ) → column < 4 → numberAt 4 (uncountedTable F ++ rest) node column ≡ getD (uncounted (record { label = l; operands = ops })) column 0
+    → (column : ℕ) → column < rowWidth
+    → numberAt rowWidth (uncountedTable F ++ rest) node column ≡ getD (uncounted (record { label = l; operands = ops })) column 0
 unfolding uncountedTable
-read F rest node here column small = row-at uncounted 4 (λ n. refl) (nodesOf F) rest node column _ _ (node-at F node _ _ _ here) small
+read F rest node here column small = row-at uncounted rowWidth (λ n. refl) (nodesOf F) rest node column _ _ (node-at F node _ _ _ here) small
 
 -- from `node` on, the word past the rest of the limit is the word past the limit
 pub record Left {lexemes raw : List ℕ} {first end : ℕ} (p : TermNodes lexemes raw first end) (most nowhere node counted : ℕ) : Type 0 where

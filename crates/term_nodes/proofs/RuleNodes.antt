@@ -7,8 +7,9 @@ use mathlib.Core.List.{List, [], _∷_}
 use borrow.Author.Tests.{not-false, not-true}
 use lib.ListN.{length, drop}
 use lib.Seq.{length-sets, sets}
-use Rattle.forest.specs.Forest.{Node, count, nodesOf, none, size, tree}
-use Rattle.forest.specs.code.Rows.{rows}
+use Rattle.forest.specs.Forest.{Node, count, nodesOf, none, tree}
+use Rattle.forest.specs.code.Cursors.{size}
+use Rattle.forest.specs.Tables.{rows}
 use Rattle.forest.proofs.Laws.{size-join}
 use Rattle.forest.proofs.Nodes.{length-nodes, nodes-join}
 use Rattle.words.specs.Trees.{wordOf}
@@ -17,8 +18,8 @@ use Rattle.lexemes.specs.code.Standing.{ItemAt, Source, Stands, ends, word}
 use Rattle.lexemes.specs.code.Table.{nextAt}
 use Rattle.lexemes.proofs.Standing.{by-itself, here}
 use Rattle.shapes.specs.Shapes.{isPattern}
-use Rattle.term_nodes.specs.code.Gathering.{Gathered, GatheredRule, Gathering, GatheringRule}
-use Rattle.term_nodes.specs.code.Table.{uncounted, uncountedTable}
+use Rattle.term_nodes.specs.code.Table.{rowWidth, uncounted, uncountedTable}
+use Rattle.term_nodes.specs.code.Gather.{Gathered, GatheredRule, Gathering, GatheringRule}
 use Rattle.term_nodes.specs.Terms.{Raw, pattern}
 use Rattle.term_nodes.proofs.NodeRows.{row-added}
 use Rattle.term_nodes.proofs.TermWords.{first-of}
@@ -46,7 +47,7 @@ module _ {lexemes : List ℕ} {at : ℕ} {raw : List ℕ} {node : ℕ} where
   pub rule-room : (p : GatheringRule lexemes at raw node) → 6 * at < length lexemes
   rule-room p = here (p .same) (p .stands) .room
 
-  pub row-room : (p : GatheringRule lexemes at raw node) → 4 * node + 4 ≤ length raw
+  pub row-room : (p : GatheringRule lexemes at raw node) → rowWidth * node + rowWidth ≤ length raw
   row-room p = omega (arith, here (p .same) (p .stands) .ahead, rule-end p, p .rows .room)
 
   module _ {r : Bool} (known : (x : ItemAt lexemes at) → r ≡ isPattern (x .label) (x .operands)) where
@@ -87,7 +88,7 @@ module _ {lexemes : List ℕ} {at : ℕ} {raw : List ℕ} {node : ℕ} where
       unfolding count node-of
       row-of p = rw (first-of (p .stands))
 
-      pub pattern-gathered : {rawAfter : List ℕ} → rawAfter ≡ sets raw (4 * node) (at ∷ (at + 1) ∷ 0 ∷ 0 ∷ [])
+      pub pattern-gathered : {rawAfter : List ℕ} → rawAfter ≡ sets raw (rowWidth * node) (at ∷ (at + 1) ∷ 0 ∷ 0 ∷ [])
           → (p : GatheringRule lexemes at raw node) → GatheredRule p rawAfter (node + 1)
       unfolding nodesOf node-of rule-item size uncountedTable
       pattern-gathered {rawAfter} er p =
@@ -98,5 +99,5 @@ module _ {lexemes : List ℕ} {at : ℕ} {raw : List ℕ} {node : ℕ} where
             rest = drop 4 (p .rows .rest);
             is = er ∙ rw nodes-join written;
             counted = rw size-join (omega (arith, p .rows .counted));
-            long = ap length er ∙ length-sets raw (4 * node) (at ∷ (at + 1) ∷ 0 ∷ 0 ∷ []);
+            long = ap length er ∙ length-sets raw (rowWidth * node) (at ∷ (at + 1) ∷ 0 ∷ 0 ∷ []);
           })

@@ -11,15 +11,17 @@ use Rattle.forest.specs.Forest.{count, none, tree}
 use Rattle.forest.specs.Lists.{sameBytes, spelling}
 use Rattle.forest.proofs.Bools.{and-left, and-right, apart}
 use Rattle.words.specs.Trees.{Lexeme, list, literal, numeral, symbol}
-use Rattle.lexemes.specs.Reserved.{isOneOf, isWord, wordNumber}
+use Rattle.lexemes.specs.Reserved.{isOneOf, isWord}
+use Rattle.lexemes.specs.code.Reserved.{wordNumber}
 use Rattle.lexemes.proofs.Numbers.{by-number, isKnown, numberOf}
 use Rattle.lexemes.specs.Lists.{Items, inside, is, isAmong, isList, item}
 use Rattle.lexemes.specs.code.Standing.{Source, Stands, WordIs, bracketed, ends, word}
 use Rattle.lexemes.specs.code.Table.{symbolCode}
 use Rattle.lexemes.proofs.ByCode.{codeFor}
 use Rattle.shapes.specs.Shapes.{applicationShape, isPattern, ruleShape, sortShape, termShapes}
-use Rattle.term_nodes.specs.code.Gathering.{AllSay, Says}
-use Rattle.term_nodes.specs.Terms.{cutBy, headedBy, operandsOf, pattern, rawOf, rawRule, rawTerms, writtenOf}
+use Rattle.term_nodes.specs.code.Says.{AllSay, Says}
+use Rattle.term_nodes.specs.Terms.{cutBy, headedBy, pattern, rawOf, rawRule, rawTerms, writtenOf}
+use Rattle.term_nodes.specs.code.Table.{operandsOf}
 use Rattle.term_nodes.proofs.TermWords.{CutAt, ListTerm, by-cut, by-symbol, cut-alone, list-term, listShape}
 
 say-operands : (s : Source) (ops : Items) (b : Bool) → is "_" (item 0 ops) ≡ b → (termShapes true ops ≡ true → AllSay s (rawTerms true ops))

@@ -19,8 +19,9 @@ use Rattle.lexemes.proofs.ByCode.{codeFor, front-word, frontCode}
 use Rattle.lexemes.proofs.Listed.{at-item, is-list, item-room, no-list}
 use Rattle.lexemes.proofs.Standing.{front, here-as}
 use Rattle.shapes.specs.Shapes.{applicationShape, termShapes}
-use Rattle.term_nodes.specs.code.Gathering.{Onward, TermAt}
-use Rattle.term_nodes.specs.Terms.{headWord, headedBy, operandsOf, rawOf, rawTerms}
+use Rattle.term_nodes.specs.code.Gather.{Onward, TermAt}
+use Rattle.term_nodes.specs.Terms.{headedBy, rawOf, rawTerms}
+use Rattle.term_nodes.specs.code.Table.{headWord, operandsOf}
 use Rattle.term_nodes.proofs.TermWords.{ListTerm, by-cut, by-symbol, cut-alone, first-of, list-term, listShape}
 
 -- the code of `_`

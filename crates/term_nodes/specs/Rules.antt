@@ -3,7 +3,7 @@ use Prim.Native.Nat.{ℕ, _+_, _-_, min}
 use mathlib.Core.Bool.{cond}
 use mathlib.Core.List.{List, [], _∷_, _++_}
 use lib.Dec.{leb}
-use Rattle.forest.specs.Forest.{Forest, count, join, nodesOf, none, size, tree}
+use Rattle.forest.specs.Forest.{Forest, count, join, nodesOf, none, tree}
 use Rattle.words.specs.Trees.{wordOf}
 use Rattle.lexemes.specs.Lists.{Items, inside, item}
 use Rattle.term_nodes.specs.Terms.{Raw, nodeWord, rawRule}
@@ -28,11 +28,6 @@ rulesIn A (tree l ops more) = rulesOf A (inside 2 ops) ++ rulesIn (A + 1) more
 unfoldable pub sides : List Ruled → Forest Raw
 sides [] = none
 sides (r ∷ more) = join (r .side) (sides more)
-
--- Two numbers for each rule: the node where its right side starts, and its non-terminal.
-unfoldable pub startTable : (start : ℕ) → List Ruled → List ℕ
-startTable start [] = []
-startTable start (r ∷ more) = start ∷ r .head ∷ startTable (start + size (r .side)) more
 
 -- The first word of the item past the first `most`; nowhere, where there are no more than that: "the word past it, for a command, rule, argument,
 -- non-terminal or node its first".

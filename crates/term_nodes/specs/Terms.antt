@@ -31,14 +31,6 @@ firstWord (constant at width v written) = at
 firstWord (cut at head i j) = at
 firstWord (pattern at c s held) = at
 
--- The word that says what a node is: the symbol, the numeral, the literal, the i of `(_ extract i j)`, or `Constant` or `Variable`.
-abbrev pub headWord : Raw → ℕ
-headWord (word at head name) = head
-headWord (number at v) = at
-headWord (constant at width v written) = at
-headWord (cut at head i j) = head
-headWord (pattern at c s held) = at + 1
-
 -- "nodes (literals, names, applications; no head is one)": a numeral is none of these.
 abbrev pub isNode : Raw → Bool
 isNode (word at head name) = true
@@ -82,10 +74,6 @@ rawTerms headed (tree l ops more) =
     let operands = cond (is "_" (item 0 ops)) none (rawTerms true ops) in
     let later = rawTerms false more in
     cond headed later (tree (rawOf l ops) operands later)
-
--- The operands of a term, by the items of its list.
-abbrev pub operandsOf : Items → Forest Raw
-operandsOf ops = cond (is "_" (item 0 ops)) none (rawTerms true ops)
 
 -- The term that an item is.
 abbrev pub rawTerm : Lexeme → Items → Forest Raw

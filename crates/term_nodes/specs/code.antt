@@ -1,3 +1,6 @@
 pub mod Table
-pub mod Gathering
+pub mod Gather
 pub mod RuleGathering
+pub mod Sizes
+pub mod Says
+pub mod Limits

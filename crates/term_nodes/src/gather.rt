@@ -13,8 +13,9 @@ ghost use Prim.Native.Nat.{_+_, _*_, _≤_};
 ghost use lib.ListN.{length};
 ghost use lib.Seq.{sets};
 ghost use Rattle.forest.specs.Forest.{count};
-ghost use Rattle.term_nodes.specs.code.Gathering.{Gathered, GatheredRule, Gathering, GatheringRule, Onward, TermAt};
-ghost use Rattle.term_nodes.specs.Terms.{headWord, operandsOf, rawOf};
+ghost use Rattle.term_nodes.specs.code.Table.{rowWidth, headWord, operandsOf};
+ghost use Rattle.term_nodes.specs.Terms.{rawOf};
+ghost use Rattle.term_nodes.specs.code.Gather.{Gathered, GatheredRule, Gathering, GatheringRule, Onward, TermAt};
 
 // The word that says what the node at a word is.
 fn head_word(lexemes: &[u64], at: usize) -> usize
@@ -64,8 +65,8 @@ fn behind(lexemes: &[u64], at: usize) -> usize
 
 // Writes the row of a node that is not counted yet.
 fn put_node(raw: &mut [u64], node: usize, at: usize, head: usize, operands: usize)
-    requires { ⌜ 4 * node + 4 ≤ length (now raw) ⌝ }
-    ensures { λ r. ⌜ now (raw .exit) ≡ sets (now (raw .entry)) (4 * node) (at ∷ head ∷ operands ∷ 0 ∷ []) ⌝ }
+    requires { ⌜ rowWidth * node + rowWidth ≤ length (now raw) ⌝ }
+    ensures { λ r. ⌜ now (raw .exit) ≡ sets (now (raw .entry)) (rowWidth * node) (at ∷ head ∷ operands ∷ 0 ∷ []) ⌝ }
 {
     let row = ROW * node;
     raw[row] = at as u64;

@@ -4,7 +4,7 @@ use crate::head_at;
 use lexemes::NUMERAL;
 use lexemes::code_at;
 ghost use mathlib.Core.Path.{_≡_};
-ghost use Rattle.term_nodes.specs.code.Gathering.{TermNodes, WordPast};
+ghost use Rattle.term_nodes.specs.code.Limits.{TermNodes, WordPast};
 
 // The first word of the node past the first `most` of those in the rows from `first` on to `end`, numerals not counted; `nowhere` where there are not so many.
 pub fn node_past(

@@ -2,6 +2,9 @@
 use crate::Gathered;
 use crate::gather::gather_rule;
 use crate::limits::node_past;
+use derivation::rules::RULE;
+use forest::limits::NODES;
+use forest::limits::RULES;
 use forest::numbers::least;
 use lexemes::next_at;
 ghost use mathlib.Core.List.{[], _∷_};
@@ -9,14 +12,16 @@ ghost use mathlib.Core.Path.{_≡_};
 ghost use Prim.Native.Nat.{_+_, _*_, _≤_};
 ghost use lib.ListN.{length};
 ghost use lib.Seq.{sets};
-ghost use Rattle.term_nodes.specs.code.RuleGathering.{GroupGathered, GroupsBetween, RuleAt, RuleGathered, RulesBetween, RulesGathered};
+ghost use Rattle.derivation.specs.code.Rules.{ruleWidth};
+ghost use Rattle.forest.specs.Limits.{mostNodes, mostRules};
+ghost use Rattle.term_nodes.specs.code.RuleGathering.{GathersGroup, GathersOne, GathersRules, GroupsBetween, RuleAt, RulesBetween};
 
 // Writes where a rule starts, and its non-terminal.
 fn put_rule(rules: &mut [u64], rule: usize, start: usize, head: usize)
-    requires { ⌜ 2 * rule + 2 ≤ length (now rules) ⌝ }
-    ensures { λ r. ⌜ now (rules .exit) ≡ sets (now (rules .entry)) (2 * rule) (start ∷ head ∷ []) ⌝ }
+    requires { ⌜ ruleWidth * rule + ruleWidth ≤ length (now rules) ⌝ }
+    ensures { λ r. ⌜ now (rules .exit) ≡ sets (now (rules .entry)) (ruleWidth * rule) (start ∷ head ∷ []) ⌝ }
 {
-    let row = 2 * rule;
+    let row = RULE * rule;
     rules[row] = start as u64;
     rules[row + 1] = head as u64;
 }
@@ -28,38 +33,38 @@ fn gather_one(
     head: usize,
     raw: &mut [u64],
     rules: &mut [u64],
-    most: usize,
-    nodes: usize,
     nowhere: usize,
     already: Gathered,
 ) -> Gathered
-    requires { ⌜ RuleAt (now lexemes) at nowhere most nodes (now raw) (now rules) already ⌝ }
-    ensures { λ r. ⌜ ((p : RuleAt (now (lexemes .entry)) at nowhere most nodes (now (raw .entry)) (now (rules .entry)) already) → RuleGathered p head (now (raw .exit)) (now (rules .exit)) r) ⌝ }
+    requires { ⌜ RuleAt (now lexemes) at nowhere mostRules mostNodes (now raw) (now rules) already ⌝ }
+    ensures { λ r. ⌜ GathersOne (now (lexemes .entry)) at head nowhere (now (raw .entry)) (now (rules .entry)) already
+        (now (raw .exit)) (now (rules .exit)) r ⌝ }
 {
     let start = already.row;
     let rule = already.rule;
     let row = gather_rule(lexemes, at, raw, start);
-    let past = node_past(lexemes, raw, start, row, nodes, nowhere);
+    let past = node_past(lexemes, raw, start, row, NODES, nowhere);
     let place = least(already.place, past);
-    if rule < most {
+    let counted = rule + 1;
+    if rule < RULES {
         put_rule(rules, rule, start, head);
         return Gathered {
-            row: row,
-            rule: rule + 1,
-            place: place,
+            row,
+            rule: counted,
+            place,
         };
     }
-    if rule == most {
+    if rule == RULES {
         return Gathered {
-            row: row,
-            rule: rule + 1,
+            row,
+            rule: counted,
             place: least(place, at),
         };
     }
     Gathered {
-        row: row,
-        rule: rule + 1,
-        place: place,
+        row,
+        rule: counted,
+        place,
     }
 }
 
@@ -71,18 +76,17 @@ fn gather_group(
     head: usize,
     raw: &mut [u64],
     rules: &mut [u64],
-    most: usize,
-    nodes: usize,
     nowhere: usize,
     already: Gathered,
 ) -> Gathered
-    requires { ⌜ RulesBetween (now lexemes) first close nowhere most nodes (now raw) (now rules) already ⌝ }
-    ensures { λ r. ⌜ ((p : RulesBetween (now (lexemes .entry)) first close nowhere most nodes (now (raw .entry)) (now (rules .entry)) already) → GroupGathered p head (now (raw .exit)) (now (rules .exit)) r) ⌝ }
+    requires { ⌜ RulesBetween (now lexemes) first close nowhere mostRules mostNodes (now raw) (now rules) already ⌝ }
+    ensures { λ r. ⌜ GathersGroup (now (lexemes .entry)) first close head nowhere (now (raw .entry)) (now (rules .entry)) already
+        (now (raw .exit)) (now (rules .exit)) r ⌝ }
 {
     let mut found = already;
     let mut at = first;
     while at < close {
-        found = gather_one(lexemes, at, head, raw, rules, most, nodes, nowhere, found);
+        found = gather_one(lexemes, at, head, raw, rules, nowhere, found);
         at = next_at(lexemes, at);
     }
     found
@@ -96,12 +100,11 @@ pub fn gather_rules(
     close: usize,
     raw: &mut [u64],
     rules: &mut [u64],
-    most: usize,
-    nodes: usize,
     nowhere: usize,
 ) -> Gathered
-    requires { ⌜ GroupsBetween (now lexemes) first close most (now raw) (now rules) ⌝ }
-    ensures { λ r. ⌜ ((p : GroupsBetween (now (lexemes .entry)) first close most (now (raw .entry)) (now (rules .entry))) → RulesGathered p nowhere nodes (now (raw .exit)) (now (rules .exit)) r) ⌝ }
+    requires { ⌜ GroupsBetween (now lexemes) first close mostRules (now raw) (now rules) ⌝ }
+    ensures { λ r. ⌜ GathersRules (now (lexemes .entry)) first close nowhere (now (raw .entry)) (now (rules .entry))
+        (now (raw .exit)) (now (rules .exit)) r ⌝ }
 {
     let mut found = Gathered {
         row: 0,
@@ -119,8 +122,6 @@ pub fn gather_rules(
             head,
             raw,
             rules,
-            most,
-            nodes,
             nowhere,
             found,
         );

@@ -2,7 +2,7 @@
 use crate::ROW;
 use crate::operands_at;
 use crate::size_at;
-ghost use Rattle.term_nodes.specs.code.Gathering.{Counted, Counting, PastTree, TreeAt};
+ghost use Rattle.term_nodes.specs.code.Sizes.{Counted, Counting, PastTree, TreeAt};
 
 // The node past the tree of a node, where the trees of its operands are counted.
 fn past_tree(raw: &[u64], node: usize) -> usize

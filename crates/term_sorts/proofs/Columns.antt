@@ -9,12 +9,15 @@ use lib.Seq.{getD-append-add, getD-drop}
 use Rattle.forest.proofs.Laws.{Tree, from-over, inside, size-from, size-tree}
 use Rattle.forest.proofs.Lists.{drop-map}
 use Rattle.forest.proofs.Nodes.{length-nodes, node-at}
-use Rattle.forest.specs.Forest.{Forest, Node, from, join, nodesOf, none, size, tree}
-use Rattle.forest.specs.code.Rows.{over}
+use Rattle.forest.specs.Forest.{Forest, Node, join, nodesOf, none, tree}
+use Rattle.forest.specs.code.Cursors.{from, size}
+use Rattle.forest.specs.Tables.{over}
 use Rattle.derivation.specs.Derivation.{Item}
 use Rattle.derivation.specs.code.Tables.{formTable}
-use Rattle.term_sorts.specs.Forms.{FormScope, formSorts, sortColumn, sortNumber, treeSort}
-use Rattle.term_sorts.specs.code.Sorting.{Stand, treeSorts}
+use Rattle.term_sorts.specs.Forms.{FormScope, formSorts, treeSort}
+use Rattle.term_sorts.specs.code.Forms.{sortColumn, sortNumber}
+use Rattle.term_sorts.specs.code.Nodes.{treeSorts}
+use Rattle.term_sorts.specs.code.Operands.{Stand}
 use Rattle.term_sorts.proofs.NodeSorts.{form-says}
 
 -- The number of the sort of a node's tree.

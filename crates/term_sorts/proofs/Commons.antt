@@ -7,8 +7,8 @@ use borrow.Author.Tests.{eq-eqb, ne-eqb}
 use lib.ListN.{getD, length}
 use Rattle.operators.specs.Sorts.{allAre, when}
 use Rattle.terms.specs.code.Nodes.{sizeAt}
-use Rattle.term_sorts.specs.code.Sorting.{Common, SomeTrees, commonSort}
-use Rattle.term_sorts.proofs.Walks.{Left, all-left, none-left, rest-left, turn}
+use Rattle.term_sorts.specs.code.Operands.{Common, SomeTrees, commonSort}
+use Rattle.term_sorts.proofs.TreeWalk.{Left, all-left, none-left, rest-left, turn}
 
 -- The sort in common is that of the number `sort`, where those of `rest` are.
 pub record Agrees (sort : ℕ) (all rest : List ℕ) : Type 0 where

@@ -8,11 +8,13 @@ use mathlib.Core.List.{List}
 use mathlib.Core.Option.{Option, none as nothing, some}
 use borrow.Author.Tests.{le-ltb, lt-ltb, ltb-false, ltb-true, ne-eqb}
 use lib.Dec.{eqb, ltb}
-use Rattle.forest.specs.Forest.{Forest, join, none, size, tree}
+use Rattle.forest.specs.Forest.{Forest, join, none, tree}
+use Rattle.forest.specs.code.Cursors.{size}
 use Rattle.derivation.specs.Derivation.{Item}
 use Rattle.terms.specs.Sorts.{sortOver, withSort}
-use Rattle.term_sorts.specs.Forms.{FormScope, faultFrom, formSorts, itemSort, sortNumber, sorted, treeSort}
-use Rattle.term_sorts.proofs.Wholes.{sorted-with}
+use Rattle.term_sorts.specs.Forms.{FormScope, formSorts, itemSort, sorted, treeSort}
+use Rattle.term_sorts.specs.code.Forms.{faultFrom, sortNumber}
+use Rattle.term_sorts.proofs.AllSorted.{sorted-with}
 
 -- A number between two others.
 record Between (least most n : ℕ) : Type 0 where

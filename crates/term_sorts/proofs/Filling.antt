@@ -9,11 +9,15 @@ use lib.Dec.{eqb}
 use lib.ListN.{getD, length, length-set, set}
 use lib.Seq.{ext-getD, getD-set-other, getD-set-same}
 use Rattle.forest.proofs.Laws.{Tree, from-one, size-from, size-zero, tree-at}
-use Rattle.forest.specs.Forest.{from, join, none, size, tree}
-use Rattle.forest.specs.code.Rows.{over}
+use Rattle.forest.specs.Forest.{join, none, tree}
+use Rattle.forest.specs.code.Cursors.{from, size}
+use Rattle.forest.specs.Tables.{over}
 use Rattle.terms.specs.code.Nodes.{operandsAt}
-use Rattle.term_sorts.specs.Forms.{faultFrom, sortColumn, sortNumber, sorted}
-use Rattle.term_sorts.specs.code.Sorting.{AllSorted, NodeAt, NodeGives, SortsFilled, SortsFilling, Trees, treeSorts}
+use Rattle.term_sorts.specs.Forms.{sorted}
+use Rattle.term_sorts.specs.code.Forms.{faultFrom, sortColumn, sortNumber}
+use Rattle.term_sorts.specs.code.Sorting.{SortsFilled, SortsFilling}
+use Rattle.term_sorts.specs.code.Nodes.{NodeAt, NodeGives, treeSorts}
+use Rattle.term_sorts.specs.code.Operands.{AllSorted, Trees}
 use Rattle.term_sorts.proofs.Columns.{column-at, column-length, over-length, over-past, trees-stand}
 use Rattle.term_sorts.proofs.Faults.{fault-none, fault-turn}
 use Rattle.term_sorts.proofs.NodeSorts.{form-says, sorts-count, sorts-together}

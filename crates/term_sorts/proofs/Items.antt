@@ -1,12 +1,12 @@
 -- The sort of an item, by its code and its value.
-use Prim.Native.Nat.{ℕ, zero, suc, _+_, _*_, _/_, _%_, _≤_, _<_}
+use Prim.Native.Nat.{ℕ, zero, suc, _+_, _≤_, _<_}
 use native.Mathlib.Nat.{add-zero}
 use native.Mathlib.Omega.{arith}
 use mathlib.Core.Bool.{Bool, true, false, _&&_}
 use mathlib.Core.Path.{_≡_, refl, sym}
 use mathlib.Core.List.{List, [], _∷_}
 use borrow.Author.Tests.{eq-eqb, eqb-false, eqb-true, le-leb, leb-true, lt-ltb, ne-eqb}
-use lib.Dec.{eqb, leb}
+use lib.Dec.{eqb, leb, lit<}
 use lib.ListN.{getD, length}
 use Rattle.forest.proofs.Bools.{and-left, and-right, apart}
 use Rattle.operators.specs.Operators.{operatorSort}
@@ -14,10 +14,13 @@ use Rattle.operators.specs.Sorts.{maxWidth, valuesOf, when}
 use Rattle.derivation.specs.Derivation.{Item, anyArgument, anyLiteral, nonTerminal, the}
 use Rattle.derivation.specs.code.Tables.{itemCode, itemValue}
 use Rattle.terms.specs.Labels.{defined, function, literal, name, operator}
+use Rattle.terms.specs.code.Codes.{anyArgumentKind, anyLiteralKind, codeWith, definedKind, headOf, highIn, kindOf, literalHead, literalKind, lowIn, nameKind}
+use Rattle.terms.specs.code.Codes.{nonTerminalKind, operatorKind, sortCount}
 use Rattle.terms.specs.code.Nodes.{Plain}
+use Rattle.terms.proofs.CodeParts.{head-with, high-in, kind-with, literal-sort, low-in}
 use Rattle.terms.specs.Sorts.{Signature, calledSort, labelSort, sameSorts}
 use Rattle.term_sorts.specs.Forms.{FormScope, itemSort}
-use Rattle.term_sorts.specs.code.Sorting.{firstRow, leafSort}
+use Rattle.term_sorts.specs.code.Nodes.{firstRow, leafSort}
 use Rattle.term_sorts.specs.code.Signatures.{Real, RowIs, RowsAre, Sortable, SortsAre, allRows, functionSignature, nonTerminalSignature}
 
 -- A label that its numbers tell; any other item is told by them anyway.
@@ -28,14 +31,10 @@ Told (anyLiteral s) = Unit {0}
 Told (anyArgument s) = Unit {0}
 
 -- The sort of an operator.
-pub operator-item : (scope : FormScope) (i : Item) → Told i → itemCode i % 16 ≡ 2 → (ss : List ℕ)
-    → itemSort scope i ss ≡ operatorSort (itemCode i / 16) (itemValue i / 64) (itemValue i % 64) ss
+pub operator-item : (scope : FormScope) (i : Item) → Told i → kindOf (itemCode i) ≡ operatorKind → (ss : List ℕ)
+    → itemSort scope i ss ≡ operatorSort (headOf (itemCode i)) (highIn (itemValue i)) (lowIn (itemValue i)) ss
 unfolding itemSort labelSort
-operator-item scope (the (operator o i j)) p h ss =
-    let number : (2 + 16 * o) / 16 ≡ o = omega arith in
-    let high : (64 * i + j) / 64 ≡ i = omega arith in
-    let low : (64 * i + j) % 64 ≡ j = omega arith in
-    rw (number, high, low)
+operator-item scope (the (operator o i j)) p h ss = rw (head-with operatorKind o (lit< tt), high-in i j p, low-in i j p)
 operator-item scope (the (literal s v w)) p h ss = absurd (omega arith)
 operator-item scope (the (name s k)) p h ss = absurd (omega arith)
 operator-item scope (the (defined k)) p h ss = absurd (omega arith)
@@ -44,31 +43,26 @@ operator-item scope (nonTerminal A) p h ss = absurd (omega arith)
 operator-item scope (anyLiteral s) p h ss = absurd (omega arith)
 operator-item scope (anyArgument s) p h ss = absurd (omega arith)
 
+-- Whether a kind is that of functions or non-terminals.
+abbrev pub isCalled : (kind : ℕ) → Bool
+isCalled kind = leb definedKind kind && leb kind nonTerminalKind
+
 -- The sort of an item that is no operator, no function and no non-terminal.
-pub leaf-item : (scope : FormScope) (i : Item) → Real scope i → (itemCode i % 16 ≡ 2 → ⊥) → leb 3 (itemCode i % 16) && leb (itemCode i % 16) 5 ≡ false
+pub leaf-item : (scope : FormScope) (i : Item) → Real scope i → (kindOf (itemCode i) ≡ operatorKind → ⊥) → isCalled (kindOf (itemCode i)) ≡ false
     → (ss : List ℕ) → itemSort scope i ss ≡ when (eqb (length ss) 0) (leafSort (itemCode i))
 unfolding itemSort labelSort
 leaf-item scope (the (literal s v w)) r n h ss =
-    let kind : (0 + 16 * (s + 128 * w)) % 16 ≡ 0 = omega arith in
-    let more : (0 + 16 * (s + 128 * w)) / 16 ≡ s + 128 * w = omega arith in
-    let sort : (s + 128 * w) % 128 ≡ s = omega (arith, r .sort) in
-    rw (le-leb s maxWidth (r .sort), lt-ltb v (valuesOf s) (r .value), kind, more, sort)
+    let narrow : s < sortCount = omega (arith, r .sort) in
+    rw (le-leb s maxWidth (r .sort), lt-ltb v (valuesOf s) (r .value), kind-with literalKind (literalHead s w) (lit< tt), literal-sort s w narrow)
 leaf-item scope (the (name s k)) r n h ss =
-    let kind : (1 + 16 * s) % 16 ≡ 1 = omega arith in
-    let sort : (1 + 16 * s) / 16 ≡ s = omega arith in
-    rw (lt-ltb k (length (scope .terms .names)) (r .0), eq-eqb (getD (scope .terms .names) k 0) s (r .1), kind, sort)
+    let known = lt-ltb k (length (scope .terms .names)) (r .0) in
+    rw (known, eq-eqb (getD (scope .terms .names) k 0) s (r .1), kind-with nameKind s (lit< tt), head-with nameKind s (lit< tt))
 leaf-item scope (the (operator o i j)) r n h ss = absurd (n (omega arith))
 leaf-item scope (the (defined k)) r n h ss = apart (sym h)
 leaf-item scope (the (function k)) r n h ss = apart (sym h)
 leaf-item scope (nonTerminal A) r n h ss = apart (sym h)
-leaf-item scope (anyLiteral s) r n h ss =
-    let kind : (6 + 16 * s) % 16 ≡ 6 = omega arith in
-    let sort : (6 + 16 * s) / 16 ≡ s = omega arith in
-    rw (kind, sort)
-leaf-item scope (anyArgument s) r n h ss =
-    let kind : (7 + 16 * s) % 16 ≡ 7 = omega arith in
-    let sort : (7 + 16 * s) / 16 ≡ s = omega arith in
-    rw (kind, sort)
+leaf-item scope (anyLiteral s) r n h ss = rw (kind-with anyLiteralKind s (lit< tt), head-with anyLiteralKind s (lit< tt))
+leaf-item scope (anyArgument s) r n h ss = rw (kind-with anyArgumentKind s (lit< tt), head-with anyArgumentKind s (lit< tt))
 
 -- The signature of function k, in row `row`.
 pub record Known (signatures : List ℕ) (fs : List Signature) (k row : ℕ) : Type 0 where
@@ -114,12 +108,12 @@ pub record Callable (signatures : List ℕ) (scope : FormScope) (i : Item) (row 
   pub gives : (ss : List ℕ) → itemSort scope i ss ≡ when (sameSorts ss (by .arguments)) (by .result)
 
 -- The kinds of functions and non-terminals.
-called-kind : (kind : ℕ) → leb 3 kind && leb kind 5 ≡ true → (3 ≤ kind) × (kind ≤ 5)
-called-kind kind h = (leb-true 3 kind (and-left _ _ h), leb-true kind 5 (and-right (leb 3 kind) _ h))
+called-kind : (kind : ℕ) → isCalled kind ≡ true → (definedKind ≤ kind) × (kind ≤ nonTerminalKind)
+called-kind kind h = (leb-true definedKind kind (and-left _ _ h), leb-true kind nonTerminalKind (and-right (leb definedKind kind) _ h))
 
 -- Each such item has one.
 pub callable : {forms signatures : List ℕ} (g : Sortable forms signatures) (i : Item) → Real (g .scope) i
-    → leb 3 (itemCode i % 16) && leb (itemCode i % 16) 5 ≡ true → Callable signatures (g .scope) i (firstRow (itemCode i % 16) + itemValue i)
+    → isCalled (kindOf (itemCode i)) ≡ true → Callable signatures (g .scope) i (firstRow (kindOf (itemCode i)) + itemValue i)
 unfolding itemSort labelSort
 callable {signatures = signatures} g (the (defined k)) r h =
     let q = known signatures 0 (g .scope .terms .defined) k (g .defined-are) r in
@@ -135,8 +129,8 @@ callable {signatures = signatures} g (nonTerminal A) r h =
       low = omega (arith, g .few-nonTerminals);
       gives = λ ss. rw (lt-ltb A (length sorts) r, no-arguments ss);
     }
-callable g (the (literal s v w)) r h = let k = called-kind ((0 + 16 * (s + 128 * w)) % 16) h in absurd (omega arith)
-callable g (the (name s k)) r h = let k = called-kind ((1 + 16 * s) % 16) h in absurd (omega arith)
-callable g (the (operator o i j)) r h = let k = called-kind ((2 + 16 * o) % 16) h in absurd (omega arith)
-callable g (anyLiteral s) r h = let k = called-kind ((6 + 16 * s) % 16) h in absurd (omega arith)
-callable g (anyArgument s) r h = let k = called-kind ((7 + 16 * s) % 16) h in absurd (omega arith)
+callable g (the (literal s v w)) r h = let k = called-kind (kindOf (codeWith literalKind (literalHead s w))) h in absurd (omega arith)
+callable g (the (name s k)) r h = let k = called-kind (kindOf (codeWith nameKind s)) h in absurd (omega arith)
+callable g (the (operator o i j)) r h = let k = called-kind (kindOf (codeWith operatorKind o)) h in absurd (omega arith)
+callable g (anyLiteral s) r h = let k = called-kind (kindOf (codeWith anyLiteralKind s)) h in absurd (omega arith)
+callable g (anyArgument s) r h = let k = called-kind (kindOf (codeWith anyArgumentKind s)) h in absurd (omega arith)

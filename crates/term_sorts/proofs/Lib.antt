@@ -1,5 +1,5 @@
-pub mod Walks
-pub mod Wholes
+pub mod TreeWalk
+pub mod AllSorted
 pub mod Commons
 pub mod RuleSorts
 pub mod OperatorSorts
@@ -9,4 +9,4 @@ pub mod NodeSorts
 pub mod Faults
 pub mod Columns
 pub mod Filling
-pub mod Bench
+pub mod SmallForms

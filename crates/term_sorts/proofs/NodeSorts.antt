@@ -1,31 +1,38 @@
 -- What the tables say of a node of the forms, and the sort of its tree.
-use Prim.Native.Nat.{ℕ, zero, suc, _+_, _/_, _%_, _≤_, _<_}
+use Prim.Native.Nat.{ℕ, zero, suc, _+_, _≤_, _<_}
 use native.Mathlib.Omega.{arith}
 use borrow.Author.Tests.{not-false, not-true}
-use mathlib.Core.Bool.{not, Bool, true, false, cond, _&&_}
+use mathlib.Core.Bool.{not, Bool, true, false, cond}
 use mathlib.Core.Path.{_≡_, refl, sym, ap, _∙_, subst}
 use mathlib.Core.List.{List, _++_}
 use mathlib.Core.Option.{Option, none as nothing, some}
-use lib.Dec.{eqb, leb, lit<}
+use lib.Dec.{eqb, lit<}
 use lib.ListN.{getD, length}
 use Rattle.forest.proofs.Bools.{apart}
 use Rattle.forest.proofs.Nodes.{node-at}
 use Rattle.forest.proofs.Rows.{row-at}
-use Rattle.forest.specs.Forest.{Forest, count, from, join, nodesOf, none, size, tree}
-use Rattle.forest.specs.code.Rows.{numberAt, rows}
+use Rattle.forest.specs.Forest.{Forest, count, join, nodesOf, none, tree}
+use Rattle.forest.specs.code.Cursors.{from, size}
+use Rattle.forest.specs.code.Rows.{numberAt}
+use Rattle.forest.specs.Tables.{rows}
 use Rattle.derivation.proofs.Reading.{ItemSays}
 use Rattle.derivation.specs.Derivation.{Item, anyArgument, anyLiteral, nonTerminal, the}
 use Rattle.derivation.specs.code.Tables.{formTable, itemCode, itemRow, itemValue}
 use Rattle.terms.specs.Labels.{defined, function, literal, name, operator}
+use Rattle.terms.specs.code.Codes.{headOf, kindOf, literalKind, literalSort, operatorKind}
 use Rattle.terms.specs.code.Nodes.{codeAt, operandsAt, rowWidth, valueAt}
 use Rattle.terms.specs.Sorts.{sortOver}
 use Rattle.operators.specs.Sorts.{when}
-use Rattle.term_sorts.specs.Forms.{FormScope, formSorts, itemSort, sortNumber, sorted, treeSort}
-use Rattle.term_sorts.specs.code.Sorting.{Called, CalledGives, NodeAt, NodeGives, OperatorGives, SortedTrees, firstRow, leafSort, together, treeSorts}
-use Rattle.term_sorts.specs.code.Signatures.{AllReal, Real}
-use Rattle.term_sorts.proofs.Items.{Callable, Told, callable, leaf-item, operator-item}
+use Rattle.term_sorts.specs.Forms.{FormScope, formSorts, itemSort, sorted, treeSort}
+use Rattle.term_sorts.specs.code.Signatures.{AllReal, Real, allRows}
+use Rattle.term_sorts.proofs.Items.{Callable, Told, callable, isCalled, leaf-item, operator-item}
+use Rattle.term_sorts.specs.code.Forms.{sortNumber}
+use Rattle.term_sorts.specs.code.Nodes.{NodeAt, NodeGives, firstRow, leafSort, treeSorts}
+use Rattle.term_sorts.specs.code.Calls.{Called, CalledGives}
+use Rattle.term_sorts.specs.code.Rules.{OperatorGives}
+use Rattle.term_sorts.specs.code.Operands.{SortedTrees, together}
 use Rattle.term_sorts.proofs.RuleSorts.{number-of}
-use Rattle.term_sorts.proofs.Wholes.{all-present}
+use Rattle.term_sorts.proofs.AllSorted.{all-present}
 
 -- The table of forms, whatever follows it, says of the node at a cursor what stands there.
 pub form-says : {forms : List ℕ} (all : Forest Item) (rest : List ℕ) → forms ≡ formTable all ++ rest → {p : ℕ} {i : Item} {ops more : Forest Item}
@@ -142,25 +149,27 @@ module _ {forms signatures column : List ℕ} {node : ℕ} {whole : Bool} where
 
     module _ {code value : ℕ} (code-is : code ≡ codeAt forms node) (value-is : value ≡ valueAt forms node) where
       -- The node is an operator.
-      pub operator-node : {r : ℕ} → code % 16 ≡ 2 → OperatorGives forms column (node + 1) n (code / 16) value r → NodeGives forms signatures column node whole r
-      operator-node {r} k w e =
+      pub operator-node : {kind operator r : ℕ} → kind ≡ kindOf code → kind ≡ operatorKind → operator ≡ headOf code
+          → OperatorGives forms column (node + 1) n operator value r → NodeGives forms signatures column node whole r
+      operator-node kind-is k head w e =
           let says = says-of e in
           let c : code ≡ itemCode (e .item) = code-is ∙ says .code in
           let v : value ≡ itemValue (e .item) = value-is ∙ says .value in
-          let q = operator-item (e .given .scope) (e .item) (told-at e) (rw c at k) (ready e .trees .sorts) in
-          (rw (c, v) at (w (ready e .trees))) ∙ ap sortNumber (sym q) ∙ over-operands e
+          let q = operator-item (e .given .scope) (e .item) (told-at e) (ap kindOf (sym c) ∙ sym kind-is ∙ k) (ready e .trees .sorts) in
+          (rw (head, c, v) at (w (ready e .trees))) ∙ ap sortNumber (sym q) ∙ over-operands e
 
-      module _ (k : leb 3 (code % 16) && leb (code % 16) 5 ≡ true) {row : ℕ} (row-is : row ≡ firstRow (code % 16)) where
+      module _ {kind : ℕ} (kind-is : kind ≡ kindOf code) (k : isCalled kind ≡ true) {row : ℕ} (row-is : row ≡ firstRow kind) where
         -- The node applies a function or is a non-terminal.
         called-at : (e : NodeAt forms signatures column node whole) → Callable signatures (e .given .scope) (e .item) (row + value)
         called-at e =
             let says = says-of e in
             let c : code ≡ itemCode (e .item) = code-is ∙ says .code in
             let v : value ≡ itemValue (e .item) = value-is ∙ says .value in
-            rw (row-is, c, v) (callable (e .given) (e .item) (real-at e) (rw c at k))
+            let same : kind ≡ kindOf (itemCode (e .item)) = kind-is ∙ ap kindOf c in
+            rw (row-is, same, v) (callable (e .given) (e .item) (real-at e) (rw same at k))
 
         -- Its row is one of the table.
-        pub row-low : NodeAt forms signatures column node whole → row + value < 56
+        pub row-low : NodeAt forms signatures column node whole → row + value < allRows
         row-low e = called-at e .low
 
         -- Its row can be held against the operands.
@@ -175,18 +184,19 @@ module _ {forms signatures column : List ℕ} {node : ℕ} {whole : Bool} where
         called-node w e = w (call-ready e) ∙ ap sortNumber (sym (called-at e .gives (ready e .trees .sorts))) ∙ over-operands e
 
     -- The node is a literal, a name, `(Constant σ)` or `(Variable σ)`.
-    pub leaf-node : {code sort r : ℕ} → code ≡ codeAt forms node → (code % 16 ≡ 2 → ⊥) → leb 3 (code % 16) && leb (code % 16) 5 ≡ false → sort ≡ leafSort code
-        → r ≡ cond (eqb n 0) (sort + 1) 0 → NodeGives forms signatures column node whole r
-    leaf-node {code} code-is k l s w e =
+    pub leaf-node : {code kind sort r : ℕ} → code ≡ codeAt forms node → kind ≡ kindOf code → (kind ≡ operatorKind → ⊥) → isCalled kind ≡ false
+        → sort ≡ leafSort code → r ≡ cond (eqb n 0) (sort + 1) 0 → NodeGives forms signatures column node whole r
+    leaf-node {code} {kind} code-is kind-is k l s w e =
         let c : code ≡ itemCode (e .item) = code-is ∙ says-of e .code in
         let t = ready e .trees in
-        let q = leaf-item (e .given .scope) (e .item) (real-at e) (rw c at k) (rw c at l) (t .sorts) in
+        let same : kind ≡ kindOf (itemCode (e .item)) = kind-is ∙ ap kindOf c in
+        let q = leaf-item (e .given .scope) (e .item) (real-at e) (λ o. k (same ∙ o)) (rw same at l) (t .sorts) in
         w ∙ leaf-number (t .counted) (s ∙ ap leafSort c) ∙ ap sortNumber (sym q) ∙ over-operands e
 
 -- What a leaf's code says of its sort is no more than the code.
-pub leaf-small : (code : ℕ) → leafSort code ≤ code / 16
-leaf-small code = go (eqb (code % 16) 0)
+pub leaf-small : (code : ℕ) → leafSort code ≤ headOf code
+leaf-small code = go (eqb (kindOf code) literalKind)
   where
-    go : (b : Bool) → cond b (code / 16 % 128) (code / 16) ≤ code / 16
+    go : (b : Bool) → cond b (literalSort code) (headOf code) ≤ headOf code
     go true = omega arith
     go false = omega arith

@@ -9,8 +9,9 @@ use lib.Dec.{eqb, leb, ltb}
 use lib.ListN.{length}
 use Rattle.forest.proofs.Bools.{and-left, and-right, each}
 use Rattle.operators.specs.Operators.{operatorAt, operatorCount, operatorSort, operators}
-use Rattle.operators.specs.Sorts.{ruleNumber}
-use Rattle.term_sorts.specs.code.Sorting.{OperatorGives, RuleGives, Ruled, SortedTrees, least}
+use Rattle.operators.specs.code.RuleNumbers.{ruleNumber}
+use Rattle.term_sorts.specs.code.Rules.{OperatorGives, RuleGives, Ruled, least}
+use Rattle.term_sorts.specs.code.Operands.{SortedTrees}
 
 -- Each operator has as many operands as its rule asks for.
 enough-operands : {o : ℕ} → o < operatorCount → least (operatorAt o .rule) ≤ operatorAt o .operands

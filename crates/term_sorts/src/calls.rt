@@ -5,7 +5,7 @@ use terms::size_at;
 ghost use mathlib.Core.Path.{_≡_};
 ghost use Prim.Native.Nat.{_<_};
 ghost use Rattle.forest.specs.code.Rows.{numberAt};
-ghost use Rattle.term_sorts.specs.code.Sorting.{ArgumentsFit, Called, CalledFully, CalledGives};
+ghost use Rattle.term_sorts.specs.code.Calls.{ArgumentsFit, Called, CalledFully, CalledGives};
 ghost use Rattle.term_sorts.specs.code.Signatures.{allRows, signatureWidth};
 
 // How many numbers a row has.

@@ -2,29 +2,25 @@
 use crate::calls::called_sort;
 use crate::rules::number_when;
 use crate::rules::operator_sort;
-use terms::DEFINED;
-use terms::FUNCTION;
-use terms::LITERAL;
-use terms::OPERATOR;
+use forest::limits;
 use terms::code_at;
+use terms::codes::DEFINED;
+use terms::codes::FUNCTION;
+use terms::codes::LITERAL;
+use terms::codes::NON_TERMINAL;
+use terms::codes::OPERATOR;
+use terms::codes::head_of;
+use terms::codes::kind_of;
+use terms::codes::literal_sort;
 use terms::operands_at;
 use terms::value_at;
 ghost use mathlib.Core.Path.{_≡_};
-ghost use Rattle.term_sorts.specs.code.Sorting.{NodeAt, NodeGives, firstRow, leafSort};
-
-// The kind of a non-terminal; the kinds before it are those of labels.
-const NON_TERMINAL: u64 = 5;
-
-// A code is a kind, and 16 times what else it says.
-const KINDS: u64 = 16;
-
-// A literal's code says its sort below how it is written.
-const SORTS: u64 = 128;
+ghost use Rattle.term_sorts.specs.code.Nodes.{NodeAt, NodeGives, firstRow, leafSort};
 
 // The row of the first synthesized function, and of the first non-terminal.
-const FUNCTION_ROW: usize = 32;
+const FUNCTION_ROW: usize = limits::DEFINED;
 
-const NON_TERMINAL_ROW: usize = 40;
+const NON_TERMINAL_ROW: usize = FUNCTION_ROW + limits::FUNCTIONS;
 
 // The row of the first `define-fun`, synthesized function or non-terminal, by the kind.
 fn first_row(kind: u64) -> usize
@@ -43,11 +39,10 @@ fn first_row(kind: u64) -> usize
 fn leaf_sort(code: u64) -> u64
     ensures { λ r. ⌜ r ≡ leafSort code ⌝ }
 {
-    let sort = code / KINDS;
-    if code % KINDS == LITERAL {
-        return sort % SORTS;
+    if kind_of(code) == LITERAL {
+        return literal_sort(code);
     }
-    sort
+    head_of(code)
 }
 
 // The sort of a node's tree; `whole` says whether all its operands have sorts.
@@ -61,14 +56,14 @@ pub fn node_sort(forms: &[u64], signatures: &[u64], column: &[u64], node: usize,
     let code = code_at(forms, node);
     let value = value_at(forms, node);
     let count = operands_at(forms, node) as usize;
-    let kind = code % KINDS;
+    let kind = kind_of(code);
     if kind == OPERATOR {
         return operator_sort(
             forms,
             column,
             node + 1,
             count,
-            (code / KINDS) as usize,
+            head_of(code) as usize,
             value,
         );
     }

@@ -2,8 +2,8 @@
 use terms::size_at;
 ghost use mathlib.Core.Path.{_≡_};
 ghost use lib.ListN.{getD};
-ghost use Rattle.term_sorts.specs.Forms.{sortNumber};
-ghost use Rattle.term_sorts.specs.code.Sorting.{AllSorted, Common, SomeTrees, Trees};
+ghost use Rattle.term_sorts.specs.code.Forms.{sortNumber};
+ghost use Rattle.term_sorts.specs.code.Operands.{AllSorted, Common, SomeTrees, Trees};
 
 // The number that stands for a node in the column; 0 past its end.
 pub fn sort_at(column: &[u64], node: usize) -> u64

@@ -4,36 +4,27 @@ use crate::operands::sort_at;
 use operators::operators::OPERATORS;
 use operators::operators::operands_of;
 use operators::operators::rule_of;
+use operators::rules::CHOICE;
+use operators::rules::CUTTING;
+use operators::rules::EQUALITY;
+use operators::rules::JOINING;
+use operators::rules::LOGIC;
+use operators::rules::MAX_WIDTH;
+use operators::rules::WIDTH;
+use terms::codes::high_in;
+use terms::codes::low_in;
 use terms::size_at;
 ghost use mathlib.Core.Path.{_≡_};
 ghost use Prim.Native.Nat.{_+_, _-_, _^_, _<_};
 ghost use mathlib.Core.Bool.{_&&_, cond};
 ghost use lib.Dec.{leb, ltb};
 ghost use Rattle.operators.specs.Sorts.{maxWidth, vector, when};
-ghost use Rattle.term_sorts.specs.Forms.{sortNumber};
-ghost use Rattle.term_sorts.specs.code.Sorting.{OperatorGives, RuleGives, Ruled, SortedTrees};
-
-// The numbers of the sort rules.
-const LOGIC: u64 = 0;
-
-const EQUALITY: u64 = 1;
-
-const CHOICE: u64 = 2;
-
-const WIDTH: u64 = 3;
-
-const JOINING: u64 = 5;
-
-const CUTTING: u64 = 6;
+ghost use Rattle.term_sorts.specs.code.Forms.{sortNumber};
+ghost use Rattle.term_sorts.specs.code.Rules.{OperatorGives, RuleGives, Ruled};
+ghost use Rattle.term_sorts.specs.code.Operands.{SortedTrees};
 
 // `Bool`, one more than its sort.
 const BOOL: u64 = 1;
-
-// The widest vector.
-const MAX_WIDTH: u64 = 64;
-
-// The value of `(_ extract i j)` is so many times i, and j.
-const LOWS: u64 = 64;
 
 // The number where a test passes, 0 where it fails.
 pub fn number_when(test: bool, number: u64) -> u64
@@ -83,7 +74,7 @@ fn rule_sort(
 {
     let first = sort_at(column, place) - 1;
     if rule == CUTTING {
-        return cut_sort(first, value / LOWS, value % LOWS);
+        return cut_sort(first, high_in(value), low_in(value));
     }
     let second = place + size_at(forms, place);
     if rule == JOINING {

@@ -8,7 +8,8 @@ use Rattle.operators.specs.Operators.{named, operatorAt, operatorOf, operatorSo
 use Rattle.operators.specs.Sorts.{sortBy}
 use Rattle.terms.specs.Costs.{costs, definedCost}
 use Rattle.terms.specs.Labels.{Terms, defined, name, operator}
-use Rattle.terms.specs.Sorts.{AllSorted, Definition, calledSort, labelSort, sameSorts, sortOver, sortsOf, withSort}
+use Rattle.terms.specs.Sorts.{Definition, calledSort, labelSort, sameSorts, sortOver, sortsOf, withSort}
+use Rattle.terms.specs.code.Sorted.{AllSorted}
 
 -- A function of an argument x and a result of 32 bits.
 abbrev pub over32 : (body : Terms) → Definition

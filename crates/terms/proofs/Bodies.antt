@@ -1,5 +1,5 @@
 -- Terms as bodies: what the node table says of them, and that they keep their sorts where more functions are known.
-use Prim.Native.Nat.{ℕ, zero, suc, _+_, _*_, _/_, _%_, _<_}
+use Prim.Native.Nat.{ℕ, zero, suc, _+_, _<_}
 use native.Mathlib.Omega.{arith}
 use mathlib.Core.Path.{_≡_, refl, sym, ap₂, _∙_, subst}
 use mathlib.Core.Bool.{Bool, true, false, cond}
@@ -11,13 +11,16 @@ use lib.ListN.{getD, length, length-append}
 use Rattle.forest.proofs.Nodes.{node-at}
 use Rattle.forest.proofs.Options.{never}
 use Rattle.forest.proofs.Rows.{row-at}
-use Rattle.forest.specs.Forest.{count, from, join, nodesOf, none, size, tree}
-use Rattle.forest.specs.code.Rows.{numberAt, rows}
+use Rattle.forest.specs.Forest.{count, join, nodesOf, none, tree}
+use Rattle.forest.specs.code.Cursors.{from, size}
+use Rattle.forest.specs.code.Rows.{numberAt}
+use Rattle.forest.specs.Tables.{rows}
 use Rattle.operators.specs.Sorts.{when}
 use Rattle.terms.specs.Labels.{Label, Terms, defined, function, literal, name, operator}
-use Rattle.terms.specs.code.Nodes.{AllPlain, Plain, codeAt, codeOf, definedKind, literalKind, nameKind, nodeRow, nodeTable, operandsAt, operatorKind, rowWidth}
-use Rattle.terms.specs.code.Nodes.{sizeAt, valueAt, valueOf}
+use Rattle.terms.specs.code.Codes.{definedKind, headOf, highIn, kindOf, literalHead, literalKind, literalSort, lowIn, nameKind, operatorKind, writtenIn}
+use Rattle.terms.specs.code.Nodes.{AllPlain, Plain, codeAt, codeOf, nodeRow, nodeTable, operandsAt, rowWidth, sizeAt, valueAt, valueOf}
 use Rattle.terms.specs.Sorts.{Scope, Signature, calledSort, labelSort, sameSorts, sortsOf}
+use Rattle.terms.proofs.CodeParts.{head-with, high-in, kind-with, literal-sort, literal-written, low-in}
 use Rattle.terms.proofs.Sorted.{sorted, sorts-tree}
 
 -- What a table says of node i: its label is l and its operands are ops.
@@ -56,30 +59,16 @@ plain-at all i l ops more p e = subst AllPlain e (plain-from all i p) .0
 -- The label of a code and a value.
 abbrev pub labelOf : (code value : ℕ) → Label
 labelOf code value =
-    let kind = code % 16 in
-    let more = code / 16 in
-    cond (eqb kind literalKind) (literal (more % 128) value (more / 128))
-    (cond (eqb kind nameKind) (name more value)
-    (cond (eqb kind operatorKind) (operator more (value / 64) (value % 64)) (cond (eqb kind definedKind) (defined value) (function value))))
+    let kind = kindOf code in
+    cond (eqb kind literalKind) (literal (literalSort code) value (writtenIn code))
+    (cond (eqb kind nameKind) (name (headOf code) value)
+    (cond (eqb kind operatorKind) (operator (headOf code) (highIn value) (lowIn value)) (cond (eqb kind definedKind) (defined value) (function value))))
 
 -- A label is the one of its code and its value.
 pub label-of : (l : Label) → Plain l → labelOf (codeOf l) (valueOf l) ≡ l
-label-of (literal s v w) p =
-    let kind : (0 + 16 * (s + 128 * w)) % 16 ≡ 0 = omega arith in
-    let more : (0 + 16 * (s + 128 * w)) / 16 ≡ s + 128 * w = omega arith in
-    let low : (s + 128 * w) % 128 ≡ s = omega arith in
-    let high : (s + 128 * w) / 128 ≡ w = omega arith in
-    rw (kind, more, low, high)
-label-of (name s k) p =
-    let kind : (1 + 16 * s) % 16 ≡ 1 = omega arith in
-    let more : (1 + 16 * s) / 16 ≡ s = omega arith in
-    rw (kind, more)
-label-of (operator o i j) p =
-    let kind : (2 + 16 * o) % 16 ≡ 2 = omega arith in
-    let more : (2 + 16 * o) / 16 ≡ o = omega arith in
-    let high : (64 * i + j) / 64 ≡ i = omega arith in
-    let low : (64 * i + j) % 64 ≡ j = omega arith in
-    rw (kind, more, high, low)
+label-of (literal s v w) p = rw (kind-with literalKind (literalHead s w) (lit< tt), literal-sort s w p, literal-written s w p)
+label-of (name s k) p = rw (kind-with nameKind s (lit< tt), head-with nameKind s (lit< tt))
+label-of (operator o i j) p = rw (kind-with operatorKind o (lit< tt), head-with operatorKind o (lit< tt), high-in i j p, low-in i j p)
 label-of (defined k) p = refl
 label-of (function k) p = refl
 

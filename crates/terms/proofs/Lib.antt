@@ -1,4 +1,5 @@
-pub mod Parts
+pub mod CodeParts
+pub mod EachOfTrees
 pub mod Sorted
 pub mod Sound
 pub mod Unsorted

@@ -6,7 +6,7 @@ use mathlib.Core.Option.{some}
 use Rattle.forest.specs.Forest.{tree}
 use Rattle.terms.specs.Labels.{Label, Terms}
 use Rattle.terms.specs.Sorts.{Scope, labelSort, sortOver, sortsOf, withSort}
-use Rattle.terms.proofs.Parts.{Joining, Parts, parts}
+use Rattle.terms.proofs.EachOfTrees.{Joining, Parts, parts}
 
 -- How sorts are joined.
 pub joining : Joining sortOver withSort

@@ -16,7 +16,8 @@ use Rattle.operators.specs.Operators.{operatorValue}
 use Rattle.operators.specs.Sorts.{AllFit, Fit, maxWidth, valuesOf}
 use Rattle.operators.specs.Sorts.AllFit.{nothing as no-more, also}
 use Rattle.terms.specs.Labels.{Label, Terms, defined, function, literal, name, operator}
-use Rattle.terms.specs.Sorts.{AllSorted, BodySorted, Definition, FunctionsSorted, Scope, Signature, calledSort, labelSort, sameSorts, signatures, sortsOf}
+use Rattle.terms.specs.Sorts.{Definition, Scope, Signature, calledSort, labelSort, sameSorts, sortsOf}
+use Rattle.terms.specs.code.Sorted.{AllSorted, BodySorted, FunctionsSorted, signatures}
 use Rattle.terms.specs.Values.{Meaning, called, definedValue, functionValue, labelValue, meaningAt, numbersIn, operatorGives, resultOf, sortsIn, value}
 use Rattle.terms.specs.Values.{valueOver, valueWhen, valuesIn, withValue}
 use Rattle.terms.specs.declared.Value.{Value}

@@ -12,7 +12,8 @@ use Rattle.forest.specs.Forest.{none, tree}
 use Rattle.operators.specs.Operators.{operatorSort}
 use Rattle.operators.specs.Sorts.{maxWidth, valuesOf, when}
 use Rattle.terms.specs.Labels.{Label, Terms, defined, function, literal, name, operator}
-use Rattle.terms.specs.Sorts.{Definition, Scope, Signature, calledSort, labelSort, sameSorts, signatures, sortOver, sortsOf, withSort}
+use Rattle.terms.specs.Sorts.{Definition, Scope, Signature, calledSort, labelSort, sameSorts, sortOver, sortsOf, withSort}
+use Rattle.terms.specs.code.Sorted.{signatures}
 use Rattle.terms.specs.Values.{Meaning, called, definedValue, functionValue, labelValue, numbersIn, operatorGives, resultOf, sortsIn, value, valueOver}
 use Rattle.terms.specs.Values.{valuesAt, valuesIn, withValue}
 use Rattle.terms.specs.declared.Value.{Value}

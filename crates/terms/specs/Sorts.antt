@@ -1,9 +1,8 @@
 -- Sorts of terms; an ill-sorted term has none. A sort is a number: 0 is `Bool`, n is `(_ BitVec n)`.
 use Prim.Native.Nat.{ℕ}
 use mathlib.Core.Bool.{Bool, true, false, cond, _&&_}
-use mathlib.Core.List.{List, [], _∷_, map}
+use mathlib.Core.List.{List, [], _∷_}
 use mathlib.Core.Option.{Option, none as nothing, some}
-use mathlib.Core.Path.{_≡_}
 use lib.Dec.{eqb, leb, ltb}
 use lib.ListN.{getD, length}
 use Rattle.forest.specs.Forest.{none, tree}
@@ -62,25 +61,3 @@ sortsOf scope (tree l ops rest) = withSort (sortOver (labelSort scope l) (sortsO
 pub record Definition : Type 0 where
   pub signature : Signature
   pub body : Terms
-
--- The signatures of definitions.
-abbrev pub signatures : List Definition → List Signature
-signatures ds = map (λ (d : Definition). d .signature) ds
-
--- What a body sees: its arguments and the `define-fun`s before it.
-abbrev pub bodyScope : (earlier : List Definition) → Signature → Scope
-bodyScope earlier f = record { names = f .arguments; defined = signatures earlier; functions = [] }
-
--- A body of its function's sort.
-abbrev pub BodySorted : (earlier : List Definition) → Definition → Type 0
-BodySorted earlier d = sortsOf (bodyScope earlier (d .signature)) (d .body) ≡ some (d .signature .result ∷ [])
-
--- `define-fun`s, the last first, each of whose bodies has its sort and sees only those before it.
-unfoldable pub AllSorted : List Definition → Type 0
-AllSorted [] = Unit {0}
-AllSorted (d ∷ earlier) = BodySorted earlier d × AllSorted earlier
-
--- Synthesized functions each of whose bodies has its sort and sees the `define-fun`s.
-unfoldable pub FunctionsSorted : (defs : List Definition) → List Definition → Type 0
-FunctionsSorted defs [] = Unit {0}
-FunctionsSorted defs (f ∷ others) = BodySorted defs f × FunctionsSorted defs others

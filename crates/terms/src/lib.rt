@@ -1,4 +1,6 @@
 //! Terms in node tables: four numbers for each node. A node past the end of a table has zeros.
+pub mod codes;
+
 use forest::numbers::number_at;
 ghost use mathlib.Core.Path.{_≡_};
 ghost use Rattle.terms.specs.code.Nodes.{codeAt, operandsAt, sizeAt, valueAt};
@@ -8,17 +10,6 @@ pub struct Value {
     pub sort: u64,
     pub number: u64,
 }
-
-// The kinds of labels.
-pub const LITERAL: u64 = 0;
-
-pub const NAME: u64 = 1;
-
-pub const OPERATOR: u64 = 2;
-
-pub const DEFINED: u64 = 3;
-
-pub const FUNCTION: u64 = 4;
 
 // How many numbers a row has.
 pub const ROW: usize = 4;

@@ -11,11 +11,13 @@ use lib.Dec.{eqb, ltb}
 use lib.ListN.{getD, getD-replicate, length}
 use borrow.Author.Tests.{eq-eqb, eqb-true, le-leb, lt-ltb}
 use Rattle.operators.specs.Operators.{Operator, operatorAt, operatorCount, operatorSort, operators}
-use Rattle.operators.specs.Sorts.{AllFit, Fit, SortRule, allAre, bool, choice, cutting, equality, joining, logic, order, ruleNumber, sortBy, width}
+use Rattle.operators.specs.Sorts.{AllFit, Fit, SortRule, allAre, bool, choice, cutting, equality, joining, logic, order, sortBy, width}
+use Rattle.operators.specs.code.RuleNumbers.{ruleNumber}
+use Rattle.operators.specs.code.Operators.{Operable}
 use Rattle.operators.specs.Sorts.AllFit.{nothing, also}
-use Rattle.operators.specs.code.Applying.{Operable, Width, Word}
+use Rattle.operators.specs.code.Vectors.{Width, Word}
 use Rattle.operators.proofs.Results.{rule-at, ruleAt}
-use Rattle.operators.proofs.Rules.{givesBool, word-fits}
+use Rattle.operators.proofs.RuledOperands.{givesBool, word-fits}
 use Rattle.operators.proofs.Table.{column}
 
 -- The low bits of a number are a word.
@@ -96,7 +98,7 @@ nothing-second true = refl
 nothing-second false = refl
 
 -- The operands of `not` to `=>`.
-pub logic-taken : {operator k x y b : ℕ} → operator < operatorCount → k ≡ ruleNumber (operatorAt operator .rule) → k ≡ 0 → Word 1 x → Word 1 y
+pub logic-taken : {operator k x y b : ℕ} → operator < operatorCount → k ≡ ruleNumber (operatorAt operator .rule) → k ≡ ruleNumber logic → Word 1 x → Word 1 y
     → b ≡ second operator y → Operable operator 0 0 0 0 x b 0
 unfolding sortBy usual
 logic-taken {operator} {x = x} {b = b} l e q v w d =
@@ -105,7 +107,7 @@ logic-taken {operator} {x = x} {b = b} l e q v w d =
     (rw d (alike l 0 (λ more h. rw (r, h)) (bit-fits v) (bit-fits w) (counted l r)))
 
 -- The operands of `ite`.
-pub choice-taken : {operator k n c a b : ℕ} → operator < operatorCount → k ≡ ruleNumber (operatorAt operator .rule) → k ≡ 2 → Word 1 c → Word n a → Word n b
+pub choice-taken : {operator k n c a b : ℕ} → operator < operatorCount → k ≡ ruleNumber (operatorAt operator .rule) → k ≡ ruleNumber choice → Word 1 c → Word n a → Word n b
     → Operable operator 0 0 0 n c a b
 unfolding sortBy usual
 choice-taken {operator} {n = n} {c} {a} {b} l e q u v w =
@@ -141,7 +143,7 @@ cut-taken {operator} {high} {low} {n} {a} l r v h g =
 
 -- A number of none of the rules `logic`, `choice`, `joining` and `cutting`.
 abbrev pub Plain : ℕ → Type 0
-Plain k = (((Unit × (k ≡ 0 → ⊥)) × (k ≡ 2 → ⊥)) × (k ≡ 5 → ⊥)) × (k ≡ 6 → ⊥)
+Plain k = (((Unit × (k ≡ ruleNumber logic → ⊥)) × (k ≡ ruleNumber choice → ⊥)) × (k ≡ ruleNumber joining → ⊥)) × (k ≡ ruleNumber cutting → ⊥)
 
 -- The other rules take one operand or two of one width.
 plain : (r : SortRule) {k n : ℕ} → k ≡ ruleNumber r → Plain k → Width n → (more : List ℕ) → allAre n more ≡ true

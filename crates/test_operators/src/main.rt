@@ -6,13 +6,17 @@ use operators::operators::OPERATORS;
 use operators::operators::apply;
 use operators::operators::operands_of;
 use operators::operators::rule_of;
+use operators::rules::CHOICE;
+use operators::rules::CUTTING;
+use operators::rules::JOINING;
+use operators::rules::LOGIC;
 ghost use mathlib.Core.Bool.{cond};
 ghost use mathlib.Core.Path.{_≡_};
 ghost use lib.Dec.{ltb};
 ghost use Prim.Native.Nat.{_<_};
 ghost use Rattle.operators.specs.Operators.{operatorAt, operatorCount};
 ghost use Rattle.operators.specs.Sorts.{cutting, joining};
-ghost use Rattle.operators.specs.code.Applying.{Width, Word};
+ghost use Rattle.operators.specs.code.Vectors.{Width, Word};
 
 // How many pseudo-random pairs of operands each operator runs on at each width.
 const PAIRS: u64 = 10_000;
@@ -86,7 +90,7 @@ fn value(operator: usize, width: u64, left: u64, right: u64) -> u64
     let one = low(left, width);
     let two = low(right, width);
     match rule_of(operator) {
-        0 => apply(
+        LOGIC => apply(
             operator,
             0,
             0,
@@ -96,9 +100,9 @@ fn value(operator: usize, width: u64, left: u64, right: u64) -> u64
             second(operator, low(right, 1)),
             0,
         ),
-        2 => apply(operator, 0, 0, 0, width, low(left, 1), one, two),
-        5 => joined(operator, width, one, right),
-        6 => extracted(operator, width, one, right),
+        CHOICE => apply(operator, 0, 0, 0, width, low(left, 1), one, two),
+        JOINING => joined(operator, width, one, right),
+        CUTTING => extracted(operator, width, one, right),
         _ => apply(
             operator,
             0,

@@ -4,12 +4,14 @@ use Prim.Native.Nat.{ℕ, zero, suc, _<_}
 use native.Mathlib.Omega.{arith}
 use mathlib.Core.List.{List, [], _∷_}
 use lib.ListN.{length}
-use Rattle.forest.specs.Forest.{count, size, join, nodesOf}
-use Rattle.forest.specs.code.Rows.{rows}
+use Rattle.forest.specs.Forest.{count, join, nodesOf}
+use Rattle.forest.specs.code.Cursors.{size}
+use Rattle.forest.specs.Tables.{rows}
 use Rattle.terms.specs.code.Nodes.{AllPlain, nodeTable}
-use Rattle.derivation.specs.Derivation.{LeavesFit, Proper, formOf, headOf}
+use Rattle.derivation.specs.Derivation.{formOf, headOf}
+use Rattle.derivation.specs.code.Admitted.{LeavesFit, Proper}
 use Rattle.derivation.specs.code.Tables.{formTable, rightSides, ruleTable}
-use Rattle.derivation.specs.Answer.{DerivePre}
+use Rattle.derivation.specs.code.Derive.{DerivePre}
 use Rattle.forest.specs.Limits.{areaSize}
 use Rattle.derivation.proofs.Bench.{ring, ringBody}
 

@@ -1,4 +1,4 @@
-pub mod Starts
-pub mod Wording
-pub mod Commands
-pub mod Answers
+pub mod Offsets
+pub mod TextLexemes
+pub mod ScriptText
+pub mod ResponseText

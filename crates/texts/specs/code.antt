@@ -1,1 +1,4 @@
 pub mod Texts
+pub mod Lexed
+pub mod Scripts
+pub mod Responses

@@ -1,4 +1,5 @@
 //! The words and lexemes of one text, and the offsets of its words.
+use forest::limits::SCRIPT_WORDS;
 use lexemes::numbering::number_words;
 use lexemes::start_at;
 use words::Limits;
@@ -6,23 +7,28 @@ use words::Reading;
 use words::answers::number_of;
 use words::answers::passed_of;
 use words::read_words;
+use words::table;
 ghost use mathlib.Core.Path.{_≡_};
+ghost use Prim.Native.Nat.{_*_};
 ghost use lib.ListN.{length};
+ghost use Rattle.forest.specs.Limits.{scriptWords};
+ghost use Rattle.words.specs.Table.{rowWidth};
 ghost use Rattle.script.specs.Outcome.{offsetOf};
-ghost use Rattle.texts.specs.code.Texts.{Lexed, Placed, Room};
+ghost use Rattle.texts.specs.code.Texts.{Placed};
+ghost use Rattle.texts.specs.code.Lexed.{Lexed, Room};
 
 // Room for the rows of a text's words.
-fn word_rows() -> [u32; 20480]
-    ensures { λ r. ⌜ length r ≡ 20480 ⌝ }
+fn word_rows() -> [u32; table::ROW * SCRIPT_WORDS]
+    ensures { λ r. ⌜ length r ≡ rowWidth * scriptWords ⌝ }
 {
-    [0; 20480]
+    [0; table::ROW * SCRIPT_WORDS]
 }
 
 // Room for the values of a text's words.
-fn word_values() -> [u64; 4096]
-    ensures { λ r. ⌜ length r ≡ 4096 ⌝ }
+fn word_values() -> [u64; SCRIPT_WORDS]
+    ensures { λ r. ⌜ length r ≡ scriptWords ⌝ }
 {
-    [0; 4096]
+    [0; SCRIPT_WORDS]
 }
 
 // Reads the words of a text and, where none is refused, fills the table of its lexemes.

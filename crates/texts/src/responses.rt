@@ -1,31 +1,33 @@
 //! A response, from its bytes.
 use crate::lexed::offset_of;
 use crate::lexed::read_lexemes;
+use forest::limits::RESPONSE_WORDS;
+use lexemes::ROW;
 use response::answers::read_response;
 use script::Progress;
 use script::Verdict;
+use script::answers::FAIL;
+use script::answers::INFEASIBLE;
 use words::answers::number_of;
 use words::answers::passed_of;
 use words::answers::place_of;
 use words::response_limits;
 ghost use mathlib.Core.Path.{_≡_};
+ghost use Prim.Native.Nat.{_*_};
 ghost use lib.ListN.{length};
+ghost use Rattle.forest.specs.Limits.{responseWords};
+ghost use Rattle.lexemes.specs.code.Table.{rowWidth};
 ghost use mathlib.Core.Bool.{_||_, cond};
 ghost use lib.Dec.{eqb};
 ghost use Rattle.script.specs.Outcome.{offsetOf};
-ghost use Rattle.texts.specs.code.Texts.{Placed, ReadWhole, Ready, ResponseRead};
-
-// The number of a response that is `fail`.
-const FAIL: usize = 10;
-
-// The number of a response that is `infeasible`.
-const INFEASIBLE: usize = 11;
+ghost use Rattle.texts.specs.code.Texts.{Placed};
+ghost use Rattle.texts.specs.code.Responses.{ReadsResponse, Ready};
 
 // Room for the lexemes of a response.
-fn lexeme_rows() -> [u64; 12288]
-    ensures { λ r. ⌜ length r ≡ 12288 ⌝ }
+fn lexeme_rows() -> [u64; ROW * RESPONSE_WORDS]
+    ensures { λ r. ⌜ length r ≡ rowWidth * responseWords ⌝ }
 {
-    [0; 12288]
+    [0; ROW * RESPONSE_WORDS]
 }
 
 // The offset of a refusal of a response, by its number and its word; 10 and 11 have the offset 0.
@@ -49,7 +51,8 @@ pub fn read_response_text(
     progress: Progress,
 ) -> Verdict
     requires { ⌜ Ready (now names) (now raw) (now places) (now nodes) progress ⌝ }
-    ensures { λ r. ⌜ ((q : Ready (now (names .entry)) (now (raw .entry)) (now (places .entry)) (now (nodes .entry)) progress) → ResponseRead q (now (text .entry)) (now (places .exit)) (now (nodes .exit)) r) ⌝ }
+    ensures { λ r. ⌜ ReadsResponse (now (text .entry)) (now (names .entry)) (now (raw .entry)) (now (places .entry)) (now (nodes .entry)) progress
+        (now (places .exit)) (now (nodes .exit)) r ⌝ }
 {
     let mut lexemes = lexeme_rows();
     let reading = read_lexemes(text, response_limits(), &mut lexemes);
@@ -63,7 +66,7 @@ pub fn read_response_text(
     let count = passed_of(reading);
     let verdict = read_response(
         text,
-        &lexemes[..6 * count],
+        &lexemes[..ROW * count],
         names,
         raw,
         places,
@@ -76,14 +79,4 @@ pub fn read_response_text(
         place: refusal_offset(text, &lexemes, count, verdict.number, verdict.place),
         rows: verdict.rows,
     }
-}
-
-// The offset of a word of a response that is read whole; the response's length where it has not so many words.
-pub fn word_offset(text: &[u8], word: usize) -> usize
-    requires { ⌜ ReadWhole (now text) ⌝ }
-    ensures { λ r. ⌜ r ≡ offsetOf (now (text .entry)) word ⌝ }
-{
-    let mut lexemes = lexeme_rows();
-    let reading = read_lexemes(text, response_limits(), &mut lexemes);
-    offset_of(text, &lexemes, passed_of(reading), word)
 }

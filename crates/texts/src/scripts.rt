@@ -1,38 +1,34 @@
 //! A script, from its bytes.
 use crate::lexed::offset_of;
 use crate::lexed::read_lexemes;
-use script::Progress;
+use forest::limits::SCRIPT_WORDS;
+use lexemes::ROW;
 use script_reader::Step;
+use script_reader::scripts::nothing_said;
 use script_reader::scripts::read_script;
 use words::answers::number_of;
 use words::answers::passed_of;
 use words::answers::place_of;
 use words::script_limits;
 ghost use mathlib.Core.Path.{_≡_};
+ghost use Prim.Native.Nat.{_*_};
 ghost use lib.ListN.{length};
-ghost use Rattle.texts.specs.code.Texts.{Lent, ScriptRead};
+ghost use Rattle.forest.specs.Limits.{scriptWords};
+ghost use Rattle.lexemes.specs.code.Table.{rowWidth};
+ghost use Rattle.texts.specs.code.Scripts.{Lent, ScriptRead};
 
 // Room for the lexemes of a script.
-fn lexeme_rows() -> [u64; 24576]
-    ensures { λ r. ⌜ length r ≡ 24576 ⌝ }
+fn lexeme_rows() -> [u64; ROW * SCRIPT_WORDS]
+    ensures { λ r. ⌜ length r ≡ rowWidth * scriptWords ⌝ }
 {
-    [0; 24576]
+    [0; ROW * SCRIPT_WORDS]
 }
 
 // The refusal of a word of a script, by its number and its offset.
 fn refused_word(number: usize, place: usize) -> Step
     ensures { λ r. ⌜ (r .number ≡ number) × (r .place ≡ place) ⌝ }
 {
-    let progress = Progress {
-        logic: false,
-        ended: false,
-        variables: 0,
-        defined: 0,
-        functions: 0,
-        constraints: 0,
-        nodes: 0,
-        forms: 0,
-    };
+    let progress = nothing_said();
     Step {
         number,
         place,
@@ -59,7 +55,7 @@ pub fn read_script_text(
     let count = passed_of(reading);
     let step = read_script(
         text,
-        &lexemes[..6 * count],
+        &lexemes[..ROW * count],
         names,
         raw,
         places,

@@ -12,14 +12,13 @@ use Rattle.words.specs.Trees.{wordOf}
 use Rattle.words.specs.Limits.{responseLimits}
 use Rattle.words.specs.declared.Reading.{Reading}
 use Rattle.words.specs.declared.Reading.the-variants.{Whole, Refused}
-use Rattle.lexemes.specs.Lists.{Items, closeOf, inside, is, isList, item}
-use Rattle.lexemes.specs.code.Standing.{itemsOf}
-use Rattle.lexemes.proofs.Wholes.{text-stands}
+use Rattle.lexemes.specs.Lists.{Items, closeOf, inside, is, isList, item, itemsOf}
+use Rattle.lexemes.proofs.WholeText.{text-stands}
 use Rattle.shapes.specs.Carried.{anyUncarried}
 use Rattle.shapes.specs.Shapes.{defineFunShape}
 use Rattle.names.specs.Scopes.{Defined, Function}
 use Rattle.headers.specs.Heads.{headerPast}
-use Rattle.forest.specs.Limits.{allowed}
+use Rattle.forest.specs.Limits.{allowed, mostNodes}
 use Rattle.headers.specs.Tokens.{differing, headerOf, headerTokens, wordsIn}
 use Rattle.term_faults.specs.Faults.{bodyFault, scopeOf}
 use Rattle.script.specs.Limits.{nodePast}
@@ -29,7 +28,7 @@ use Rattle.script.proofs.WordsBelow.{Below, inside-below, item-below, stands-be
 use Rattle.outcome.proofs.BodiesPromised.{body-sorted}
 use Rattle.script.specs.Response.{Answered, Body, answered, bodies, nothingBehind, inScriptOrder, isAlone, judgedAll, judgedBody, judgedExtra, refused}
 use Rattle.script.specs.Response.{responseView, withBody}
-use Rattle.response.specs.code.Responding.{bodyOf}
+use Rattle.response.specs.code.Functions.{bodyOf}
 use Rattle.script.specs.Outcome.{ResponseOutcome, byAnswers, byResponse, given, responseOutcome}
 use Rattle.outcome.specs.code.Assured.{BodiesFit}
 use Rattle.outcome.proofs.Nodes.{few-nodes}
@@ -110,7 +109,7 @@ module _ (nowhere : ℕ) (defs : List Defined) where
       let some-word : 0 < nowhere = omega (arith, below .0 .first) in
       let first = item-below some-word 4 c (below .1) in
       let sorts = body-sorted view (f .result) (item 4 c) (inside 4 c) first refl (fine .sorts) in
-      let few = few-nodes view (scopeOf view .terms) 256 (item 4 c) (inside 4 c) first (inside-below nowhere 4 c (below .1)) refl sorts (fine .few) in
+      let few = few-nodes view (scopeOf view .terms) mostNodes (item 4 c) (inside 4 c) first (inside-below nowhere 4 c (below .1)) refl sorts (fine .few) in
       subst (BodiesFit defs (f ∷ fs)) (next .2) (sorts, few, judged-fit close fs more after (next .0) (below .2) last (next .1))
 
   -- So do those that the response's items give.

@@ -1,3 +1,3 @@
-pub mod Deriving
-pub mod Evaluating
 pub mod Held
+pub mod Derive
+pub mod Evaluate

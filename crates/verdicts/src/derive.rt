@@ -1,18 +1,27 @@
 //! Derivations of the bodies of all functions, in script order.
 use derivation::derive;
 use script::Progress;
+use script::places::body_of;
+use script::places::form_rows_of;
+use script::places::forms_of;
+use script::places::rules_of;
 use terms::ROW;
 use terms::size_at;
-ghost use Rattle.verdicts.specs.code.Deriving.{Derivable, Judged, OneDerivable, OneJudged};
+ghost use mathlib.Core.Path.{_≡_};
+ghost use Prim.Native.Nat.{_+_, _*_, _≤_};
+ghost use lib.ListN.{length};
+ghost use Rattle.terms.specs.code.Nodes.{rowWidth};
+ghost use Rattle.verdicts.specs.code.Derive.{Derivable, Judges, JudgesOne, OneDerivable, rowsFrom};
 
-// Where the nodes at which the bodies of functions begin stand.
-const BODIES: usize = 592;
-
-// Where the numbers of functions begin, four for each: the row at which its forms begin, how many rows they take, and how many rules there are.
-const NUMBERS: usize = 664;
-
-// Where the rules of functions begin, 256 numbers for each.
-const RULES: usize = 696;
+// So many rows of a table of nodes, from one row on.
+fn rows_from<'a>(nodes: &'a [u64], first: usize, count: usize) -> &'a [u64]
+    requires { ⌜ rowWidth * (first + count) ≤ length (now nodes) ⌝ }
+    ensures { λ r. ⌜ now r ≡ rowsFrom (now (nodes .entry)) first count ⌝ }
+{
+    let start = ROW * first;
+    let end = start + ROW * count;
+    &nodes[start..end]
+}
 
 // Whether a function's grammar derives the function's body; if so, the function's list in the area shows how.
 fn derive_one(
@@ -23,23 +32,17 @@ fn derive_one(
     shown: &mut [u16],
 ) -> bool
     requires { ⌜ OneDerivable (now places) (now nodes) (now forms) function (now shown) ⌝ }
-    ensures { λ r. ⌜ ((q : OneDerivable (now (places .entry)) (now (nodes .entry)) (now (forms .entry)) function (now (shown .entry)))
-        → OneJudged q (now (shown .exit)) r) ⌝ }
+    ensures { λ r. ⌜ JudgesOne (now (places .entry)) (now (nodes .entry)) (now (forms .entry)) function (now (shown .entry)) (now (shown .exit)) r ⌝ }
 {
-    let numbers = NUMBERS + 4 * function;
-    let first = places[numbers] as usize;
-    let past = first + places[numbers + 1] as usize;
-    let rules = RULES + 256 * function;
-    let end = rules + 2 * places[numbers + 2] as usize;
-    let node = places[BODIES + function] as usize;
-    let after = node + size_at(nodes, node);
-    derive(
-        &places[rules..end],
-        &forms[ROW * first..ROW * past],
-        &nodes[ROW * node..ROW * after],
-        function,
-        shown,
-    )
+    let rules = rules_of(places, function);
+    let sides = rows_from(
+        forms,
+        forms_of(places, function),
+        form_rows_of(places, function),
+    );
+    let node = body_of(places, function);
+    let body = rows_from(nodes, node, size_at(nodes, node));
+    derive(rules, sides, body, function, shown)
 }
 
 // Shows a derivation of each function's body in the area, up to the first function whose grammar derives its body by none; returns that function, or how many
@@ -52,8 +55,7 @@ pub fn derive_all(
     shown: &mut [u16],
 ) -> usize
     requires { ⌜ Derivable (now places) (now nodes) (now forms) progress (now shown) ⌝ }
-    ensures { λ r. ⌜ ((q : Derivable (now (places .entry)) (now (nodes .entry)) (now (forms .entry)) progress (now (shown .entry)))
-        → Judged q (now (shown .exit)) r) ⌝ }
+    ensures { λ r. ⌜ Judges (now (places .entry)) (now (nodes .entry)) (now (forms .entry)) progress (now (shown .entry)) (now (shown .exit)) r ⌝ }
 {
     let mut function = 0;
     while function < progress.functions {

@@ -5,32 +5,34 @@ use evaluation::costs::body_costs;
 use evaluation::points::points_of;
 use evaluation::running::left_of;
 use evaluation::running::run_points;
+use forest::limits;
 use names::table::VARIABLES;
 use names::table::sort_in;
 use outcome::Outcome;
 use script::Progress;
+use script::answers::ACCEPTED;
+use script::answers::BUDGET;
+use script::answers::FALSE;
+use script::answers::POINTS;
+use script::places::bodies_of;
+use script::places::constraints_of;
 ghost use mathlib.Core.Path.{_≡_};
 ghost use Prim.Native.Nat.{_≤_};
 ghost use lib.ListN.{take};
 ghost use Rattle.evaluation.specs.Running.{leftOf};
+ghost use Rattle.forest.specs.Limits.{mostVariables};
 ghost use Rattle.names.specs.code.Lookup.{Names};
 ghost use Rattle.names.specs.code.Table.{sortsFrom, variableRow};
 ghost use Rattle.outcome.specs.Evaluated.{ranOutcome};
-ghost use Rattle.verdicts.specs.code.Evaluating.{Constrained, ConstraintsRan, Evaluable, Evaluates};
-
-// Where the numbers of bodies begin in the table of places.
-const BODIES: usize = 560;
-
-// Where those of constraints begin.
-const CONSTRAINTS: usize = 600;
+ghost use Rattle.verdicts.specs.code.Evaluate.{Constrained, ConstraintsRan, Evaluable, Evaluates};
 
 // The sorts of the variables, `count` of them, at the front.
-fn variable_sorts(names: &[u8], count: usize) -> [u64; 16]
+fn variable_sorts(names: &[u8], count: usize) -> [u64; limits::VARIABLES]
     requires { ⌜ Names (now names) ⌝ }
-    requires { ⌜ count ≤ 16 ⌝ }
+    requires { ⌜ count ≤ mostVariables ⌝ }
     ensures { λ r. ⌜ take count r ≡ sortsFrom (now (names .entry)) variableRow count ⌝ }
 {
-    let mut sorts = [0u64; 16];
+    let mut sorts = [0; limits::VARIABLES];
     let mut k = 0;
     while k < count {
         sorts[k] = sort_in(names, VARIABLES + k);
@@ -51,18 +53,10 @@ fn run_constraints(
     requires { ⌜ Constrained (now places) (now nodes) progress (now sorts) (now points) ⌝ }
     ensures { λ r. ⌜ ConstraintsRan (now (places .entry)) (now (nodes .entry)) progress (now (sorts .entry)) (now (points .entry)) budget r ⌝ }
 {
-    let bodies = &places[BODIES..];
+    let bodies = bodies_of(places);
     let costs = body_costs(nodes, bodies, progress.defined, progress.functions);
-    let end = CONSTRAINTS + progress.constraints;
-    run_points(
-        nodes,
-        bodies,
-        &costs,
-        &places[CONSTRAINTS..end],
-        sorts,
-        points,
-        budget,
-    )
+    let constraints = constraints_of(places, progress.constraints);
+    run_points(nodes, bodies, &costs, constraints, sorts, points, budget)
 }
 
 // An answer that speaks of the points.
@@ -70,11 +64,11 @@ fn points_answer(number: usize, place: usize, second: usize, units: u64) -> Outc
     ensures { λ r. ⌜ r ≡ record { number = number; text = 2; place = place; second = second; units = units } ⌝ }
 {
     Outcome {
-        number: number,
+        number,
         text: 2,
-        place: place,
-        second: second,
-        units: units,
+        place,
+        second,
+        units,
     }
 }
 
@@ -86,14 +80,14 @@ fn run_outcome(ran: Ran, count: usize, budget: u64) -> Outcome
     let units = budget - left_of(ran);
     match ran {
         Ran::Passed(_) => Outcome {
-            number: 0,
+            number: ACCEPTED,
             text: 3,
             place: 0,
             second: count,
-            units: units,
+            units,
         },
-        Ran::False(point, constraint, _) => points_answer(14, point, constraint, units),
-        Ran::Ended(point, constraint, _) => points_answer(15, point, constraint, units),
+        Ran::False(point, constraint, _) => points_answer(FALSE, point, constraint, units),
+        Ran::Ended(point, constraint, _) => points_answer(BUDGET, point, constraint, units),
     }
 }
 
@@ -113,7 +107,7 @@ pub fn evaluate(
     let sorts = variable_sorts(names, variables);
     let list = points_of(&sorts[..variables], points);
     match list {
-        PointList::Bad(place) => points_answer(16, place, 0, 0),
+        PointList::Bad(place) => points_answer(POINTS, place, 0, 0),
         PointList::Good(count) => run_outcome(
             run_constraints(places, nodes, progress, &sorts[..variables], points, budget),
             count,

@@ -9,13 +9,14 @@ use borrow.Author.Tests.{eq-eqb, eqb-false, eqb-true, ne-eqb}
 use lib.Dec.{eqb}
 use lib.ListN.{length, drop, set, take, drop-of-length-le, length-append, length-drop, length-map, length-set}
 use lib.Seq.{drop-append-add, drop-at, drop-drop, length-take-le, take-at}
-use Rattle.forest.specs.code.Rows.{rows}
+use Rattle.forest.specs.Tables.{rows}
 use Rattle.forest.proofs.Lists.{Stands, drop-more, stands, take-more, within}
 use Rattle.forest.proofs.Rows.{length-rows, row-at, row-set}
-use Rattle.words.specs.code.Table.{closes, opens, Entry, pastClose, entries, kindNumber, nextOf, row, wordTable}
+use Rattle.words.specs.Table.{closes, opens, Entry, pastClose, entries, kindNumber, nextOf, row, wordTable}
 use Rattle.words.proofs.Offsets.{drop-past}
-use Rattle.words.specs.code.Scanning.{Closing, Linked, Linking, Next, linkedFrom, unlinked}
-use Rattle.words.specs.code.Columns.{kindAt, nextAt}
+use Rattle.words.specs.code.Links.{Closing, Linked, Linking, Next, linkedFrom}
+use Rattle.words.specs.code.Rows.{unlinked}
+use Rattle.words.specs.code.Table.{kindAt, nextAt}
 use Rattle.words.specs.Words.{Word}
 use Rattle.word_kinds.specs.declared.Kind.{Kind}
 

@@ -6,7 +6,7 @@ use mathlib.Core.Bool.{Bool, true, false, _&&_, _||_, cond}
 use borrow.Author.Tests.{eq-eqb, ne-eqb, ltb-true, ltb-false}
 use lib.Dec.{eqb, leb, ltb}
 use Rattle.forest.proofs.Bools.{and-left, and-right}
-use Rattle.words.specs.code.Table.{kindNumber}
+use Rattle.words.specs.Table.{kindNumber}
 use Rattle.words.specs.Reading.{closeFault, depthAfter, foundAtEnd, faultAt, lesser, limitFault, ownFault}
 use Rattle.words.specs.Answers.{faultNumber}
 use Rattle.word_kinds.specs.declared.Fault.{Fault}

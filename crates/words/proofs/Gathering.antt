@@ -11,7 +11,7 @@ use lib.Dec.{eqb}
 use lib.ListN.{length, drop, drop-of-length-le}
 use lib.Seq.{drop-drop}
 use Rattle.forest.specs.Forest.{Forest, none, tree}
-use Rattle.words.specs.code.Table.{closes, opens, pastClose, nextOf}
+use Rattle.words.specs.Table.{closes, opens, pastClose, nextOf}
 use Rattle.word_kinds.specs.declared.Kind.{Kind}
 use Rattle.word_kinds.specs.declared.Kind.the-variants.{Open, Close, Numeral, Literal, Symbol, Faulty}
 use Rattle.words.specs.Trees.{Level, Lexeme, bytesOf, inner, levelsAt, levelsBefore, list, literal, numeral, outer, symbol, treesFrom}

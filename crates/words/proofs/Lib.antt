@@ -2,5 +2,5 @@ pub mod Chains
 pub mod Faults
 pub mod Gathering
 pub mod Offsets
-pub mod Turns
-pub mod Whole
+pub mod ScanTurns
+pub mod WholeText

@@ -13,7 +13,7 @@ use Rattle.forest.specs.Lists.{among}
 use Rattle.forest.proofs.Bools.{and-false-left, and-left, and-right, or-left, or-other, or-right}
 use Rattle.forest.proofs.Lists.{drop-next}
 use Rattle.words.specs.Spans.{bracket, commentStart, delimiter, white, commentAfter, inRun, starts, startsFrom, wordStarts, runEnd, wordEnd}
-use Rattle.words.specs.code.Scanning.{firstFrom, firstStart}
+use Rattle.words.specs.code.Spans.{firstFrom, firstStart}
 use Rattle.words.specs.Words.{bytesAt, enquired}
 
 -- ---- one step, by index

@@ -5,3 +5,4 @@ pub mod Words
 pub mod Reading
 pub mod Trees
 pub mod code
+pub mod Table

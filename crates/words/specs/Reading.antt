@@ -5,10 +5,9 @@ use mathlib.Core.List.{List, [], _∷_}
 use mathlib.Core.Path.{_≡_}
 use lib.ListN.{length, take}
 use lib.Dec.{eqb, leb, ltb}
-use Rattle.forest.specs.code.Rows.{over}
+use Rattle.forest.specs.Tables.{over}
 use Rattle.words.specs.Words.{Word, wordsOf}
-use Rattle.words.specs.code.Table.{closes, opens, wordTable, wordValues}
-use Rattle.words.specs.code.Columns.{rowWidth}
+use Rattle.words.specs.Table.{closes, opens, rowWidth, wordTable, wordValues}
 use Rattle.words.specs.Answers.{faultNumber, numberOf, passed, placeOf}
 use Rattle.words.specs.declared.Limits.{Limits}
 use Rattle.word_kinds.specs.declared.Kind.{Kind}

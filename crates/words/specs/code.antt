@@ -1,3 +1,5 @@
-pub mod Columns
 pub mod Table
-pub mod Scanning
+pub mod Scan
+pub mod Spans
+pub mod Rows
+pub mod Links

@@ -6,7 +6,7 @@ use crate::table::kind_at;
 use crate::table::next_at;
 ghost use mathlib.Core.Path.{_≡_};
 ghost use Prim.Native.Nat.{_+_};
-ghost use Rattle.words.specs.code.Scanning.{Closing, Linked, Linking, Next};
+ghost use Rattle.words.specs.code.Links.{Closing, Linked, Linking, Next};
 
 // The index past the bracket that closes the list in which word `at` stands.
 fn close_of(table: &[u32], count: usize, at: usize) -> usize

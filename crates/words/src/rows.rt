@@ -7,8 +7,8 @@ use crate::table::ROW;
 use crate::table::SYMBOL;
 use word_kinds::Kind;
 ghost use mathlib.Core.Path.{_≡_};
-ghost use Rattle.words.specs.code.Scanning.{Room, Written};
-ghost use Rattle.words.specs.code.Table.{kindNumber, valueOf, widthOf};
+ghost use Rattle.words.specs.code.Rows.{Room, Written};
+ghost use Rattle.words.specs.Table.{kindNumber, valueOf, widthOf};
 
 // The number of a kind in the table; 0 for a faulty word, which has no row.
 pub fn kind_number(kind: Kind) -> u32

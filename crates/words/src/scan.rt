@@ -15,7 +15,7 @@ ghost use mathlib.Core.Path.{_≡_};
 ghost use Prim.Native.Nat.{_*_, _≤_, _<_, _^_};
 ghost use lib.ListN.{length};
 ghost use Rattle.words.specs.Reading.{closeFault, depthAfter, foundAtEnd, faultAt, lesser, limitFault, ownFault};
-ghost use Rattle.words.specs.code.Scanning.{Scanned};
+ghost use Rattle.words.specs.code.Scan.{Scanned};
 
 // A word's fault by its own bytes.
 fn own_fault(kind: Kind) -> Fault

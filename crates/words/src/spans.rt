@@ -4,7 +4,7 @@ ghost use mathlib.Core.Bool.{false};
 ghost use Prim.Native.Nat.{_<_};
 ghost use lib.ListN.{length};
 ghost use Rattle.words.specs.Spans.{bracket, commentAfter, commentEnd, commentStart, delimiter, starts, white, wordEnd};
-ghost use Rattle.words.specs.code.Scanning.{firstStart};
+ghost use Rattle.words.specs.code.Spans.{firstStart};
 
 // White space: 9, 10, 13, 32.
 fn is_white(byte: u8) -> bool

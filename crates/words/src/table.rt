@@ -2,7 +2,7 @@
 ghost use mathlib.Core.Path.{_≡_};
 ghost use Prim.Native.Nat.{_<_};
 ghost use Rattle.forest.specs.code.Rows.{numberAt};
-ghost use Rattle.words.specs.code.Columns.{endAt, kindAt, nextAt, startAt, widthAt};
+ghost use Rattle.words.specs.code.Table.{endAt, kindAt, nextAt, startAt, widthAt};
 
 // How many numbers a row has.
 pub const ROW: usize = 5;

@@ -1,5 +1,5 @@
 pub mod Walked
 pub mod Width
 pub mod Least
-pub mod Parts
-pub mod Commands
+pub mod PairParts
+pub mod HeaderSorts

@@ -9,6 +9,7 @@ use borrow.Author.Tests.{eqb-true}
 use Rattle.forest.specs.Forest.{count, none, tree}
 use Rattle.forest.proofs.Bools.{and-left, and-right, apart}
 use Rattle.forest.specs.Lists.{sameBytes}
+use Rattle.operators.specs.Sorts.{maxWidth}
 use Rattle.lexemes.specs.Reserved.{isWord}
 use Rattle.words.specs.Trees.{Lexeme, list, literal, numeral, symbol, wordOf}
 use Rattle.lexemes.specs.Lists.{Items, after, allNumerals, indexed, is, isList, isNumeral, item, numeralOf}
@@ -106,8 +107,8 @@ module _ {lexemes : List ℕ} {at : ℕ} where
           go false l = refl
 
       pub too-wide : (p : SortAt lexemes at)
-          → cond (eqb code 1 && ltb 64 width) (at + 3) nowhere ≡ sortPlace TooWide nowhere (p .here .label) (p .here .operands)
-      too-wide p = width-test (ltb 64) p (at + 3) _ (λ l. sym (width-of p l .place))
+          → cond (eqb code 1 && ltb maxWidth width) (at + 3) nowhere ≡ sortPlace TooWide nowhere (p .here .label) (p .here .operands)
+      too-wide p = width-test (ltb maxWidth) p (at + 3) _ (λ l. sym (width-of p l .place))
 
       pub empty : (p : SortAt lexemes at)
           → cond (eqb code 1 && eqb width 0) at nowhere ≡ sortPlace Empty nowhere (p .here .label) (p .here .operands)

@@ -8,6 +8,7 @@ use Rattle.lexemes.specs.Lists.{Items, inside, is, isList, isSymbol, item, nume
 use Rattle.shapes.specs.Shapes.{isPattern}
 use Rattle.written_sorts.specs.declared.Fault.{Fault}
 use Rattle.written_sorts.specs.declared.Fault.the-variants.{TooWide, Unknown, Empty}
+use Rattle.operators.specs.Sorts.{maxWidth}
 
 -- The sort that an item says: 0 for `Bool`, n for `(_ BitVec n)`. Another symbol is answer 7 before the sort is used. A width of 0 is answer 8 at its own
 -- word, which stands before every word whose sort is told by it, so that what it would make of these is never the least.
@@ -17,7 +18,7 @@ sortOf l ops = cond (isList l) (numeralOf (item 2 ops)) 0
 -- The word at fault in a sort, by the fault that is looked for: the numeral of a width above 64, a symbol other than `Bool`, or the first word of a sort
 -- of width 0; nowhere, a number past every word, where there is none.
 abbrev pub sortPlace : Fault → (nowhere : ℕ) → Lexeme → Items → ℕ
-sortPlace TooWide nowhere l ops = cond (isList l && ltb 64 (numeralOf (item 2 ops))) (wordOf (item 2 ops)) nowhere
+sortPlace TooWide nowhere l ops = cond (isList l && ltb maxWidth (numeralOf (item 2 ops))) (wordOf (item 2 ops)) nowhere
 sortPlace Unknown nowhere l ops = cond (isSymbol l && not (is "Bool" l)) (wordOf l) nowhere
 sortPlace Empty nowhere l ops = cond (isList l && eqb (numeralOf (item 2 ops)) 0) (wordOf l) nowhere
 

@@ -7,7 +7,8 @@ use lexemes::next_at;
 use shapes::rules::is_pattern;
 ghost use mathlib.Core.Path.{_≡_};
 ghost use Rattle.shapes.specs.Shapes.{groupShape, isListOf, pairShape, ruleShape};
-ghost use Rattle.written_sorts.specs.code.Places.{HeaderAt, ShapedAt, SynthFunAt};
+ghost use Rattle.written_sorts.specs.code.Places.{ShapedAt};
+ghost use Rattle.written_sorts.specs.code.Headers.{HeaderAt, SynthFunAt};
 ghost use Rattle.written_sorts.specs.Written.{grammarSorts, groupPlace, headerPlace, leastIn, pairPlace, rulePlace};
 
 // The least word at fault in the sorts of a list of pairs.

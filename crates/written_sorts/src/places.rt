@@ -13,6 +13,9 @@ ghost use Rattle.shapes.specs.Shapes.{pairShape};
 ghost use Rattle.written_sorts.specs.code.Places.{AllBetween, SortAt};
 ghost use Rattle.written_sorts.specs.Written.{leastIn, pairPlace, sortOf, sortPlace};
 
+// How wide a sort may be.
+const MAX_WIDTH: u64 = 64;
+
 // The word where a test passes, else `nowhere`.
 fn word_if(test: bool, word: usize, nowhere: usize) -> usize
     ensures { λ r. ⌜ r ≡ cond test word nowhere ⌝ }
@@ -39,7 +42,7 @@ pub fn sort_place(lexemes: &[u64], at: usize, fault: Fault, nowhere: usize) -> u
     let code = code_at(lexemes, at);
     let width = value_at(lexemes, at + 3);
     match fault {
-        Fault::TooWide => word_if((code == OPEN) & (width > 64), at + 3, nowhere),
+        Fault::TooWide => word_if((code == OPEN) & (width > MAX_WIDTH), at + 3, nowhere),
         Fault::Unknown => word_if((code >= SYMBOL) & (code != BOOL), at, nowhere),
         Fault::Empty => word_if((code == OPEN) & (width == 0), at, nowhere),
     }

@@ -5,20 +5,24 @@ use mathlib.Core.List.{List, _++_}
 use mathlib.Core.Path.{_≡_}
 use lib.ListN.{length, replicate}
 use lib.Seq.{sets}
-use Rattle.forest.specs.Forest.{nodesOf, size, tree}
+use Rattle.forest.specs.Forest.{nodesOf, tree}
+use Rattle.forest.specs.Limits.{scriptWords}
+use Rattle.terms.specs.code.Nodes.{rowWidth as nodeWidth}
+use Rattle.forest.specs.code.Cursors.{size}
 use Rattle.words.specs.Trees.{Lexeme}
 use Rattle.derivation.specs.code.Tables.{formTable}
 use Rattle.lexemes.specs.Lists.{Items}
 use Rattle.lexemes.specs.code.Standing.{Source, Stands}
 use Rattle.lexemes.specs.code.Table.{nextAt}
 use Rattle.shapes.specs.Shapes.{termShape}
-use Rattle.term_nodes.specs.code.Table.{rawTable, uncountedTable}
+use Rattle.term_nodes.specs.code.Table.{rawTable, rowWidth as rawWidth, uncountedTable}
 use Rattle.term_nodes.specs.Terms.{nodeWord, rawTerm}
 use Rattle.names.specs.Scopes.{View, formsOf}
 use Rattle.names.specs.code.Lookup.{Sees, sourceOf}
 use Rattle.names.specs.Unknown.{unknownIn}
 use Rattle.names.specs.declared.Seen.{Seen}
-use Rattle.term_faults.specs.code.Seeking.{BodySought, Lawful}
+use Rattle.names.specs.declared.Target.{Target}
+use Rattle.term_faults.specs.code.Bodies.{Lawful}
 use Rattle.bodies.specs.declared.Body.{Body}
 
 -- A term stands at word i, and the table has a row for each of its words.
@@ -31,7 +35,7 @@ pub record TermAt (lexemes raw : List ℕ) (i : ℕ) : Type 0 where
   pub end : ℕ
   pub stands : Stands source i (tree label operands more) end
   pub shaped : termShape label operands ≡ true
-  pub room : 4 * (nextAt lexemes i - i) ≤ length raw
+  pub room : rawWidth * (nextAt lexemes i - i) ≤ length raw
 
 -- Its nodes are gathered, and the word past the limit is found.
 pub record Limited {lexemes raw : List ℕ} {i : ℕ} (p : TermAt lexemes raw i) (most nowhere : ℕ) (rawAfter : List ℕ) (b : Body) : Type 0 where
@@ -57,15 +61,20 @@ pub record Naming (text lexemes names raw nodes : List ℕ) (seen : Seen) (count
   pub counted : count ≡ size (rawTerm label operands)
   pub view : View
   pub sees : Sees names seen view
-  pub room : 4 * (base + count) ≤ length nodes
+  pub room : nodeWidth * (base + count) ≤ length nodes
 
 -- They are counted, the forms are written, and the least word with an unknown name is found.
 pub record Named {text lexemes names raw nodes : List ℕ} {seen : Seen} {count base nowhere : ℕ}
     (p : Naming text lexemes names raw nodes seen count base nowhere) (rawAfter nodesAfter : List ℕ) (r : ℕ) : Type 0 where
   pub raw-is : rawAfter ≡ rawTable (rawTerm (p .label) (p .operands)) ++ p .rest
-  pub nodes-are : nodesAfter ≡ sets nodes (4 * base) (formTable (formsOf (p .view) (rawTerm (p .label) (p .operands))))
+  pub nodes-are : nodesAfter ≡ sets nodes (nodeWidth * base) (formTable (formsOf (p .view) (rawTerm (p .label) (p .operands))))
   pub unknown-is : r ≡ unknownIn nowhere (p .view) (nodesOf (rawTerm (p .label) (p .operands)))
+
+-- The same, for whatever the tables hold.
+abbrev pub NamesBody : (text lexemes names raw nodes : List ℕ) → Seen → Target → (rawAfter nodesAfter : List ℕ) → (r : ℕ) → Type 0
+NamesBody text lexemes names raw nodes seen target rawAfter nodesAfter r =
+    (p : Naming text lexemes names raw nodes seen (target .count) (target .base) (target .nowhere)) → Named p rawAfter nodesAfter r
 
 -- The column of sorts before it is filled: "4,096 words".
 abbrev pub noSorts : List ℕ
-noSorts = replicate 4096 0
+noSorts = replicate scriptWords 0

@@ -1,31 +1,22 @@
 -- The grammar and the body as tables of numbers.
 use mathlib.Core.Path.{_≡_}
-use Prim.Native.Nat.{ℕ, suc, _+_, _*_}
+use Prim.Native.Nat.{ℕ, suc, _+_}
 use mathlib.Core.List.{List, [], _∷_}
-use Rattle.forest.specs.Forest.{Forest, Node, count, join, nodesOf, none, size}
-use Rattle.forest.specs.code.Rows.{rows}
+use Rattle.forest.specs.Forest.{Forest, Node, count, join, nodesOf, none}
+use Rattle.forest.specs.code.Cursors.{size}
+use Rattle.forest.specs.Tables.{rows}
 use Rattle.terms.specs.Labels.{Terms}
 use Rattle.terms.specs.code.Nodes.{AllPlain, codeOf, nodeTable, valueOf}
-use Rattle.derivation.specs.Derivation.{Admitted, Grammar, Item, LeavesFit, Rule, anyArgument, anyLiteral, nonTerminal, rule, the}
-
--- The kind of a non-terminal in the table; the kinds before it are those of labels.
-abbrev pub nonTerminalKind : ℕ
-nonTerminalKind = 5
-
--- The kind of `(Constant σ)`.
-abbrev pub anyLiteralKind : ℕ
-anyLiteralKind = 6
-
--- The kind of `(Variable σ)`.
-abbrev pub anyArgumentKind : ℕ
-anyArgumentKind = 7
+use Rattle.derivation.specs.Derivation.{Grammar, Item, Rule, anyArgument, anyLiteral, nonTerminal, rule, the}
+use Rattle.derivation.specs.code.Admitted.{Admitted, LeavesFit}
+use Rattle.terms.specs.code.Codes.{anyArgumentKind, anyLiteralKind, codeWith, nonTerminalKind}
 
 -- The code of a node of a rule: its kind, and with it the sort of `(Constant σ)` or `(Variable σ)`.
 abbrev pub itemCode : Item → ℕ
 itemCode (the l) = codeOf l
-itemCode (nonTerminal A) = nonTerminalKind
-itemCode (anyLiteral s) = anyLiteralKind + 16 * s
-itemCode (anyArgument s) = anyArgumentKind + 16 * s
+itemCode (nonTerminal A) = codeWith nonTerminalKind 0
+itemCode (anyLiteral s) = codeWith anyLiteralKind s
+itemCode (anyArgument s) = codeWith anyArgumentKind s
 
 -- The value of a node of a rule: a label's, or a non-terminal's number.
 abbrev pub itemValue : Item → ℕ

@@ -1,13 +1,15 @@
 -- What the evaluator is handed: node tables that hold the terms, and for each function the node at which its body begins.
-use Prim.Native.Nat.{ℕ, _+_, _%_, _≤_, _<_}
+use Prim.Native.Nat.{ℕ, _+_, _≤_, _<_}
 use mathlib.Core.Bool.{cond, _&&_}
 use mathlib.Core.List.{List, [], _∷_, _++_}
 use mathlib.Core.Path.{_≡_}
 use lib.Dec.{eqb, ltb}
 use lib.ListN.{getD, length}
-use Rattle.forest.specs.Forest.{from, none, tree}
+use Rattle.forest.specs.Forest.{none, tree}
+use Rattle.forest.specs.code.Cursors.{from}
 use Rattle.terms.specs.Labels.{Label, Terms, defined, function, literal, name, operator}
-use Rattle.terms.specs.code.Nodes.{AllPlain, definedKind, functionKind, nodeTable}
+use Rattle.terms.specs.code.Nodes.{AllPlain, nodeTable}
+use Rattle.terms.specs.code.Codes.{definedKind, functionKind, kindOf}
 use Rattle.terms.specs.Sorts.{Definition}
 use Rattle.forest.specs.Limits.{mostArguments, mostDefined, mostFunctions}
 
@@ -47,7 +49,7 @@ unfoldable pub CallsDefined : (defs : ℕ) → List Definition → Type 0
 CallsDefined defs [] = Unit {0}
 CallsDefined defs (f ∷ others) = CallsKnown defs 0 (f .body) × CallsDefined defs others
 
--- Each of the functions has at most 8 arguments.
+-- Each of the functions has no more arguments than a function may have.
 unfoldable pub FewArguments : List Definition → Type 0
 FewArguments [] = Unit {0}
 FewArguments (d ∷ earlier) = (length (d .signature .arguments) ≤ mostArguments) × FewArguments earlier
@@ -69,12 +71,12 @@ pub record BodiesHold (nodes bodies : List ℕ) (defs funs : List Definition) : 
 
 -- A place that no body has.
 abbrev pub noPlace : ℕ
-noPlace = 40
+noPlace = mostDefined + mostFunctions
 
 -- The place of the body of the function that a label applies, by the label's two numbers: a `define-fun`'s is its number, a synthesized
 -- function's stands behind those; `noPlace` for a label that applies none.
 abbrev pub bodyPlace : (code value : ℕ) → ℕ
 bodyPlace code value =
-    cond (eqb (code % 16) definedKind && ltb value mostDefined) value
-    (cond (eqb (code % 16) functionKind && ltb value mostFunctions) (mostDefined + value)
+    cond (eqb (kindOf code) definedKind && ltb value mostDefined) value
+    (cond (eqb (kindOf code) functionKind && ltb value mostFunctions) (mostDefined + value)
     noPlace)

@@ -15,6 +15,7 @@ use Rattle.names.specs.Scopes.{Named, namesOf, namedSorts}
 use Rattle.names.specs.code.Lookup.{Names, sourceOf}
 use Rattle.names.specs.code.Table.{nameIn, namesFrom, nonTerminalRow, rowCount, sortIn, sortsFrom}
 use Rattle.grammars.specs.Listing.{listingMisfit, startMisfit}
+use Rattle.forest.specs.Limits.{mostNonTerminals}
 
 -- A list of pairs stands at word i.
 pub record PairsAt (lexemes : List ℕ) (i : ℕ) : Type 0 where
@@ -37,7 +38,7 @@ pub record GroupsAt (text lexemes names : List ℕ) (i listed : ℕ) : Type 0 wh
   pub declared : List Named
   pub names-are : namesFrom names nonTerminalRow listed ≡ namesOf declared
   pub sorts-are : sortsFrom names nonTerminalRow listed ≡ namedSorts declared
-  pub few : listed ≤ 16
+  pub few : listed ≤ mostNonTerminals
 
 -- The least word at fault is found.
 abbrev pub ListingTested : {text lexemes names : List ℕ} {i listed : ℕ} → GroupsAt text lexemes names i listed → (nowhere r : ℕ) → Type 0
@@ -64,3 +65,11 @@ rulesMisfit nowhere close rules = cond (eqb (count rules) 0) close nowhere
 -- The least word at fault in a group.
 abbrev pub groupMisfit : (nowhere : ℕ) → (names : List ℕ) → (row : ℕ) → (group : Items) → ℕ
 groupMisfit nowhere names row group = min (nameMisfit nowhere names row group) (rulesMisfit nowhere (closeOf (item 2 group)) (inside 2 group))
+
+-- The word at fault in the name and sort of the group is found, for whatever the tables hold.
+abbrev pub TestsName : (text lexemes names : List ℕ) → (i row nowhere r : ℕ) → Type 0
+TestsName text lexemes names i row nowhere r = (p : GroupAt text lexemes names i row) → r ≡ nameMisfit nowhere names row (p .here .operands)
+
+-- The least word at fault in the group is found, for whatever the tables hold.
+abbrev pub TestsGroup : (text lexemes names : List ℕ) → (i row nowhere r : ℕ) → Type 0
+TestsGroup text lexemes names i row nowhere r = (p : GroupAt text lexemes names i row) → r ≡ groupMisfit nowhere names row (p .here .operands)

@@ -1,19 +1,14 @@
 -- Where items stand in the tables of a text: what the passes of the reader ask of the tables and give of the items. Definitions that serve a step.
-use Prim.Native.Nat.{ℕ, _+_, _-_, _*_, _≤_}
+use Prim.Native.Nat.{ℕ, _+_, _-_}
 use mathlib.Core.Bool.{false}
-use mathlib.Core.List.{List, [], _∷_, _++_}
+use mathlib.Core.List.{List, []}
 use mathlib.Core.Path.{_≡_}
-use lib.ListN.{drop, length, take}
+use lib.ListN.{drop, take}
 use Rattle.forest.specs.Forest.{none, tree}
-use Rattle.words.specs.code.Table.{wordTable, wordValues}
-use Rattle.words.specs.Trees.{Lexeme, bytesOf, list, literal, numeral, symbol, treesFrom, wordOf}
-use Rattle.words.specs.Words.{Word, wordsOf}
+use Rattle.words.specs.Trees.{Lexeme, list, literal, numeral, symbol, wordOf}
+use Rattle.words.specs.Words.{wordsOf}
 use Rattle.lexemes.specs.Lists.{Items, after, isList, isNumeral}
-use Rattle.lexemes.specs.code.Table.{closeCode, codeAt, codeOf, endAt, kindCode, lexemeTable, nextAt, openCode, startAt, valueAt, widthAt}
-
--- The items of a text: its words in their lists.
-unfoldable pub itemsOf : (text : List ℕ) → Items
-itemsOf text = treesFrom text (length (wordsOf text)) (wordsOf text) 0
+use Rattle.lexemes.specs.code.Table.{closeCode, codeAt, codeOf, endAt, lexemeTable, nextAt, openCode, startAt, valueAt, widthAt}
 
 -- What was read of a text: its bytes and its table of lexemes.
 pub record Source : Type 0 where
@@ -102,24 +97,3 @@ pub record ListAt (lexemes : List ℕ) (i : ℕ) : Type 0 where
 -- Item n of those that stand from word i to word e stands at word j, with what is behind it.
 pub record Reached (lexemes : List ℕ) (i e : ℕ) (n : ℕ) (b : Between lexemes i e) (j : ℕ) : Type 0 where
   pub stands : Stands (b .source) j (after n (b .items)) e
-
--- The tables that are lent hold the words of a text and have room for its lexemes.
-pub record Numbering (text words values lexemes : List ℕ) (count : ℕ) : Type 0 where
-  pub rest : List ℕ
-  pub more : List ℕ
-  pub is-words : words ≡ wordTable (wordsOf text) ++ rest
-  pub is-values : values ≡ wordValues (wordsOf text) ++ more
-  pub counted : count ≡ length (wordsOf text)
-  pub room : 6 * count ≤ length lexemes
-
--- Word i of a text is among those that its word table holds.
-pub record WordsOf (text words : List ℕ) (i : ℕ) : Type 0 where
-  pub rest : List ℕ
-  pub is-words : words ≡ wordTable (wordsOf text) ++ rest
-  pub word : Word
-  pub later : List Word
-  pub here : drop i (wordsOf text) ≡ word ∷ later
-
--- The number is the code of that word.
-abbrev pub Coded : {text words : List ℕ} {i : ℕ} → WordsOf text words i → (r : ℕ) → Type 0
-Coded {text} given r = r ≡ kindCode (given .word .kind) (bytesOf text (given .word))

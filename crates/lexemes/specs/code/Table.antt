@@ -2,13 +2,15 @@
 -- bytes of names and literals.
 use Prim.Native.Nat.{ℕ, _+_}
 use mathlib.Core.List.{List, [], _∷_}
-use Rattle.forest.specs.code.Rows.{numberAt, rows}
-use Rattle.lexemes.specs.Reserved.{wordNumber}
+use Rattle.forest.specs.code.Rows.{numberAt}
+use Rattle.forest.specs.Tables.{rows}
+use Rattle.lexemes.specs.code.Reserved.{wordNumber}
 use Rattle.word_kinds.specs.declared.Kind.{Kind}
 use Rattle.word_kinds.specs.declared.Kind.the-variants.{Open, Close, Numeral, Literal, Symbol, Faulty}
-use Rattle.words.specs.code.Table.{Entry, entries, valueOf, widthOf}
+use Rattle.words.specs.Table.{Entry, entries, valueOf, widthOf}
 use Rattle.words.specs.Trees.{Lexeme, bytesOf, list, literal, numeral, symbol}
 use Rattle.words.specs.Words.{Word}
+use Rattle.lexemes.specs.code.Codes.{firstCode}
 
 -- The code of `(`.
 abbrev pub openCode : ℕ
@@ -26,9 +28,9 @@ numeralCode = 3
 abbrev pub literalCode : ℕ
 literalCode = 4
 
--- The code of a symbol: 5 and its number among the words that the reader tells apart.
+-- The code of a symbol: that of the first word, and its number among the words that the reader tells apart.
 abbrev pub symbolCode : (name : List ℕ) → ℕ
-symbolCode name = 5 + wordNumber name
+symbolCode name = firstCode + wordNumber name
 
 -- The code of a word by its kind and its bytes; 0 stands past the end of a table.
 abbrev pub kindCode : Kind → (bytes : List ℕ) → ℕ

@@ -3,14 +3,14 @@ use Prim.Native.Nat.{_≤_}
 use mathlib.Core.List.{List, [], _∷_}
 use mathlib.Core.Option.{some}
 use mathlib.Core.Path.{_≡_}
-use Rattle.forest.specs.Forest.{size}
+use Rattle.forest.specs.code.Cursors.{size}
 use Rattle.terms.specs.Sorts.{sortsOf as termSorts}
-use Rattle.derivation.specs.Derivation.{Admitted}
-use Rattle.evaluation.specs.code.Runs.{SortsSmall}
+use Rattle.derivation.specs.code.Admitted.{Admitted}
+use Rattle.evaluation.specs.code.Points.{SortsSmall}
 use Rattle.names.specs.Scopes.{Defined, Function, namedSorts}
 use Rattle.term_faults.specs.Faults.{scopeOf}
 use Rattle.script.specs.Script.{Known}
-use Rattle.outcome.specs.Sorted.{Sorted}
+use Rattle.outcome.specs.code.Sorted.{Sorted}
 use Rattle.script.specs.Response.{Body, responseView}
 
 -- The grammar of each function is one that document 01 admits.

@@ -5,7 +5,7 @@ use mathlib.Core.List.{List}
 use lib.ListN.{drop, getD, take}
 use Rattle.forest.specs.Limits.{mostConstraints, mostDefined, mostFunctions, mostRules, responseWords, scriptWords}
 use Rattle.terms.specs.code.Nodes.{rowWidth as nodeWidth}
-use Rattle.derivation.specs.code.Columns.{ruleWidth}
+use Rattle.derivation.specs.code.Rules.{ruleWidth}
 use Rattle.term_sorts.specs.code.Signatures.{allRows, functionSignature, signatureWidth}
 
 -- Where the numbers of bodies begin, behind the rows of signatures; those of `define-fun`s stand first.
@@ -37,13 +37,13 @@ rulesWidth = ruleWidth * mostRules
 abbrev pub rulesPlace : (j : ℕ) → ℕ
 rulesPlace j = functionWidth * mostFunctions + rulesWidth * j
 
--- Where the first words of the bodies of synthesized functions begin, behind their rules.
-abbrev pub firstsPlace : ℕ
-firstsPlace = functionsPlace + rulesPlace mostFunctions
+-- Where the offsets of the first words of the bodies of synthesized functions begin, behind their rules.
+abbrev pub offsetsPlace : ℕ
+offsetsPlace = functionsPlace + rulesPlace mostFunctions
 
 -- How many numbers the table of places has.
 abbrev pub placesLength : ℕ
-placesLength = firstsPlace + mostFunctions
+placesLength = offsetsPlace + mostFunctions
 
 -- Where the forms of rules begin in the table of nodes, behind the terms of a script's and a response's words.
 abbrev pub formsPlace : ℕ
@@ -81,9 +81,9 @@ ruleCountIn places j = getD places (functionsPlace + functionWidth * j + 2) 0
 abbrev pub beforeIn : (places : List ℕ) → (j : ℕ) → ℕ
 beforeIn places j = getD places (functionsPlace + functionWidth * j + 3) 0
 
--- The first word of its body.
-abbrev pub firstIn : (places : List ℕ) → (j : ℕ) → ℕ
-firstIn places j = getD places (firstsPlace + j) 0
+-- The offset of the first word of its body.
+abbrev pub offsetIn : (places : List ℕ) → (j : ℕ) → ℕ
+offsetIn places j = getD places (offsetsPlace + j) 0
 
 -- Where its rules begin in the whole table.
 abbrev pub ownRules : (j : ℕ) → ℕ

@@ -7,24 +7,25 @@ use mathlib.Core.Bool.{true}
 use mathlib.Core.List.{List, [], _∷_, _++_, map}
 use mathlib.Core.Path.{_≡_}
 use lib.ListN.{drop, getD, length, take}
-use Rattle.forest.specs.Forest.{size, tree}
+use Rattle.forest.specs.Forest.{tree}
+use Rattle.forest.specs.code.Cursors.{size}
 use Rattle.words.specs.Trees.{list}
 use Rattle.lexemes.specs.Lists.{Items, is, item}
 use Rattle.shapes.specs.Shapes.{commandShape}
 use Rattle.forest.specs.Limits.{allowed, mostArguments, mostConstraints, mostDefined, mostFunctions, mostRules, mostVariables, scriptWords}
 use Rattle.lexemes.specs.code.Standing.{Stands as Standing}
-use Rattle.term_faults.specs.code.Seeking.{Lawful}
+use Rattle.term_faults.specs.code.Bodies.{Lawful}
 use Rattle.terms.specs.Labels.{Terms}
 use Rattle.terms.specs.code.Nodes.{AllPlain, nodeTable, rowWidth as nodeWidth}
-use Rattle.terms.specs.Sorts.{Definition, Signature}
+use Rattle.terms.specs.Sorts.{Signature}
 use Rattle.evaluation.specs.code.Tables.{BodiesAt, TermStands}
-use Rattle.derivation.specs.code.Columns.{ruleWidth}
+use Rattle.derivation.specs.code.Rules.{ruleWidth}
 use Rattle.derivation.specs.code.Tables.{formTable, rightSides, ruleTable}
 use Rattle.term_sorts.specs.code.Signatures.{RowsAre, functionSignature}
 use Rattle.names.specs.Scopes.{Defined, Function, definedNames, functionNames, inOrder, namesOf, signatureOf, namedSorts}
 use Rattle.names.specs.code.Lookup.{Names, sourceOf}
 use Rattle.names.specs.code.Table.{definedRow, functionRow, namesFrom, ownArgumentRow, sortsFrom, variableRow}
-use Rattle.script.specs.Script.{Known, Read, knownAfter, passed, refused, tested}
+use Rattle.script.specs.Script.{Known, Read, knownAfter, passed, refused, tested, definitionsOf}
 use Rattle.script.specs.declared.Progress.{Progress}
 use Rattle.script.specs.declared.Verdict.{Verdict}
 use Rattle.script.specs.code.Places.{bodiesPlace, constraintsPlace, formsPlace, functionWidth, functionsPlace, placesLength, rulesPlace}
@@ -59,10 +60,6 @@ pub record NamesHold (names : List ℕ) (k : Known) : Type 0 where
   pub defined-are : namesFrom names definedRow (length (k .defined)) ≡ inOrder (definedNames (k .defined))
   pub functions-are : namesFrom names functionRow (length (k .functions)) ≡ inOrder (functionNames (k .functions))
   pub arguments-are : ArgumentsHold names (k .functions)
-
--- The definitions of `define-fun`s.
-abbrev pub definitionsOf : List Defined → List Definition
-definitionsOf ds = map (λ (d : Defined). d .definition) ds
 
 -- Their signatures.
 abbrev pub definedSignatures : List Defined → List Signature

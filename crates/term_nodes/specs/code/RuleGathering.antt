@@ -1,17 +1,25 @@
 -- What the gathering of rules asks and gives. Definitions that serve a step.
 use Prim.Native.Nat.{ℕ, _+_, _-_, _*_, _≤_, min}
 use mathlib.Core.Bool.{true}
-use mathlib.Core.List.{List, _++_}
+use mathlib.Core.List.{List, _++_, [], _∷_}
 use mathlib.Core.Path.{_≡_}
 use lib.ListN.{length}
-use Rattle.forest.specs.Forest.{none, size, tree}
+use Rattle.forest.specs.Forest.{none, tree}
+use Rattle.forest.specs.code.Cursors.{size}
 use Rattle.words.specs.Trees.{Lexeme}
 use Rattle.lexemes.specs.Lists.{Items}
 use Rattle.lexemes.specs.code.Standing.{Source, Stands}
 use Rattle.shapes.specs.Shapes.{all, groupShape, ruleShape}
-use Rattle.term_nodes.specs.code.Table.{uncountedTable}
-use Rattle.term_nodes.specs.Rules.{Ruled, nodesPast, rulePast, rulesIn, rulesOf, sides, startTable}
+use Rattle.term_nodes.specs.code.Table.{uncountedTable, rowWidth}
+use Rattle.term_nodes.specs.Rules.{Ruled, nodesPast, rulePast, rulesIn, rulesOf, sides}
 use Rattle.term_nodes.specs.declared.Gathered.{Gathered}
+use Rattle.derivation.specs.code.Rules.{ruleWidth}
+use Rattle.forest.specs.Limits.{mostNodes, mostRules}
+
+-- Two numbers for each rule: the node where its right side starts, and its non-terminal.
+unfoldable pub startTable : (start : ℕ) → List Ruled → List ℕ
+startTable start [] = []
+startTable start (r ∷ more) = start ∷ r .head ∷ startTable (start + size (r .side)) more
 
 -- The rules `done` are gathered: their nodes stand in the first rows of one table, where each starts and its non-terminal in another, which has room for
 -- `most`; there is a node for each rule or more; the word past a limit is found; and the tables are as long as those that were lent.
@@ -25,7 +33,7 @@ pub record Holds (nowhere most nodes : ℕ) (rawLent rulesLent raw rules : List 
   pub more : List ℕ
   pub rules-are : g .rule ≤ most → rules ≡ startTable 0 done ++ more
   pub rules-long : length rules ≡ length rulesLent
-  pub room : 2 * most ≤ length rules
+  pub room : ruleWidth * most ≤ length rules
   pub place-is : g .place ≡ min (rulePast nowhere most done) (nodesPast nowhere nodes done)
 
 -- A rule stands at word i, behind rules that are gathered, and there is a row for each of its words.
@@ -39,7 +47,7 @@ pub record RuleAt (lexemes : List ℕ) (i : ℕ) (nowhere most nodes : ℕ) (raw
   pub shaped : ruleShape label operands ≡ true
   pub done : List Ruled
   pub holds : Holds nowhere most nodes raw rules raw rules done g
-  pub room : 4 * (g .row + (end - i)) ≤ length raw
+  pub room : rowWidth * (g .row + (end - i)) ≤ length raw
 
 -- That rule of the non-terminal A is gathered behind those before it.
 abbrev pub RuleGathered : {lexemes : List ℕ} {i nowhere most nodes : ℕ} {raw rules : List ℕ} {g : Gathered}
@@ -56,7 +64,7 @@ pub record RulesBetween (lexemes : List ℕ) (i e : ℕ) (nowhere most nodes : �
   pub shaped : all ruleShape items ≡ true
   pub done : List Ruled
   pub holds : Holds nowhere most nodes raw rules raw rules done g
-  pub room : 4 * (g .row + (e - i)) ≤ length raw
+  pub room : rowWidth * (g .row + (e - i)) ≤ length raw
 
 -- The rules of the non-terminal A are gathered behind those before them.
 abbrev pub GroupGathered : {lexemes : List ℕ} {i e nowhere most nodes : ℕ} {raw rules : List ℕ} {g : Gathered}
@@ -71,11 +79,26 @@ pub record GroupsBetween (lexemes : List ℕ) (i e : ℕ) (most : ℕ) (raw rule
   pub items : Items
   pub stands : Stands source i items e
   pub shaped : all groupShape items ≡ true
-  pub raw-room : 4 * (e - i) ≤ length raw
-  pub rules-room : 2 * most ≤ length rules
+  pub raw-room : rowWidth * (e - i) ≤ length raw
+  pub rules-room : ruleWidth * most ≤ length rules
 
 -- Their rules are gathered.
 abbrev pub RulesGathered : {lexemes : List ℕ} {i e most : ℕ} {raw rules : List ℕ} → GroupsBetween lexemes i e most raw rules
     → (nowhere nodes : ℕ) → (rawAfter rulesAfter : List ℕ) → Gathered → Type 0
 RulesGathered {most = most} {raw = raw} {rules = rules} p nowhere nodes rawAfter rulesAfter g =
     Holds nowhere most nodes raw rules rawAfter rulesAfter (rulesIn 0 (p .items)) g
+
+-- The same, for whatever the tables hold.
+abbrev pub GathersOne : (lexemes : List ℕ) → (i A nowhere : ℕ) → (raw rules : List ℕ) → Gathered → (rawAfter rulesAfter : List ℕ) → Gathered → Type 0
+GathersOne lexemes i A nowhere raw rules g rawAfter rulesAfter gAfter =
+    (p : RuleAt lexemes i nowhere mostRules mostNodes raw rules g) → RuleGathered p A rawAfter rulesAfter gAfter
+
+-- The same, for whatever the tables hold.
+abbrev pub GathersGroup : (lexemes : List ℕ) → (i e A nowhere : ℕ) → (raw rules : List ℕ) → Gathered → (rawAfter rulesAfter : List ℕ) → Gathered → Type 0
+GathersGroup lexemes i e A nowhere raw rules g rawAfter rulesAfter gAfter =
+    (p : RulesBetween lexemes i e nowhere mostRules mostNodes raw rules g) → GroupGathered p A rawAfter rulesAfter gAfter
+
+-- The same, for whatever the tables hold.
+abbrev pub GathersRules : (lexemes : List ℕ) → (i e nowhere : ℕ) → (raw rules rawAfter rulesAfter : List ℕ) → Gathered → Type 0
+GathersRules lexemes i e nowhere raw rules rawAfter rulesAfter g =
+    (p : GroupsBetween lexemes i e mostRules raw rules) → RulesGathered p nowhere mostNodes rawAfter rulesAfter g

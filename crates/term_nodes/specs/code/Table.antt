@@ -1,9 +1,25 @@
 -- The table of the nodes of terms before their names are looked up: four numbers for each node, in the order of the text.
-use Prim.Native.Nat.{ℕ, suc}
+use Prim.Native.Nat.{ℕ, suc, _+_}
 use mathlib.Core.List.{List, [], _∷_}
-use Rattle.forest.specs.Forest.{Forest, Node, count, nodesOf, size}
-use Rattle.forest.specs.code.Rows.{numberAt, rows}
-use Rattle.term_nodes.specs.Terms.{Raw, firstWord, headWord}
+use Rattle.forest.specs.Forest.{Forest, Node, count, nodesOf, none}
+use Rattle.forest.specs.code.Cursors.{size}
+use Rattle.forest.specs.code.Rows.{numberAt}
+use Rattle.forest.specs.Tables.{rows}
+use Rattle.term_nodes.specs.Terms.{Raw, firstWord, rawTerms, word, number, constant, cut, pattern}
+use mathlib.Core.Bool.{true, cond}
+use Rattle.lexemes.specs.Lists.{Items, is, item}
+
+-- The word that says what a node is: the symbol, the numeral, the literal, the i of `(_ extract i j)`, or `Constant` or `Variable`.
+abbrev pub headWord : Raw → ℕ
+headWord (word at head name) = head
+headWord (number at v) = at
+headWord (constant at width v written) = at
+headWord (cut at head i j) = head
+headWord (pattern at c s held) = at + 1
+
+-- The operands of a term, by the items of its list.
+abbrev pub operandsOf : Items → Forest Raw
+operandsOf ops = cond (is "_" (item 0 ops)) none (rawTerms true ops)
 
 -- How many numbers a row has.
 abbrev pub rowWidth : ℕ

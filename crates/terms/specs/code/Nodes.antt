@@ -1,44 +1,27 @@
 -- The node table: four numbers for each node of terms, in the order of the text.
-use Prim.Native.Nat.{ℕ, suc, _+_, _*_, _<_}
+use Prim.Native.Nat.{ℕ, suc, _<_}
 use mathlib.Core.List.{List, [], _∷_}
-use Rattle.forest.specs.Forest.{Node, count, nodesOf, none, size, tree}
-use Rattle.forest.specs.code.Rows.{numberAt, rows}
+use Rattle.forest.specs.Forest.{Node, count, nodesOf, none, tree}
+use Rattle.forest.specs.code.Cursors.{size}
+use Rattle.forest.specs.code.Rows.{numberAt}
+use Rattle.forest.specs.Tables.{rows}
 use Rattle.terms.specs.Labels.{Label, Terms, defined, function, literal, name, operator}
-
--- The kind of a literal in the table; kinds are numbers below 16.
-abbrev pub literalKind : ℕ
-literalKind = 0
-
--- The kind of an argument or a variable.
-abbrev pub nameKind : ℕ
-nameKind = 1
-
--- The kind of an operator.
-abbrev pub operatorKind : ℕ
-operatorKind = 2
-
--- The kind of an applied `define-fun`.
-abbrev pub definedKind : ℕ
-definedKind = 3
-
--- The kind of an applied synthesized function.
-abbrev pub functionKind : ℕ
-functionKind = 4
+use Rattle.terms.specs.code.Codes.{codeWith, definedKind, functionKind, literalHead, literalKind, nameKind, operatorKind, cutValue, lowCount, sortCount}
 
 -- The code of a label: its kind, and with it a literal's sort and how it is written, a name's sort, or an operator's number.
 abbrev pub codeOf : Label → ℕ
-codeOf (literal s v w) = literalKind + 16 * (s + 128 * w)
-codeOf (name s k) = nameKind + 16 * s
-codeOf (operator o i j) = operatorKind + 16 * o
-codeOf (defined k) = definedKind
-codeOf (function k) = functionKind
+codeOf (literal s v w) = codeWith literalKind (literalHead s w)
+codeOf (name s k) = codeWith nameKind s
+codeOf (operator o i j) = codeWith operatorKind o
+codeOf (defined k) = codeWith definedKind 0
+codeOf (function k) = codeWith functionKind 0
 
--- The value of a label: a literal's, the numbers of `(_ extract i j)`, or which name or function it is. It tells i and j only where j is below 64
--- (`Plain`), which the bounds of `extract` see to.
+-- The value of a label: a literal's, the numbers of `(_ extract i j)`, or which name or function it is. It tells i and j only where j is small
+-- enough (`Plain`), which the bounds of `extract` see to.
 abbrev pub valueOf : Label → ℕ
 valueOf (literal s v w) = v
 valueOf (name s k) = k
-valueOf (operator o i j) = 64 * i + j
+valueOf (operator o i j) = cutValue i j
 valueOf (defined k) = k
 valueOf (function k) = k
 
@@ -72,8 +55,8 @@ sizeAt nodes i = numberAt rowWidth nodes i 3
 
 -- A label that its two numbers tell.
 abbrev pub Plain : Label → Type 0
-Plain (literal s v w) = s < 128
-Plain (operator o i j) = j < 64
+Plain (literal s v w) = s < sortCount
+Plain (operator o i j) = j < lowCount
 Plain (name s k) = Unit {0}
 Plain (defined k) = Unit {0}
 Plain (function k) = Unit {0}

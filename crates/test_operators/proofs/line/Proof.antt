@@ -1,13 +1,14 @@
 use Prim.Native.Nat.{_-_, _≤_}
 use borrow.Author.Needs.{needs}
+use Rattle.operators.specs.Operators.{operatorCount}
 use Rattle.test_operators.proofs.line.Statement.{statement}
 use Rattle.test_operators.proofs.line.Tie as tie
 
 abbrev Inv-loop : tie.InvT-loop
-Inv-loop width operator₀ t3 t4 operator = operator ≤ 23
+Inv-loop width operator₀ t3 t4 operator = operator ≤ operatorCount
 
 abbrev μ-loop : tie.MeasureT-loop
-μ-loop width operator₀ t3 t4 operator = 23 - operator
+μ-loop width operator₀ t3 t4 operator = operatorCount - operator
 
 print-decimal-requires : tie.Need-print-decimal-requires Inv-loop μ-loop
 print-decimal-requires c κs = search needs

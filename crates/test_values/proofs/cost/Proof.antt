@@ -1,4 +1,4 @@
-use Rattle.test_values.proofs.Small.{costing}
+use Rattle.test_values.proofs.CaseHolds.{costing}
 use borrow.Author.Needs.{needs}
 use Rattle.test_values.proofs.cost.Statement.{statement}
 use Rattle.test_values.proofs.cost.Tie as tie

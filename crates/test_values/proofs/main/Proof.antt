@@ -2,7 +2,7 @@ use Rattle.test_values.specs.Case.{answerOf}
 use Rattle.evaluation.specs.Running.{leftOf}
 use mathlib.Core.Path.{ap, _∙_}
 use borrow.Author.Tests.{eq-eqb}
-use Rattle.test_values.proofs.Small.{run-ended, run-false, shifted-held}
+use Rattle.test_values.proofs.CaseHolds.{run-ended, run-false, shifted-held}
 use borrow.Author.Needs.{needs}
 use Rattle.test_values.proofs.main.Statement.{statement}
 use Rattle.test_values.proofs.main.Tie as tie

@@ -1,6 +1,7 @@
 use Rattle.terms.specs.code.Nodes.{nodeTable}
-use Rattle.forest.specs.code.Rows.{rows}
-use Rattle.forest.specs.Forest.{count, nodesOf, size}
+use Rattle.forest.specs.Tables.{rows}
+use Rattle.forest.specs.Forest.{count, nodesOf}
+use Rattle.forest.specs.code.Cursors.{size}
 use mathlib.Core.Path.{refl}
 use Rattle.test_values.proofs.nodes.Statement.{statement}
 use Rattle.test_values.proofs.nodes.Tie as tie

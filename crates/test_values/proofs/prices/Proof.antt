@@ -1,4 +1,4 @@
-use Rattle.test_values.proofs.Small.{pricing}
+use Rattle.test_values.proofs.CaseHolds.{pricing}
 use borrow.Author.Needs.{needs}
 use Rattle.test_values.proofs.prices.Statement.{statement}
 use Rattle.test_values.proofs.prices.Tie as tie

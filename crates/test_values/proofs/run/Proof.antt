@@ -1,4 +1,4 @@
-use Rattle.test_values.proofs.Small.{runnable}
+use Rattle.test_values.proofs.CaseHolds.{runnable}
 use borrow.Author.Needs.{needs}
 use Rattle.test_values.proofs.run.Statement.{statement}
 use Rattle.test_values.proofs.run.Tie as tie

@@ -1,6 +1,6 @@
 use mathlib.Core.Path.{ap}
 use Rattle.terms.specs.declared.Value.{Value}
-use Rattle.test_values.proofs.Small.{evaluable}
+use Rattle.test_values.proofs.CaseHolds.{evaluable}
 use borrow.Author.Needs.{needs}
 use Rattle.test_values.proofs.value.Statement.{statement}
 use Rattle.test_values.proofs.value.Tie as tie

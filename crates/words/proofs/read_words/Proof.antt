@@ -1,5 +1,5 @@
 use native.Mathlib.Omega.{arith}
-use Rattle.words.proofs.Whole.{all-read, rows-fit, to-link, too-long, values-fit}
+use Rattle.words.proofs.WholeText.{all-read, rows-fit, to-link, too-long, values-fit}
 use borrow.Author.Needs.{needs}
 use Rattle.words.proofs.read_words.Statement.{statement}
 use Rattle.words.proofs.read_words.Tie as tie

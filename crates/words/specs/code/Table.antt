@@ -1,84 +1,25 @@
--- The word table: five numbers for each word, and its value in a list beside it.
-use Prim.Native.Nat.{ℕ, _+_, _-_}
-use mathlib.Core.Bool.{Bool, cond}
-use mathlib.Core.List.{List, [], _∷_, map}
-use lib.Dec.{eqb}
-use Rattle.forest.specs.code.Rows.{rows}
-use Rattle.words.specs.Words.{Word}
--- passed on: the columns of a row
-pub use Rattle.words.specs.code.Columns.{endAt, kindAt, nextAt, rowWidth, startAt, widthAt}
-use Rattle.word_kinds.specs.declared.Kind.{Kind}
-use Rattle.word_kinds.specs.declared.Kind.the-variants.{Open, Close, Numeral, Literal, Symbol, Faulty}
+-- What the functions that read the word table give: the numbers of word i, 0 past the end of the table.
+use Prim.Native.Nat.{ℕ}
+use mathlib.Core.List.{List}
+use Rattle.forest.specs.code.Rows.{numberAt}
+use Rattle.words.specs.Table.{rowWidth}
 
--- The number of a kind in the table. A faulty word has no row, and 0 stands past the end of a table.
-abbrev pub kindNumber : Kind → ℕ
-kindNumber Open = 1
-kindNumber Close = 2
-kindNumber (Numeral v) = 3
-kindNumber (Literal width v) = 4
-kindNumber Symbol = 5
-kindNumber (Faulty fault) = 0
+-- The number of word i's kind.
+abbrev pub kindAt : List ℕ → ℕ → ℕ
+kindAt table i = numberAt rowWidth table i 0
 
--- Whether a word is `(`.
-abbrev pub opens : Kind → Bool
-opens kind = eqb (kindNumber kind) 1
+-- The offset of word i.
+abbrev pub startAt : List ℕ → ℕ → ℕ
+startAt table i = numberAt rowWidth table i 1
 
--- Whether a word is `)`.
-abbrev pub closes : Kind → Bool
-closes kind = eqb (kindNumber kind) 2
+-- The offset past word i.
+abbrev pub endAt : List ℕ → ℕ → ℕ
+endAt table i = numberAt rowWidth table i 2
 
--- The width of a literal in bits; 0 for any other word.
-abbrev pub widthOf : Kind → ℕ
-widthOf (Literal width v) = width
-widthOf (Numeral v) = 0
-widthOf Open = 0
-widthOf Close = 0
-widthOf Symbol = 0
-widthOf (Faulty fault) = 0
+-- The width of word i; 0 where it is no literal.
+abbrev pub widthAt : List ℕ → ℕ → ℕ
+widthAt table i = numberAt rowWidth table i 3
 
--- The value of a numeral or a literal; 0 for any other word.
-abbrev pub valueOf : Kind → ℕ
-valueOf (Literal width v) = v
-valueOf (Numeral v) = v
-valueOf Open = 0
-valueOf Close = 0
-valueOf Symbol = 0
-valueOf (Faulty fault) = 0
-
--- The index past the bracket that closes the list in which the words stand, the first of which has index i and is within `inner` lists more; the index past the
--- last word where no bracket closes it.
-unfoldable pub pastClose : List Word → (inner i : ℕ) → ℕ
-pastClose [] inner i = i
-pastClose (w ∷ more) inner i =
-    let opened = pastClose more (inner + 1) (i + 1) in
-    let closed = pastClose more (inner - 1) (i + 1) in
-    let later = pastClose more inner (i + 1) in
-    cond (opens (w .kind)) opened
-    (cond (closes (w .kind)) (cond (eqb inner 0) (i + 1) closed)
-    later)
-
--- The index past the word w, which has index i and is followed by the words `more`; past the list that it begins where it is `(`.
-unfoldable pub nextOf : Word → List Word → ℕ → ℕ
-nextOf w more i = cond (opens (w .kind)) (pastClose more 0 (i + 1)) (i + 1)
-
--- A word with the index past it.
-pub record Entry : Type 0 where
-  pub word : Word
-  pub next : ℕ
-
--- The words, the first of which has index i, each with the index past it.
-unfoldable pub entries : List Word → ℕ → List Entry
-entries [] i = []
-entries (w ∷ more) i = record { word = w; next = nextOf w more i } ∷ entries more (i + 1)
-
--- The row of a word: its kind, start, end, width and next.
-abbrev pub row : Entry → List ℕ
-row e = kindNumber (e .word .kind) ∷ e .word .start ∷ e .word .end ∷ widthOf (e .word .kind) ∷ e .next ∷ []
-
--- The table of the words.
-unfoldable pub wordTable : List Word → List ℕ
-wordTable ws = rows row (entries ws 0)
-
--- The values of the words.
-unfoldable pub wordValues : List Word → List ℕ
-wordValues ws = map (λ (w : Word). valueOf (w .kind)) ws
+-- The index past word i, or past the list that it begins.
+abbrev pub nextAt : List ℕ → ℕ → ℕ
+nextAt table i = numberAt rowWidth table i 4

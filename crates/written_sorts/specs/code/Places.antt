@@ -1,13 +1,12 @@
--- What the parts of the tests of written sorts ask. Definitions that serve a step.
-use Prim.Native.Nat.{ℕ, _≤_}
+-- What the tests of written sorts ask.
+use Prim.Native.Nat.{ℕ}
 use mathlib.Core.Bool.{Bool, true}
 use mathlib.Core.List.{List}
 use mathlib.Core.Path.{_≡_}
-use Rattle.forest.specs.Forest.{count}
-use Rattle.lexemes.specs.Lists.{Items, isSymbol, item}
-use Rattle.lexemes.specs.code.Standing.{Between, ItemAt, ListAt}
+use Rattle.lexemes.specs.Lists.{Items}
+use Rattle.lexemes.specs.code.Standing.{Between, ItemAt}
 use Rattle.words.specs.Trees.{Lexeme}
-use Rattle.shapes.specs.Shapes.{all, headerShape, sortShape, synthFunShape}
+use Rattle.shapes.specs.Shapes.{all, sortShape}
 
 -- An item of a shape stands at word i.
 pub record ShapedAt (shape : Lexeme → Items → Bool) (lexemes : List ℕ) (i : ℕ) : Type 0 where
@@ -22,16 +21,3 @@ SortAt = ShapedAt sortShape
 pub record AllBetween (shape : Lexeme → Items → Bool) (lexemes : List ℕ) (i e : ℕ) : Type 0 where
   pub between : Between lexemes i e
   pub shaped : all shape (between .items) ≡ true
-
--- A command with a function's header stands at word i: its word is a symbol, and at least three items follow.
-pub record HeaderAt (lexemes : List ℕ) (i : ℕ) : Type 0 where
-  pub here : ListAt lexemes i
-  pub named : isSymbol (item 0 (here .operands)) ≡ true
-  pub long : 4 ≤ count (here .operands)
-  pub shaped : headerShape (here .operands) ≡ true
-
--- A `synth-fun` stands at word i.
-pub record SynthFunAt (lexemes : List ℕ) (i : ℕ) : Type 0 where
-  pub here : ListAt lexemes i
-  pub named : isSymbol (item 0 (here .operands)) ≡ true
-  pub shaped : synthFunShape (here .operands) ≡ true

@@ -1,5 +1,5 @@
 use native.Mathlib.Omega.{arith}
-use Rattle.bodies.proofs.Parts.{part-found, part-sought, part-starts}
+use Rattle.bodies.proofs.TablePart.{part-found, part-sought, part-starts}
 use borrow.Author.Needs.{needs}
 use Rattle.bodies.proofs.read.body_sort.Statement.{statement}
 use Rattle.bodies.proofs.read.body_sort.Tie as tie

@@ -1,5 +1,5 @@
 use mathlib.Core.Path.{refl}
-use Rattle.checker.proofs.Bodies.{every-derived, first-within, one-underived}
+use Rattle.checker.proofs.BodiesAnswer.{every-derived, function-low, one-underived}
 use borrow.Author.Needs.{needs}
 use Rattle.checker.proofs.judge.derive_bodies.Statement.{statement}
 use Rattle.checker.proofs.judge.derive_bodies.Tie as tie
@@ -16,17 +16,14 @@ returns c = every-derived (c .before .before .before .before .derive-tables .ens
 blank-area-requires : tie.Need-blank-area-requires
 blank-area-requires c κs = search needs
 
-first-word-requires : tie.Need-first-word-requires
-first-word-requires c κs = first-within (c .before .before .before .before .before .before .before .before .derive-tables .ensures) (c .before .before .before .before .before .before .before .before .before .before .before .before .before .before .pre) (c .before .before .before .before .if1 .left)
-
-word-offset-requires : tie.Need-word-offset-requires
-word-offset-requires c κs = search needs
+offset-of-requires : tie.Need-offset-of-requires
+offset-of-requires c κs = function-low (c .before .before .before .before .before .before .before .before .derive-tables .ensures) (c .before .before .before .before .before .before .before .before .before .before .before .before .before .pre) (c .before .before .before .before .if1 .left)
 
 same-length-2 : tie.Need-same-length-2
 same-length-2 c = search needs
 
 returns-2 : tie.Need-returns-2
-returns-2 c = λ q. one-underived (c .before .before .before .before .before .before .before .before .before .before .derive-tables .ensures) q (c .before .before .before .before .before .before .if1 .left) (c .before .before .before .before .blank-area .ensures) (c .before .first-word .ensures) (c .word-offset .ensures)
+returns-2 c = λ q. one-underived (c .before .before .before .before .before .before .before .before .before .derive-tables .ensures) q (c .before .before .before .before .before .if1 .left) (c .before .before .before .blank-area .ensures) (c .offset-of .ensures)
 
 pub derive-bodies-spec : {M : Type 1} → statement M
 derive-bodies-spec =
@@ -36,7 +33,6 @@ derive-bodies-spec =
     same-length
     returns
     blank-area-requires
-    first-word-requires
-    word-offset-requires
+    offset-of-requires
     same-length-2
     returns-2)

@@ -1,7 +1,7 @@
 use native.Mathlib.Omega.{arith}
 use lib.ListN.{length-take}
 use Rattle.script.specs.code.Places.{formsPlace}
-use Rattle.checker.proofs.Bodies.{lent-searched, lent-tables}
+use Rattle.checker.proofs.BodiesAnswer.{lent-searched, lent-tables}
 use borrow.Author.Needs.{needs}
 use Rattle.checker.proofs.judge.derive_tables.Statement.{statement}
 use Rattle.checker.proofs.judge.derive_tables.Tie as tie

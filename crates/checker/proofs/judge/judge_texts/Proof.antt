@@ -1,5 +1,5 @@
-use Rattle.checker.proofs.Judged.{evaluable}
-use Rattle.checker.proofs.Passing.{body-declined, points-answered, text-declined, to-derive}
+use Rattle.checker.proofs.Judgements.{evaluable}
+use Rattle.checker.proofs.BothTexts.{body-declined, points-answered, text-declined, to-derive}
 use borrow.Author.Needs.{needs}
 use Rattle.checker.proofs.judge.judge_texts.Statement.{statement}
 use Rattle.checker.proofs.judge.judge_texts.Tie as tie
@@ -64,7 +64,7 @@ returns-3 : tie.Need-returns-3
 returns-3 c =
     let searched = c .before .before .before .before .before .before .before .before .before .before .before in
     points-answered (c .before .before .before .before .before .before .before .before .before .before .before .before .before .before .before .before .before .before .before .before .before .before .before .before .before .before .before .before .before .before .before .before .pre) (c .before .before .before .before .before .before .before .before .before .before .before .before .before .before .before .before .before .before .before .before .before .read-texts .ensures .both! (c .before .before .before .before .before .before .before .before .before .before .before .before .before .before .before .before .if1 .left)) (searched .derive-bodies .ensures) (c .before .before .before .before .before .before .before .if2 .left)
-    (searched .derive-bodies .kept .1 .1 .1 .1 .0) (c .before .before .judge-points .ensures)
+    (searched .derive-bodies .kept .1 .1 .1 .0) (c .before .before .judge-points .ensures)
 
 pub judge-texts-spec : {M : Type 1} → statement M
 judge-texts-spec =

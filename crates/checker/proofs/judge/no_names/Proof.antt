@@ -1,4 +1,4 @@
-use Rattle.checker.proofs.Passing.{blank-names}
+use Rattle.checker.proofs.BothTexts.{blank-names}
 use Rattle.checker.proofs.judge.no_names.Statement.{statement}
 use Rattle.checker.proofs.judge.no_names.Tie as tie
 

@@ -1,5 +1,5 @@
-use Rattle.script_reader.proofs.Parts.{parts-front}
-use Rattle.checker.proofs.Passing.{terms-read}
+use Rattle.script_reader.proofs.NodeTableParts.{parts-front}
+use Rattle.checker.proofs.BothTexts.{terms-read}
 use borrow.Author.Needs.{needs}
 use Rattle.checker.proofs.judge.read_bodies.Statement.{statement}
 use Rattle.checker.proofs.judge.read_bodies.Tie as tie

@@ -1,5 +1,5 @@
 use mathlib.Core.Path.{_∙_}
-use Rattle.checker.proofs.Passing.{forms-room, ready, response-read, script-declined}
+use Rattle.checker.proofs.BothTexts.{forms-room, ready, response-read, script-declined}
 use borrow.Author.Needs.{needs}
 use Rattle.checker.proofs.judge.read_texts.Statement.{statement}
 use Rattle.checker.proofs.judge.read_texts.Tie as tie

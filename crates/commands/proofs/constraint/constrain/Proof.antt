@@ -1,12 +1,12 @@
 use Rattle.script.proofs.WordsBelow.{command-word}
-use Rattle.commands.proofs.Constraints.{constraint-judging, constraint-known, limit-refused, row-place, term-at, term-refused}
+use Rattle.commands.proofs.ConstraintTests.{constraint-fits, constraint-judging, constraint-known, limit-refused, term-at, term-refused}
 use native.Mathlib.Omega.{arith}
 use borrow.Author.Needs.{needs}
 use Rattle.commands.proofs.constraint.constrain.Statement.{statement}
 use Rattle.commands.proofs.constraint.constrain.Tie as tie
 
 add-body-limit : tie.Need-add-body-limit
-add-body-limit c = let d = c .before .before .before .before .before .before .pre .of in omega (arith, command-word (d .here), d .here .few)
+add-body-limit c = let d = c .before .before .before .before .before .before .before .pre .of in omega (arith, command-word (d .here), d .here .few)
 
 body-limit-requires : tie.Need-body-limit-requires
 body-limit-requires c κs = search term-at
@@ -16,6 +16,9 @@ command-past-requires c κs = search needs
 
 least-requires : tie.Need-least-requires
 least-requires c κs = search needs
+
+verdict-requires : tie.Need-verdict-requires
+verdict-requires c κs = search needs
 
 same-length : tie.Need-same-length
 same-length c = search needs
@@ -38,11 +41,8 @@ same-length-4 c = search needs
 returns-2 : tie.Need-returns-2
 returns-2 c = term-refused (c .before .before .before .before .before .before .before .before .before .before .before .before .before .before .before .body-limit .ensures) (c .before .before .before .before .before .before .before .before .before .before .before .before .command-past .ensures) (c .before .before .before .before .before .before .before .before .before .before .before .least .ensures) (c .before .before .before .before .before .before .before .before .before .before .if1 .left) (c .before .before .before .before .before .before .judge-body .ensures) (c .if2 .taken)
 
-add-put-row : tie.Need-add-put-row
-add-put-row c = omega (arith, c .before .before .before .before .before .before .before .before .before .before .before .before .before .before .before .before .before .before .before .before .before .before .before .before .before .pre .of .counted .few-constraints)
-
-put-row-requires : tie.Need-put-row-requires
-put-row-requires c κs = row-place (c .before .before .before .before .before .before .before .before .before .before .before .before .before .before .before .before .before .body-limit .ensures) (c .before .before .before .before .before .before .before .before .before .before .before .before .before .before .command-past .ensures) (c .before .before .before .before .before .before .before .before .before .before .before .before .before .least .ensures) (c .before .before .before .before .before .before .before .before .before .before .before .before .if1 .left) (c .before .before .before .before .before .before .before .before .before .before .before .before .before .before .before .before .before .before .before .before .before .before .before .before .before .pre)
+put-constraint-requires : tie.Need-put-constraint-requires
+put-constraint-requires c κs = constraint-fits (c .before .before .before .before .before .before .before .before .before .before .before .before .before .before .before .before .body-limit .ensures) (c .before .before .before .before .before .before .before .before .before .before .before .before .before .command-past .ensures) (c .before .before .before .before .before .before .before .before .before .before .before .before .least .ensures) (c .before .before .before .before .before .before .before .before .before .before .before .if1 .left) (c .before .before .before .before .before .before .before .before .before .before .before .before .before .before .before .before .before .before .before .before .before .before .before .before .before .pre)
 
 same-length-5 : tie.Need-same-length-5
 same-length-5 c = search needs
@@ -54,7 +54,7 @@ same-length-7 : tie.Need-same-length-7
 same-length-7 c = search needs
 
 returns-3 : tie.Need-returns-3
-returns-3 c = constraint-known (c .before .before .before .before .before .before .before .before .before .before .before .before .before .before .before .before .before .before .before .before .body-limit .ensures) (c .before .before .before .before .before .before .before .before .before .before .before .before .before .before .before .before .before .command-past .ensures) (c .before .before .before .before .before .before .before .before .before .before .before .before .before .before .before .before .least .ensures) (c .before .before .before .before .before .before .before .before .before .before .before .before .before .before .before .if1 .left) (c .before .before .before .before .before .before .before .before .before .before .before .judge-body .ensures) (c .before .before .before .before .before .if2 .left) (c .before .before .put-row .ensures)
+returns-3 c = constraint-known (c .before .before .before .before .before .before .before .before .before .before .before .before .before .before .before .before .before .before .before .body-limit .ensures) (c .before .before .before .before .before .before .before .before .before .before .before .before .before .before .before .before .command-past .ensures) (c .before .before .before .before .before .before .before .before .before .before .before .before .before .before .before .least .ensures) (c .before .before .before .before .before .before .before .before .before .before .before .before .before .before .if1 .left) (c .before .before .before .before .before .before .before .before .before .before .judge-body .ensures) (c .before .before .before .before .if2 .left) (c .before .before .put-constraint .ensures)
 
 pub constrain-spec : {M : Type 1} → statement M
 constrain-spec =
@@ -64,6 +64,7 @@ constrain-spec =
     body-limit-requires
     command-past-requires
     least-requires
+    verdict-requires
     same-length
     returns
     judge-body-requires
@@ -71,8 +72,7 @@ constrain-spec =
     same-length-3
     same-length-4
     returns-2
-    add-put-row
-    put-row-requires
+    put-constraint-requires
     same-length-5
     same-length-6
     same-length-7

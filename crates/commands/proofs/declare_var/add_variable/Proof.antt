@@ -1,6 +1,6 @@
 use native.Mathlib.Omega.{arith}
-use Rattle.commands.proofs.Parts.{sort-here, sort-room}
-use Rattle.commands.proofs.Putting.{bytes-fit, sort-small, variable-added}
+use Rattle.commands.proofs.VariableItems.{sort-here, sort-room}
+use Rattle.commands.proofs.VariablePut.{bytes-fit, sort-small, variable-added}
 use borrow.Author.Needs.{needs}
 use Rattle.commands.proofs.declare_var.add_variable.Statement.{statement}
 use Rattle.commands.proofs.declare_var.add_variable.Tie as tie

@@ -1,6 +1,6 @@
 use native.Mathlib.Omega.{arith}
-use Rattle.commands.proofs.Parts.{sort-here, sort-room, variable-here}
-use Rattle.commands.proofs.Testing.{adding, name-faulty, passes, past-limit, sort-faulty}
+use Rattle.commands.proofs.VariableItems.{sort-here, sort-room, variable-here}
+use Rattle.commands.proofs.VariableTests.{adding, name-faulty, passes, past-limit, sort-faulty}
 use borrow.Author.Needs.{needs}
 use Rattle.commands.proofs.declare_var.declare_var.Statement.{statement}
 use Rattle.commands.proofs.declare_var.declare_var.Tie as tie
@@ -8,11 +8,17 @@ use Rattle.commands.proofs.declare_var.declare_var.Tie as tie
 limit-place-requires : tie.Need-limit-place-requires
 limit-place-requires c κs = sort-here (variable-here (c .before .before .before .pre .of))
 
+verdict-requires : tie.Need-verdict-requires
+verdict-requires c κs = search needs
+
 returns : tie.Need-returns
 returns c = search past-limit
 
 name-place-requires : tie.Need-name-place-requires
 name-place-requires c κs = search needs
+
+verdict-requires-2 : tie.Need-verdict-requires-2
+verdict-requires-2 c κs = search needs
 
 same-length : tie.Need-same-length
 same-length c = search needs
@@ -26,6 +32,9 @@ add-sort-place c = omega (arith, sort-room (variable-here (c .before .before .be
 sort-place-requires : tie.Need-sort-place-requires
 sort-place-requires c κs = sort-here (variable-here (c .before .before .before .before .before .before .before .before .pre .of))
 
+verdict-requires-3 : tie.Need-verdict-requires-3
+verdict-requires-3 c κs = search needs
+
 same-length-2 : tie.Need-same-length-2
 same-length-2 c = search needs
 
@@ -38,6 +47,9 @@ add-add-variable c = search needs
 add-variable-requires : tie.Need-add-variable-requires
 add-variable-requires c κs = search adding
 
+verdict-requires-4 : tie.Need-verdict-requires-4
+verdict-requires-4 c κs = search needs
+
 same-length-3 : tie.Need-same-length-3
 same-length-3 c = search needs
 
@@ -49,15 +61,19 @@ declare-var-spec =
     tie.close
     (tie.spec
     limit-place-requires
+    verdict-requires
     returns
     name-place-requires
+    verdict-requires-2
     same-length
     returns-2
     add-sort-place
     sort-place-requires
+    verdict-requires-3
     same-length-2
     returns-3
     add-add-variable
     add-variable-requires
+    verdict-requires-4
     same-length-3
     returns-4)

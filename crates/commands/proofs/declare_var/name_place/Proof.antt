@@ -1,6 +1,6 @@
 use native.Mathlib.Omega.{arith}
-use Rattle.commands.proofs.Parts.{sort-here, sort-room, variable-here}
-use Rattle.commands.proofs.Testing.{name-found, name-new}
+use Rattle.commands.proofs.VariableItems.{sort-here, sort-room, variable-here}
+use Rattle.commands.proofs.VariableTests.{name-found, name-new}
 use borrow.Author.Needs.{needs}
 use Rattle.commands.proofs.declare_var.name_place.Statement.{statement}
 use Rattle.commands.proofs.declare_var.name_place.Tie as tie

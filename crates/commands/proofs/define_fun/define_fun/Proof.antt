@@ -1,6 +1,6 @@
 use native.Mathlib.Omega.{arith}
 use Rattle.script.proofs.WordsBelow.{command-word}
-use Rattle.commands.proofs.Defining.{body-at, definition-tested, its-header, limit-refused, within-limits}
+use Rattle.commands.proofs.DefinitionLimits.{body-at, definition-tested, its-header, limit-refused, within-limits}
 use borrow.Author.Needs.{needs}
 use Rattle.commands.proofs.define_fun.define_fun.Statement.{statement}
 use Rattle.commands.proofs.define_fun.define_fun.Tie as tie
@@ -32,11 +32,14 @@ least-requires c κs = search needs
 least-requires-2 : tie.Need-least-requires-2
 least-requires-2 c κs = search needs
 
+verdict-requires : tie.Need-verdict-requires
+verdict-requires c κs = search needs
+
 same-length : tie.Need-same-length
 same-length c = search needs
 
 returns : tie.Need-returns
-returns c = limit-refused (c .before .before .before .before .before .before .before .before .before .before .before .next-at .ensures) (c .before .before .before .before .before .before .before .before .before .before .next-at2 .ensures) (c .before .before .before .before .before .before .before .before .before .next-at3 .ensures) (c .before .before .before .before .before .before .before .body-limit .ensures) (c .before .before .before .before .command-past .ensures) (c .before .before .before .head-past .ensures) (c .before .before .least .ensures) (c .before .least2 .ensures) (c .if1 .taken)
+returns c = limit-refused (c .before .before .before .before .before .before .before .before .before .before .before .before .next-at .ensures) (c .before .before .before .before .before .before .before .before .before .before .before .next-at2 .ensures) (c .before .before .before .before .before .before .before .before .before .before .next-at3 .ensures) (c .before .before .before .before .before .before .before .before .body-limit .ensures) (c .before .before .before .before .before .command-past .ensures) (c .before .before .before .before .head-past .ensures) (c .before .before .before .least .ensures) (c .before .before .least2 .ensures) (c .before .if1 .taken) (c .verdict .ensures)
 
 define-within-requires : tie.Need-define-within-requires
 define-within-requires c κs = within-limits (c .before .before .before .before .before .before .before .before .before .before .before .before .before .before .before .next-at .ensures) (c .before .before .before .before .before .before .before .before .before .before .before .before .before .before .next-at2 .ensures) (c .before .before .before .before .before .before .before .before .before .before .before .before .before .next-at3 .ensures) (c .before .before .before .before .before .before .before .before .before .before .before .body-limit .ensures) (c .before .before .before .before .before .before .before .before .command-past .ensures) (c .before .before .before .before .before .before .before .head-past .ensures) (c .before .before .before .before .before .before .least .ensures) (c .before .before .before .before .before .least2 .ensures) (c .before .before .before .before .if1 .left) (c .before .before .before .before .before .before .before .before .before .before .before .before .before .before .before .before .before .before .before .before .before .before .pre)
@@ -69,6 +72,7 @@ define-fun-spec =
     head-past-requires
     least-requires
     least-requires-2
+    verdict-requires
     same-length
     returns
     define-within-requires

@@ -1,13 +1,13 @@
 use native.Mathlib.Omega.{arith}
 use Rattle.script.proofs.WordsBelow.{command-word}
-use Rattle.commands.proofs.Definitions.{arguments-before, header-here, result-low}
-use Rattle.commands.proofs.Settling.{arguments-here, definition-judging, definition-known, definition-refused, head-at, putting, result-here}
+use Rattle.commands.proofs.DefinitionItems.{arguments-before, header-here, result-low}
+use Rattle.commands.proofs.DefinitionSettled.{arguments-here, definition-judging, definition-known, definition-refused, head-at, putting, result-here}
 use borrow.Author.Needs.{needs}
 use Rattle.commands.proofs.define_fun.define_within.Statement.{statement}
 use Rattle.commands.proofs.define_fun.define_within.Tie as tie
 
 add-next-at : tie.Need-add-next-at
-add-next-at c = let d = c .before .before .before .before .before .before .pre .of in omega (arith, command-word (d .here), d .here .few)
+add-next-at c = let d = c .before .before .before .before .before .before .before .pre .of in omega (arith, command-word (d .here), d .here .few)
 
 next-at-requires : tie.Need-next-at-requires
 next-at-requires c κs = search needs
@@ -16,25 +16,25 @@ next-at-requires-2 : tie.Need-next-at-requires-2
 next-at-requires-2 c κs = search needs
 
 add-count-items : tie.Need-add-count-items
-add-count-items c = let d = c .before .before .before .before .before .before .before .before .pre .of in omega (arith, arguments-before d (c .before .next-at .ensures) (c .next-at2 .ensures), result-low d (c .before .next-at .ensures) (c .next-at2 .ensures))
+add-count-items c = let d = c .before .before .before .before .before .before .before .before .before .pre .of in omega (arith, arguments-before d (c .before .next-at .ensures) (c .next-at2 .ensures), result-low d (c .before .next-at .ensures) (c .next-at2 .ensures))
 
 sub-count-items : tie.Need-sub-count-items
-sub-count-items c = omega (arith, arguments-before (c .before .before .before .before .before .before .before .before .pre .of) (c .before .next-at .ensures) (c .next-at2 .ensures))
+sub-count-items c = omega (arith, arguments-before (c .before .before .before .before .before .before .before .before .before .pre .of) (c .before .next-at .ensures) (c .next-at2 .ensures))
 
 count-items-requires : tie.Need-count-items-requires
-count-items-requires c κs = arguments-here (c .before .next-at .ensures) (c .next-at2 .ensures) (c .before .before .before .before .before .before .before .before .pre)
+count-items-requires c κs = arguments-here (c .before .next-at .ensures) (c .next-at2 .ensures) (c .before .before .before .before .before .before .before .before .before .pre)
 
 sort-of-requires : tie.Need-sort-of-requires
-sort-of-requires c κs = result-here (c .before .before .next-at .ensures) (c .before .next-at2 .ensures) (c .before .before .before .before .before .before .before .before .before .pre)
+sort-of-requires c κs = result-here (c .before .before .next-at .ensures) (c .before .next-at2 .ensures) (c .before .before .before .before .before .before .before .before .before .before .pre)
 
 header-place-requires : tie.Need-header-place-requires
-header-place-requires c κs = header-here (c .before .before .before .before .before .before .before .before .before .before .pre .of)
+header-place-requires c κs = header-here (c .before .before .before .before .before .before .before .before .before .before .before .pre .of)
 
 define-names-requires : tie.Need-define-names-requires
-define-names-requires c κs = head-at (c .before .before .before .before .before .before .before .before .before .before .before .before .pre)
+define-names-requires c κs = head-at (c .before .before .before .before .before .before .before .before .before .before .before .before .before .pre)
 
 judge-body-requires : tie.Need-judge-body-requires
-judge-body-requires c κs = definition-judging (c .before .before .before .before .before .before .before .before .before .before .before .before .next-at .ensures) (c .before .before .before .before .before .before .before .before .before .before .before .next-at2 .ensures) (c .before .before .before .before .before .before .before .before .before .before .count-items .ensures) (c .before .before .before .before .before .before .before .before .before .sort-of .ensures) (c .before .before .before .before .before .before .define-names .ensures) (c .before .before .before .before .before .before .before .before .before .before .before .before .before .before .before .before .before .before .before .pre)
+judge-body-requires c κs = definition-judging (c .before .before .before .before .before .before .before .before .before .before .before .before .next-at .ensures) (c .before .before .before .before .before .before .before .before .before .before .before .next-at2 .ensures) (c .before .before .before .before .before .before .before .before .before .before .count-items .ensures) (c .before .before .before .before .before .before .before .before .before .sort-of .ensures) (c .before .before .before .before .before .before .define-names .ensures) (c .before .before .before .before .before .before .before .before .before .before .before .before .before .before .before .before .before .before .before .before .pre)
 
 same-length : tie.Need-same-length
 same-length c = search needs
@@ -52,7 +52,7 @@ returns : tie.Need-returns
 returns c = definition-refused (c .before .before .before .before .before .before .before .before .before .before .before .before .before .before .before .before .before .before .before .next-at .ensures) (c .before .before .before .before .before .before .before .before .before .before .before .before .before .before .before .before .before .before .next-at2 .ensures) (c .before .before .before .before .before .before .before .before .before .before .before .before .before .before .before .before .before .count-items .ensures) (c .before .before .before .before .before .before .before .before .before .before .before .before .before .before .before .before .sort-of .ensures) (c .before .before .before .before .before .before .before .before .before .before .before .before .before .define-names .ensures) (c .before .before .before .before .before .before .before .before .before .before .before .before .before .before .before .header-place .ensures) (c .before .before .before .before .before .before .judge-body .ensures) (c .if1 .taken)
 
 put-definition-requires : tie.Need-put-definition-requires
-put-definition-requires c κs = putting (c .before .before .before .before .before .before .before .before .before .before .before .before .before .before .before .before .before .before .before .before .before .next-at .ensures) (c .before .before .before .before .before .before .before .before .before .before .before .before .before .before .before .before .before .before .before .before .next-at2 .ensures) (c .before .before .before .before .before .before .before .before .before .before .before .before .before .before .before .before .before .before .before .count-items .ensures) (c .before .before .before .before .before .before .before .before .before .before .before .before .before .before .before .before .before .before .sort-of .ensures) (c .before .before .before .before .before .before .before .before .before .before .before .before .before .before .before .define-names .ensures) (c .before .before .before .before .before .before .before .before .before .before .before .before .before .before .before .before .before .before .before .before .before .before .before .before .before .before .before .before .pre)
+put-definition-requires c κs = putting (c .before .before .before .before .before .before .before .before .before .before .before .before .before .before .before .before .before .before .before .before .before .next-at .ensures) (c .before .before .before .before .before .before .before .before .before .before .before .before .before .before .before .before .before .before .before .before .next-at2 .ensures) (c .before .before .before .before .before .before .before .before .before .before .before .before .before .before .before .before .before .before .before .count-items .ensures) (c .before .before .before .before .before .before .before .before .before .before .before .before .before .before .before .before .before .before .sort-of .ensures) (c .before .before .before .before .before .before .before .before .before .before .before .before .before .before .before .define-names .ensures) (c .before .before .before .before .before .before .before .before .before .before .before .before .before .before .before .before .before .before .before .before .before .before .before .before .before .before .before .before .before .pre)
 
 same-length-5 : tie.Need-same-length-5
 same-length-5 c = search needs

@@ -1,7 +1,7 @@
 use Prim.Native.Nat.{_-_}
 use native.Mathlib.Omega.{arith}
 use borrow.Author.Needs.{needs}
-use Rattle.derivation.specs.code.Columns.{has}
+use Rattle.derivation.specs.code.Masks.{has}
 use Rattle.derivation.proofs.Count.{cnt}
 use Rattle.derivation.proofs.Members.{State, state-start, node-done, member-low, more-members, state-step}
 use Rattle.derivation.proofs.filling.derivers.Statement.{statement}

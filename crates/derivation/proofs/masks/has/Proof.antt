@@ -2,7 +2,7 @@ use Prim.Native.Nat.{ℕ, _/_, _^_}
 use mathlib.Core.Path.{ap}
 use lib.Dec.{eqb}
 use lib.Bits.{and-mask}
-use Rattle.derivation.specs.code.Columns.{has}
+use Rattle.derivation.specs.code.Masks.{has}
 use borrow.Author.Needs.{needs}
 use Rattle.derivation.proofs.masks.has.Statement.{statement}
 use Rattle.derivation.proofs.masks.has.Tie as tie

@@ -1,4 +1,4 @@
-use Rattle.derivation.specs.code.Columns.{alike}
+use Rattle.derivation.specs.code.Matching.{alike}
 use borrow.Author.Needs.{needs}
 use Rattle.derivation.proofs.matching.alike.Statement.{statement}
 use Rattle.derivation.proofs.matching.alike.Tie as tie

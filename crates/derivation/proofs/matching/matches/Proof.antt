@@ -1,8 +1,8 @@
 use Prim.Native.Nat.{_-_}
 use native.Mathlib.Omega.{arith}
 use borrow.Author.Needs.{needs}
-use Rattle.derivation.proofs.Walk.{Inv, inv-start, end-small, turn-place, turn-here, turn-over, turn-low, turn-hole, turn-node, miss-hole, miss-node}
-use Rattle.derivation.proofs.Walk.{turn-end}
+use Rattle.derivation.proofs.RuleWalk.{Inv, inv-start, end-small, turn-place, turn-here, turn-over, turn-low, turn-hole, turn-node, miss-hole, miss-node}
+use Rattle.derivation.proofs.RuleWalk.{turn-end}
 use Rattle.derivation.proofs.matching.matches.Statement.{statement}
 use Rattle.derivation.proofs.matching.matches.Tie as tie
 

@@ -3,7 +3,7 @@ use native.Mathlib.Omega.{arith}
 use borrow.Author.Needs.{needs}
 use mathlib.Core.Path.{refl, sym, _∙_, subst}
 use lib.ListN.{length}
-use Rattle.derivation.proofs.Walk.{end-small}
+use Rattle.derivation.proofs.RuleWalk.{end-small}
 use Rattle.derivation.proofs.Whole.{follow-pre, spread-pre, emit-post}
 use Rattle.derivation.proofs.Track.{Inv, spread-start, spread-end, spread-place, spread-here, spread-over, spread-node, spread-after, spread-asks}
 use Rattle.derivation.proofs.Track.{spread-hole}

@@ -1,7 +1,7 @@
 use mathlib.Core.Path.{_∙_}
 use mathlib.Core.Logic.{⊎-elim}
 use lib.ListN.{length}
-use Rattle.evaluation.specs.code.Evaluating.{Costing}
+use Rattle.evaluation.specs.code.Costs.{Costing}
 use Prim.Native.Nat.{_≤_, _-_, _^_}
 use native.Mathlib.Omega.{arith}
 use Rattle.evaluation.proofs.CostTurns.{Summed, ends-within, size-some, sum-body, sum-end, sum-other, sum-start}

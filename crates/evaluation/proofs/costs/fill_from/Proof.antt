@@ -1,4 +1,5 @@
-use Rattle.evaluation.specs.code.Evaluating.{FilledTo, Filling}
+use Rattle.evaluation.specs.code.Tables.{noPlace}
+use Rattle.evaluation.specs.code.Costs.{FilledTo, Filling}
 use lib.ListN.{length, length-set}
 use mathlib.Core.Path.{_≡_}
 use Prim.Native.Nat.{_≤_, _-_}
@@ -9,7 +10,7 @@ use Rattle.evaluation.proofs.costs.fill_from.Tie as tie
 
 abbrev Inv-loop : tie.InvT-loop
 Inv-loop nodes bodies costs₀ base count k₀ costs k =
-    (length costs ≡ 40) × (k ≤ count) × ((e : Filling nodes bodies costs₀ base count) → FilledTo costs₀ costs base k (e .price))
+    (length costs ≡ noPlace) × (k ≤ count) × ((e : Filling nodes bodies costs₀ base count) → FilledTo costs₀ costs base k (e .price))
 
 abbrev μ-loop : tie.MeasureT-loop
 μ-loop nodes bodies costs₀ base count k₀ costs k = count - k

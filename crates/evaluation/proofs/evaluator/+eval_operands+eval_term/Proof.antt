@@ -1,7 +1,7 @@
-use Rattle.evaluation.proofs.Evaluating.{arguments-eight, body-evaluable, body-result, left-some, literal-value, name-value, operands-evaluable}
+use Rattle.evaluation.proofs.Evaluating.{arguments-all, body-evaluable, body-result, left-some, literal-value, name-value, operands-evaluable}
 use Rattle.evaluation.proofs.Evaluating.{operator-ready, operator-result, term-within}
 use Prim.Native.Nat.{_+_, _-_, _*_, ℕ, _<_}
-use Rattle.evaluation.specs.code.Evaluating.{OperandsEvaluable}
+use Rattle.evaluation.specs.code.Evaluator.{OperandsEvaluable}
 use borrow.Author.Needs.{needs}
 use native.Mathlib.Omega.{arith}
 use Rattle.evaluation.proofs.Operands.{Done, all-done, none-done, one-done, operand-evaluable, operand-room, operand-size, operand-within}
@@ -18,6 +18,9 @@ use Rattle.evaluation.proofs.costs.number_in.Reads as number-in-reads
 use Rattle.evaluation.proofs.evaluator.operator_value.Reads as operator-value-reads
 use Rattle.evaluation.proofs.evaluator.with_sort.Reads as with-sort-reads
 use Rattle.terms.proofs.code_at.Reads as code-at-reads
+use Rattle.terms.proofs.codes.head_of.Reads as head-of-reads
+use Rattle.terms.proofs.codes.kind_of.Reads as kind-of-reads
+use Rattle.terms.proofs.codes.literal_sort.Reads as literal-sort-reads
 use Rattle.terms.proofs.size_at.Reads as size-at-reads
 use Rattle.terms.proofs.value_at.Reads as value-at-reads
 use Rattle.evaluation.proofs.evaluator.+eval_operands+eval_term.{statement}
@@ -66,6 +69,12 @@ term-calls t = (
   code-at-reads.Learnt,
   value-at-reads.Asked,
   value-at-reads.Learnt,
+  kind-of-reads.Asked,
+  kind-of-reads.Learnt,
+  literal-sort-reads.Asked,
+  literal-sort-reads.Learnt,
+  head-of-reads.Asked,
+  head-of-reads.Learnt,
   number-in-reads.Asked,
   number-in-reads.Learnt,
   size-at-reads.Asked,
@@ -143,8 +152,17 @@ module _ (t : ℕ) where
   eval-term-value-at-requires : eval-term-lts.Need-value-at-requires (term-calls t) (eval-term-at t) eval-term.Post
   eval-term-value-at-requires c κs = tt
 
+  eval-term-kind-of-requires : eval-term-lts.Need-kind-of-requires (term-calls t) (eval-term-at t) eval-term.Post
+  eval-term-kind-of-requires c κs = tt
+
+  eval-term-literal-sort-requires : eval-term-lts.Need-literal-sort-requires (term-calls t) (eval-term-at t) eval-term.Post
+  eval-term-literal-sort-requires c κs = tt
+
   eval-term-returns : eval-term-lts.Need-returns (term-calls t) (eval-term-at t) eval-term.Post
   eval-term-returns c = search literal-value
+
+  eval-term-head-of-requires : eval-term-lts.Need-head-of-requires (term-calls t) (eval-term-at t) eval-term.Post
+  eval-term-head-of-requires c κs = tt
 
   eval-term-number-in-requires : eval-term-lts.Need-number-in-requires (term-calls t) (eval-term-at t) eval-term.Post
   eval-term-number-in-requires c κs = tt
@@ -157,12 +175,12 @@ module _ (t : ℕ) where
 
   eval-term-add-stop : eval-term-lts.Need-add-stop (term-calls t) (eval-term-at t) eval-term.Post
   eval-term-add-stop c =
-      let start = c .before .before .before .before .before .before .before .before in
+      let start = c .before .before .before .before .before .before .before .before .before in
       omega (arith, term-within (start .pre .1) (c .size-at .ensures), start .good .0 .1)
 
   eval-term-add-eval-operands : eval-term-lts.Need-add-eval-operands (term-calls t) (eval-term-at t) eval-term.Post
   eval-term-add-eval-operands c =
-      let start = c .before .before .before .before .before .before .before .before in
+      let start = c .before .before .before .before .before .before .before .before .before in
       omega (arith, term-within (start .pre .1) (c .size-at .ensures), start .good .0 .1)
 
   eval-term-sub-eval-operands : eval-term-lts.Need-sub-eval-operands (term-calls t) (eval-term-at t) eval-term.Post
@@ -170,8 +188,11 @@ module _ (t : ℕ) where
 
   eval-term-eval-operands-requires : eval-term-lts.Need-eval-operands-requires (term-calls t) (eval-term-at t) eval-term.Post
   eval-term-eval-operands-requires c κs =
-      let start = c .before .before .before .before .before .before .before .before .before in
+      let start = c .before .before .before .before .before .before .before .before .before .before in
       (omega (arith, start .pre .0, left-some (start .pre .1)), search (operands-evaluable (start .pre .1)))
+
+  eval-term-head-of-requires-2 : eval-term-lts.Need-head-of-requires-2 (term-calls t) (eval-term-at t) eval-term.Post
+  eval-term-head-of-requires-2 c κs = tt
 
   eval-term-array-read-operator-value : eval-term-lts.Need-array-read-operator-value (term-calls t) (eval-term-at t) eval-term.Post
   eval-term-array-read-operator-value c = search needs
@@ -195,14 +216,14 @@ module _ (t : ℕ) where
   eval-term-number-in-requires-2 c κs = tt
 
   eval-term-slice-aggregate-eval-term : eval-term-lts.Need-slice-aggregate-eval-term (term-calls t) (eval-term-at t) eval-term.Post
-  eval-term-slice-aggregate-eval-term c = search arguments-eight
+  eval-term-slice-aggregate-eval-term c = search arguments-all
 
   eval-term-sub-eval-term : eval-term-lts.Need-sub-eval-term (term-calls t) (eval-term-at t) eval-term.Post
   eval-term-sub-eval-term c = search left-some
 
   eval-term-eval-term-requires : eval-term-lts.Need-eval-term-requires (term-calls t) (eval-term-at t) eval-term.Post
   eval-term-eval-term-requires c κs =
-      let start = c .before .before .before .before .before .before .before .before .before .before .before .before .before .before in
+      let start = c .before .before .before .before .before .before .before .before .before .before .before .before .before .before .before in
       (omega (arith, start .pre .0, left-some (start .pre .1)), search (body-evaluable (start .pre .1)))
 
   eval-term-returns-4 : eval-term-lts.Need-returns-4 (term-calls t) (eval-term-at t) eval-term.Post
@@ -230,7 +251,10 @@ pub +eval-operands+eval-term-spec : {M : Type 1} → statement M
     eval-term.Post
     (eval-term-code-at-requires t)
     (eval-term-value-at-requires t)
+    (eval-term-kind-of-requires t)
+    (eval-term-literal-sort-requires t)
     (eval-term-returns t)
+    (eval-term-head-of-requires t)
     (eval-term-number-in-requires t)
     (eval-term-returns-2 t)
     (eval-term-size-at-requires t)
@@ -238,6 +262,7 @@ pub +eval-operands+eval-term-spec : {M : Type 1} → statement M
     (eval-term-add-eval-operands t)
     (eval-term-sub-eval-operands t)
     (eval-term-eval-operands-requires t)
+    (eval-term-head-of-requires-2 t)
     (eval-term-array-read-operator-value t)
     (eval-term-array-read-operator-value-2 t)
     (eval-term-array-read-operator-value-3 t)

@@ -1,7 +1,7 @@
 use Prim.Native.Nat.{_-_}
 use borrow.Author.Needs.{needs}
 use native.Mathlib.Omega.{arith}
-use Rattle.evaluation.specs.code.Runs.{PointsRunnable}
+use Rattle.evaluation.specs.code.Running.{PointsRunnable}
 use Rattle.evaluation.proofs.PointRuns.{PointsLeft, no-points, point-passed, point-runnable, point-stopped, point-within, points-end, points-start}
 use Rattle.evaluation.proofs.PointRuns.{terms-costing}
 use Rattle.evaluation.proofs.running.run_points.Statement.{statement}

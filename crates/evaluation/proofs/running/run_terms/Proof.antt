@@ -2,7 +2,7 @@ use Prim.Native.Nat.{_≤_, _-_, _^_}
 use native.Mathlib.Omega.{arith}
 use lib.ListN.{length}
 use borrow.Author.Needs.{needs}
-use Rattle.evaluation.specs.code.Runs.{Runnable}
+use Rattle.evaluation.specs.code.Running.{Runnable}
 use Rattle.evaluation.proofs.Runs.{TermsLeft, term-ended, term-evaluable, term-false, term-true, terms-end, terms-start}
 use Rattle.evaluation.proofs.running.run_terms.Statement.{statement}
 use Rattle.evaluation.proofs.running.run_terms.Tie as tie

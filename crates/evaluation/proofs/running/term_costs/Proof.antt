@@ -3,7 +3,7 @@ use native.Mathlib.Omega.{arith}
 use lib.ListN.{length}
 use mathlib.Core.Path.{_≡_, refl}
 use borrow.Author.Needs.{needs}
-use Rattle.evaluation.specs.code.Runs.{PricedTo}
+use Rattle.evaluation.specs.code.Running.{PricedTo}
 use Rattle.evaluation.proofs.TermCosts.{prices-more, prices-start}
 use Rattle.evaluation.proofs.running.term_costs.Statement.{statement}
 use Rattle.evaluation.proofs.running.term_costs.Tie as tie

@@ -1,5 +1,5 @@
 use native.Mathlib.Omega.{arith}
-use Rattle.grammars.proofs.Commands.{list-closes}
+use Rattle.grammars.proofs.SynthFunParts.{list-closes}
 use borrow.Author.Needs.{needs}
 use Rattle.grammars.proofs.parts.close_at.Statement.{statement}
 use Rattle.grammars.proofs.parts.close_at.Tie as tie

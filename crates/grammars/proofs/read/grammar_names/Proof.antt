@@ -1,7 +1,7 @@
 use native.Mathlib.Omega.{arith}
 use Rattle.lexemes.proofs.Listed.{item-room}
 use Rattle.shapes.specs.Shapes.{pairShape}
-use Rattle.grammars.proofs.Commands.{as-list, pairs}
+use Rattle.grammars.proofs.SynthFunParts.{as-list, pairs}
 use Rattle.grammars.proofs.Named.{command-of, grammar-named, new-in, pairs-in, rules-of}
 use borrow.Author.Needs.{needs}
 use Rattle.grammars.proofs.read.grammar_names.Statement.{statement}
@@ -36,8 +36,8 @@ write-forms-requires c κs =
     let named = counted .before .before .before .before .before in
     let listed = named .before .before in
     let entry = listed .before .before .before .before .before .before .before .before in
-    rules-of (entry .pre) (listed .before .before .non-terminals-at .ensures) (listed .before .close-at .ensures) (listed .count-items .ensures) (named .new-pairs .ensures)
-    (counted .count-nodes .ensures)
+    rules-of (entry .pre) (listed .before .before .non-terminals-at .ensures) (listed .before .close-at .ensures) (listed .count-items .ensures)
+    (named .new-pairs .ensures) (counted .count-nodes .ensures)
 
 least-requires : tie.Need-least-requires
 least-requires c κs = search needs
@@ -61,8 +61,9 @@ returns c = λ p.
     let sorts = counted .before .before in
     let named = sorts .before .before .before in
     let listed = named .before .before in
-    grammar-named p (listed .before .before .non-terminals-at .ensures) (listed .before .close-at .ensures) (listed .count-items .ensures) (named .new-pairs .ensures)
-    (counted .count-nodes .ensures) (sorts .grammar-place .ensures) (written .write-forms .ensures) (c .before .least .ensures) (c .least2 .ensures)
+    grammar-named p (listed .before .before .non-terminals-at .ensures) (listed .before .close-at .ensures) (listed .count-items .ensures)
+    (named .new-pairs .ensures) (counted .count-nodes .ensures) (sorts .grammar-place .ensures) (written .write-forms .ensures)
+    (c .before .least .ensures) (c .least2 .ensures)
 
 pub grammar-names-spec : {M : Type 1} → statement M
 grammar-names-spec =

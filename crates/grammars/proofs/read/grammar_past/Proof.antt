@@ -1,7 +1,7 @@
 use native.Mathlib.Omega.{arith}
 use Rattle.lexemes.proofs.Listed.{item-room}
 use Rattle.shapes.specs.Shapes.{groupShape, pairShape}
-use Rattle.grammars.proofs.Commands.{as-list, groups, pairs, pairs-between}
+use Rattle.grammars.proofs.SynthFunParts.{as-list, groups, pairs, pairs-between}
 use Rattle.grammars.proofs.Limits.{limited, listed-in}
 use borrow.Author.Needs.{needs}
 use Rattle.grammars.proofs.read.grammar_past.Statement.{statement}

@@ -27,8 +27,8 @@ least-requires c κs = search needs
 returns : tie.Need-returns
 returns c =
     let sort = c .before .before .before in
-    lists-tested (sort .before .before .before .non-terminals-at .ensures) (sort .before .before .groups-at .ensures) (sort .before .result-at .ensures) (sort .sort-of .ensures) _
-    (c .before .before .start-misfit .ensures) (c .before .listing-misfit .ensures) (c .least .ensures)
+    lists-tested (sort .before .before .before .non-terminals-at .ensures) (sort .before .before .groups-at .ensures) (sort .before .result-at .ensures)
+    (sort .sort-of .ensures) _ (c .before .before .start-misfit .ensures) (c .before .listing-misfit .ensures) (c .least .ensures)
 
 pub lists-misfit-spec : {M : Type 1} → statement M
 lists-misfit-spec =

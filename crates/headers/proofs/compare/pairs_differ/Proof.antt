@@ -22,7 +22,8 @@ add-pair-differs : tie.Need-add-pair-differs Inv-loop μ-loop
 add-pair-differs c = omega arith
 
 pair-differs-requires : tie.Need-pair-differs-requires Inv-loop μ-loop
-pair-differs-requires c κs = pass-pair (c .before .before .loop .inv) (c .before .loop-test .taken) (c .if1 .left) (c .before .before .before .before .before .before .pre)
+pair-differs-requires c κs =
+    pass-pair (c .before .before .loop .inv) (c .before .loop-test .taken) (c .if1 .left) (c .before .before .before .before .before .before .pre)
 
 returns-2 : tie.Need-returns-2 Inv-loop μ-loop
 returns-2 c = search pass-other
@@ -34,7 +35,8 @@ add-passed : tie.Need-add-passed Inv-loop μ-loop
 add-passed c = omega arith
 
 loop-less : tie.Need-loop-less Inv-loop μ-loop
-loop-less c = along-less (c .before .before .before .before .before .loop .inv .walk) (c .before .before .before .before .loop-test .taken) (c .next-at .ensures)
+loop-less c =
+    along-less (c .before .before .before .before .before .loop .inv .walk) (c .before .before .before .before .loop-test .taken) (c .next-at .ensures)
 
 loop-again : tie.Need-loop-again Inv-loop μ-loop
 loop-again c = search pass-turn

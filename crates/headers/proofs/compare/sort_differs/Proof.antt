@@ -30,7 +30,10 @@ returns-4 : tie.Need-returns-4
 returns-4 c = search width-same
 
 returns-5 : tie.Need-returns-5
-returns-5 c = width-other (c .before .before .before .before .code-at .ensures) (c .before .before .before .if1 .left) (c .before .before .if3 .left) (c .before .value-at .ensures) (c .if4 .left)
+returns-5 c =
+    width-other
+    (c .before .before .before .before .code-at .ensures) (c .before .before .before .if1 .left) (c .before .before .if3 .left)
+    (c .before .value-at .ensures) (c .if4 .left)
 
 pub sort-differs-spec : {M : Type 1} → statement M
 sort-differs-spec =

@@ -1,5 +1,5 @@
 use Rattle.headers.proofs.Named.{head-named, pairs-here}
-use Rattle.headers.proofs.Parts.{arguments-ahead, arguments-room, head-room, header-here}
+use Rattle.headers.proofs.HeadParts.{arguments-ahead, arguments-room, head-room, header-here}
 use native.Mathlib.Omega.{arith}
 use borrow.Author.Needs.{needs}
 use Rattle.headers.proofs.heads.head_names.Statement.{statement}

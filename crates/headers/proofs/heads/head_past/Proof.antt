@@ -1,4 +1,4 @@
-use Rattle.headers.proofs.Parts.{arguments-ahead, arguments-room, head-limited, items-between}
+use Rattle.headers.proofs.HeadParts.{arguments-ahead, arguments-room, head-limited, items-between}
 use Rattle.lexemes.proofs.Listed.{list-room}
 use native.Mathlib.Omega.{arith}
 use borrow.Author.Needs.{needs}

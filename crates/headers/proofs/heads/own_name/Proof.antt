@@ -1,5 +1,5 @@
 use Rattle.headers.proofs.Named.{name-here, own-fits, own-named, result-sort, sort-small}
-use Rattle.headers.proofs.Parts.{bytes-fit, head-room}
+use Rattle.headers.proofs.HeadParts.{bytes-fit, head-room}
 use native.Mathlib.Omega.{arith}
 use borrow.Author.Needs.{needs}
 use Rattle.headers.proofs.heads.own_name.Statement.{statement}

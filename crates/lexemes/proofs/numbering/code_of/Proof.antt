@@ -1,5 +1,5 @@
 use native.Mathlib.Omega.{arith}
-use Rattle.lexemes.proofs.Places.{number-bound}
+use Rattle.lexemes.proofs.WordNumbers.{number-bound}
 use Rattle.lexemes.proofs.Filling.{code-low, code-symbol, part-end, part-start}
 use borrow.Author.Needs.{needs}
 use Rattle.lexemes.proofs.numbering.code_of.Statement.{statement}

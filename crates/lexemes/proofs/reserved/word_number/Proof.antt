@@ -1,6 +1,7 @@
 use native.Mathlib.Omega.{arith}
 use Rattle.forest.proofs.Searching.{rising}
-use Rattle.lexemes.proofs.Places.{firstSpellings, number-first, number-operator, operator-bound}
+use Rattle.operators.proofs.Naming.{operator-bound}
+use Rattle.lexemes.proofs.WordNumbers.{firstSpellings, number-first, number-operator}
 use borrow.Author.Needs.{needs}
 use Rattle.lexemes.proofs.reserved.word_number.Statement.{statement}
 use Rattle.lexemes.proofs.reserved.word_number.Tie as tie

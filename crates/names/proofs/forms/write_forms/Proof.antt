@@ -6,12 +6,11 @@ use Rattle.names.proofs.forms.write_forms.Statement.{statement}
 use Rattle.names.proofs.forms.write_forms.Tie as tie
 
 abbrev Inv-loop : tie.InvT-loop
-Inv-loop names seen text lexemes raw count forms₀ base nowhere unknown₀ node₀ forms unknown node =
-    Going names text lexemes raw forms₀ seen count base nowhere forms unknown node
+Inv-loop names seen text lexemes raw forms₀ target unknown₀ node₀ forms unknown node =
+    Going names text lexemes raw forms₀ seen (target .count) (target .base) (target .nowhere) forms unknown node
 
 abbrev μ-loop : tie.MeasureT-loop
-μ-loop names seen text lexemes raw count forms₀ base nowhere unknown₀ node₀ forms unknown node =
-    count - node
+μ-loop names seen text lexemes raw forms₀ target unknown₀ node₀ forms unknown node = target .count - node
 
 loop-holds : tie.Need-loop-holds Inv-loop μ-loop
 loop-holds c = search begins
@@ -26,7 +25,11 @@ node-means-requires : tie.Need-node-means-requires Inv-loop μ-loop
 node-means-requires c κs = search node-here
 
 add-put-form : tie.Need-add-put-form Inv-loop μ-loop
-add-put-form c = let room = c .before .before .before .before .before .loop .inv .given .room in let inside = c .before .before .before .before .loop-test .taken in let fits = c .before .before .before .before .before .before .before .before .before .before .before .good .1 .1 .1 .1 .1 .1 .0 .1 in omega arith
+add-put-form c =
+    let room = c .before .before .before .before .before .before .before .loop .inv .given .room in
+    let inside = c .before .before .before .before .before .if1 .taken in
+    let fits = c .before .before .before .before .before .before .before .before .before .before .before .before .before .good .1 .1 .1 .1 .1 .0 .1 in
+    omega arith
 
 operands-at-requires : tie.Need-operands-at-requires Inv-loop μ-loop
 operands-at-requires c κs = search needs
@@ -35,7 +38,11 @@ size-at-requires : tie.Need-size-at-requires Inv-loop μ-loop
 size-at-requires c κs = search needs
 
 put-form-requires : tie.Need-put-form-requires Inv-loop μ-loop
-put-form-requires c κs = let going = c .before .before .before .before .before .before .before .loop .inv in let room = going .given .room in let inside = c .before .before .before .before .before .before .loop-test .taken in omega (arith, going .long)
+put-form-requires c κs =
+    let going = c .before .before .before .before .before .before .before .before .before .loop .inv in
+    let room = going .given .room in
+    let inside = c .before .before .before .before .before .before .before .if1 .taken in
+    omega (arith, going .long)
 
 unknown-word-requires : tie.Need-unknown-word-requires Inv-loop μ-loop
 unknown-word-requires c κs = search needs
@@ -44,16 +51,34 @@ least-requires : tie.Need-least-requires Inv-loop μ-loop
 least-requires c κs = search needs
 
 add-node : tie.Need-add-node Inv-loop μ-loop
-add-node c = let inside = c .before .before .before .before .before .before .before .before .before .before .before .loop-test .taken in let fits = c .before .before .before .before .before .before .before .before .before .before .before .before .before .before .before .before .before .before .good .1 .1 .1 .1 .1 .0 in omega arith
+add-node c =
+    let test = c .before .before .before .before .before .before .before .before .before .before .before .before in
+    let room = test .before .before .loop .inv .given .room in
+    let inside = test .if1 .taken in
+    let fits = test .before .before .before .before .before .before .before .before .good .1 .1 .1 .1 .1 .0 .1 in
+    omega arith
 
 loop-less : tie.Need-loop-less Inv-loop μ-loop
 loop-less c = omega arith
 
 loop-again : tie.Need-loop-again Inv-loop μ-loop
-loop-again c = turn (c .before .before .before .before .before .before .before .before .before .before .before .before .loop .inv) (c .before .before .before .before .before .before .before .before .before .before .before .loop-test .taken) (c .before .before .before .before .before .before .before .before .before .before .first-at .ensures) (c .before .before .before .before .before .before .before .before .before .head-at .ensures) (c .before .before .before .before .before .before .before .before .node-means .ensures) (c .before .before .before .before .before .before .operands-at .ensures) (c .before .before .before .before .before .size-at .ensures) (c .before .before .before .before .put-form .ensures) (c .before .unknown-word .ensures) (c .least .ensures)
+loop-again c =
+    let met = c .before .before .before .before .before .before .before .before .before in
+    let written = c .before .before .before .before in
+    turn
+    (met .before .before .before .before .before .loop .inv)
+    (met .before .before .before .if1 .taken)
+    (met .before .before .first-at .ensures)
+    (met .before .head-at .ensures)
+    (met .node-means .ensures)
+    (written .before .before .operands-at .ensures)
+    (written .before .size-at .ensures)
+    (written .put-form .ensures)
+    (c .before .unknown-word .ensures)
+    (c .least .ensures)
 
 same-length : tie.Need-same-length Inv-loop μ-loop
-same-length c = c .before .loop .inv .long
+same-length c = c .before .before .loop .inv .long
 
 returns : tie.Need-returns Inv-loop μ-loop
 returns c = search all-written

@@ -1,3 +1,4 @@
+use Rattle.names.specs.code.Table.{rowWidth}
 use Prim.Native.Nat.{_+_, _*_}
 use native.Mathlib.Omega.{arith}
 use Rattle.names.proofs.Lookup.{is-defined, is-function, is-name, is-non-terminal, is-unknown}
@@ -14,11 +15,11 @@ add-sort-in c = search needs
 sort-in-requires : tie.Need-sort-in-requires
 sort-in-requires c κs = search needs
 
-mul-known-as : tie.Need-mul-known-as
-mul-known-as c = let b = c .before .before .before .before .before .before .shared-slice-known .given (66 * (c .before .before .before .before .before .before .before .args .seen .first + c .before .before .before .before .find-name .result)) in omega arith
-
-add-known-as : tie.Need-add-known-as
-add-known-as c = let b = c .before .before .before .before .before .before .shared-slice-known .given (66 * (c .before .before .before .before .before .before .before .args .seen .first + c .before .before .before .before .find-name .result)) in omega arith
+code-with-requires : tie.Need-code-with-requires
+code-with-requires c κs =
+    let found = c .before .before .before .before in
+    let b = found .before .before .shared-slice-known .given (rowWidth * (found .before .before .before .args .seen .first + found .find-name .result)) in
+    omega arith
 
 known-as-requires : tie.Need-known-as-requires
 known-as-requires c κs = search needs
@@ -63,8 +64,7 @@ name-means-spec =
     find-name-requires
     add-sort-in
     sort-in-requires
-    mul-known-as
-    add-known-as
+    code-with-requires
     known-as-requires
     returns
     find-name-requires-2

@@ -19,14 +19,11 @@ known-as-requires-2 c κs = search needs
 returns-2 : tie.Need-returns-2
 returns-2 c = λ given. rw (c .known-as2 .ensures) (search is-extract)
 
-sub-known-as : tie.Need-sub-known-as
-sub-known-as c = operator-codes (c .before .before .before .before .before .args .code) (c .if3 .taken) .0
+sub-code-with : tie.Need-sub-code-with
+sub-code-with c = operator-codes (c .before .before .before .before .before .args .code) (c .if3 .taken) .0
 
-mul-known-as : tie.Need-mul-known-as
-mul-known-as c = let h = operator-codes (c .before .before .before .before .before .args .code) (c .if3 .taken) in omega arith
-
-add-known-as : tie.Need-add-known-as
-add-known-as c = let h = operator-codes (c .before .before .before .before .before .args .code) (c .if3 .taken) in omega arith
+code-with-requires : tie.Need-code-with-requires
+code-with-requires c κs = let h = operator-codes (c .before .before .before .before .before .args .code) (c .if3 .taken) in omega arith
 
 known-as-requires-3 : tie.Need-known-as-requires-3
 known-as-requires-3 c κs = search needs
@@ -49,9 +46,8 @@ symbol-means-spec =
     returns
     known-as-requires-2
     returns-2
-    sub-known-as
-    mul-known-as
-    add-known-as
+    sub-code-with
+    code-with-requires
     known-as-requires-3
     returns-3
     name-means-requires

@@ -1,4 +1,4 @@
-use Rattle.names.proofs.Testing.{in-scope}
+use Rattle.names.proofs.NewNameTested.{in-scope}
 use borrow.Author.Needs.{needs}
 use Rattle.names.proofs.new.is_in_scope.Statement.{statement}
 use Rattle.names.proofs.new.is_in_scope.Tie as tie

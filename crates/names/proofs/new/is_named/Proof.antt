@@ -1,4 +1,4 @@
-use Rattle.names.proofs.Testing.{in-rows}
+use Rattle.names.proofs.NewNameTested.{in-rows}
 use borrow.Author.Needs.{needs}
 use Rattle.names.proofs.new.is_named.Statement.{statement}
 use Rattle.names.proofs.new.is_named.Tie as tie

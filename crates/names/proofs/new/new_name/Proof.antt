@@ -1,4 +1,4 @@
-use Rattle.names.proofs.Testing.{name-at-fault, name-right}
+use Rattle.names.proofs.NewNameTested.{name-at-fault, name-right}
 use borrow.Author.Needs.{needs}
 use Rattle.names.proofs.new.new_name.Statement.{statement}
 use Rattle.names.proofs.new.new_name.Tie as tie

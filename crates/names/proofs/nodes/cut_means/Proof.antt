@@ -14,11 +14,8 @@ add-value-at c = let h = coded _ _ (c .before .before .pre) in omega arith
 value-at-requires-2 : tie.Need-value-at-requires-2
 value-at-requires-2 c κs = search needs
 
-mul-known-as : tie.Need-mul-known-as
-mul-known-as c = let h = cut-small (c .before .before .value-at .result) (c .before .value-at2 .result) (c .if1 .taken) in omega arith
-
-add-known-as : tie.Need-add-known-as
-add-known-as c = let h = cut-small (c .before .before .value-at .result) (c .before .value-at2 .result) (c .if1 .taken) in omega arith
+cut-value-requires : tie.Need-cut-value-requires
+cut-value-requires c κs = let h = cut-small (c .before .before .value-at .result) (c .before .value-at2 .result) (c .if1 .taken) in omega arith
 
 known-as-requires : tie.Need-known-as-requires
 known-as-requires c κs = search needs
@@ -39,8 +36,7 @@ cut-means-spec =
     value-at-requires
     add-value-at
     value-at-requires-2
-    mul-known-as
-    add-known-as
+    cut-value-requires
     known-as-requires
     returns
     known-as-requires-2

@@ -15,17 +15,8 @@ written-of-requires c κs = rw (c .bytes-at .ensures) (search needs)
 width-at-requires : tie.Need-width-at-requires
 width-at-requires c κs = search needs
 
-mul-known-as : tie.Need-mul-known-as
-mul-known-as c = let h : c .before .written-of .result < mostWritten = search written-small in omega arith
-
-add-known-as : tie.Need-add-known-as
-add-known-as c = let h : c .before .written-of .result < mostWritten = search written-small in omega arith
-
-mul-known-as-2 : tie.Need-mul-known-as-2
-mul-known-as-2 c = let h : c .before .written-of .result < mostWritten = search written-small in omega arith
-
-add-known-as-2 : tie.Need-add-known-as-2
-add-known-as-2 c = let h : c .before .written-of .result < mostWritten = search written-small in omega arith
+literal-code-requires : tie.Need-literal-code-requires
+literal-code-requires c κs = let h : c .before .written-of .result < mostWritten = search written-small in omega arith
 
 value-at-requires : tie.Need-value-at-requires
 value-at-requires c κs = search needs
@@ -43,10 +34,7 @@ literal-means-spec =
     bytes-at-requires
     written-of-requires
     width-at-requires
-    mul-known-as
-    add-known-as
-    mul-known-as-2
-    add-known-as-2
+    literal-code-requires
     value-at-requires
     known-as-requires
     returns)

@@ -1,4 +1,5 @@
-use Rattle.names.proofs.ByWords.{cut-coded, cut-node, literal-narrow, literal-node, literal-small, number-node, pattern-at, pattern-node, symbol-coded, symbol-node}
+use Rattle.names.proofs.ByWords.{cut-coded, cut-node, literal-narrow, literal-node, literal-small, number-node, pattern-at, pattern-node, symbol-coded}
+use Rattle.names.proofs.ByWords.{symbol-node}
 use borrow.Author.Needs.{needs}
 use Rattle.names.proofs.nodes.node_means.Statement.{statement}
 use Rattle.names.proofs.nodes.node_means.Tie as tie

@@ -1,81 +1,60 @@
-use Prim.Native.Nat.{_+_, _-_, _*_}
+use Prim.Native.Nat.{ℕ}
 use native.Mathlib.Omega.{arith}
-use lib.ListN.{length}
-use Rattle.operators.proofs.Naming.{Read, all-read, other-byte, same-byte}
-use Rattle.names.specs.code.Table.{nameIn}
-use Rattle.names.proofs.Names.{other-size, same-size}
+use mathlib.Core.List.{List}
+use mathlib.Core.Path.{refl, ap, _∙_}
+use Rattle.forest.specs.Lists.{sameBytes}
+use Rattle.names.proofs.Names.{named-there}
+use borrow.Author.Needs.{needs}
 use Rattle.names.proofs.table.is_name.Statement.{statement}
 use Rattle.names.proofs.table.is_name.Tie as tie
 
-abbrev Inv-loop : tie.InvT-loop
-Inv-loop names row word at k₀ k = Read (nameIn names row) word names (at + 2) k
+mul-at : tie.Need-mul-at
+mul-at c = search needs
 
-abbrev μ-loop : tie.MeasureT-loop
-μ-loop names row word at k₀ k = length word - k
+add-start : tie.Need-add-start
+add-start c = search needs
 
-mul-at : tie.Need-mul-at Inv-loop μ-loop
-mul-at c = omega arith
+add-end : tie.Need-add-end
+add-end c = search needs
 
-add-if1 : tie.Need-add-if1 Inv-loop μ-loop
-add-if1 c = omega arith
+shared-slice-read-end : tie.Need-shared-slice-read-end
+shared-slice-read-end c = search needs
 
-shared-slice-read-if1 : tie.Need-shared-slice-read-if1 Inv-loop μ-loop
-shared-slice-read-if1 c = omega arith
+cast-end : tie.Need-cast-end
+cast-end c = let pre = c .before .before .before .pre in let k = pre .0 .short _ (pre .1) in let z = pre .0 .sized in omega arith
 
-cast-if1 : tie.Need-cast-if1 Inv-loop μ-loop
-cast-if1 c = omega (arith, c .shared-slice-known .given (66 * c .before .args .row + 1))
+add-end-2 : tie.Need-add-end-2
+add-end-2 c = let pre = c .before .before .before .pre in let k = pre .0 .short _ (pre .1) in let z = pre .0 .sized in omega arith
 
-returns : tie.Need-returns Inv-loop μ-loop
-returns c = search other-size
+sub-same-bytes : tie.Need-sub-same-bytes
+sub-same-bytes c = search needs
 
-loop-holds : tie.Need-loop-holds Inv-loop μ-loop
-loop-holds c = search same-size
+part-same-bytes-start : tie.Need-part-same-bytes-start
+part-same-bytes-start c = search needs
 
-add-if2 : tie.Need-add-if2 Inv-loop μ-loop
-add-if2 c = omega arith
+part-same-bytes-end : tie.Need-part-same-bytes-end
+part-same-bytes-end c = let pre = c .before .before .before .pre in let k = pre .0 .short _ (pre .1) in let z = pre .0 .sized in omega arith
 
-add-if2-2 : tie.Need-add-if2-2 Inv-loop μ-loop
-add-if2-2 c = omega arith
+same-bytes-requires : tie.Need-same-bytes-requires
+same-bytes-requires c κs = search needs
 
-shared-slice-read-if2 : tie.Need-shared-slice-read-if2 Inv-loop μ-loop
-shared-slice-read-if2 c = omega arith
-
-shared-slice-read-if2-2 : tie.Need-shared-slice-read-if2-2 Inv-loop μ-loop
-shared-slice-read-if2-2 c = omega arith
-
-returns-2 : tie.Need-returns-2 Inv-loop μ-loop
-returns-2 c = search other-byte
-
-add-k : tie.Need-add-k Inv-loop μ-loop
-add-k c = omega arith
-
-loop-less : tie.Need-loop-less Inv-loop μ-loop
-loop-less c = omega arith
-
-loop-again : tie.Need-loop-again Inv-loop μ-loop
-loop-again c = search same-byte
-
-returns-3 : tie.Need-returns-3 Inv-loop μ-loop
-returns-3 c = search all-read
+returns : tie.Need-returns
+returns c =
+    let given = c .before .before .before .before .before .args in
+    c .same-bytes .ensures ∙ ap (λ (n : List ℕ). sameBytes n (given .word .now)) (named-there (given .names .now) (given .row) refl refl)
 
 pub is-name-spec : {M : Type 1} → statement M
 is-name-spec =
     tie.close
     (tie.spec
-    Inv-loop
-    μ-loop
     mul-at
-    add-if1
-    shared-slice-read-if1
-    cast-if1
-    returns
-    loop-holds
-    add-if2
-    add-if2-2
-    shared-slice-read-if2
-    shared-slice-read-if2-2
-    returns-2
-    add-k
-    loop-less
-    loop-again
-    returns-3)
+    add-start
+    add-end
+    shared-slice-read-end
+    cast-end
+    add-end-2
+    sub-same-bytes
+    part-same-bytes-start
+    part-same-bytes-end
+    same-bytes-requires
+    returns)

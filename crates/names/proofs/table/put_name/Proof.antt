@@ -3,6 +3,7 @@ use mathlib.Core.Path.{_∙_}
 use lib.ListN.{length-set}
 use mathlib.Core.Logic.{⊎-elim}
 use native.Mathlib.Omega.{arith}
+use Rattle.names.specs.code.Table.{longest, rowWidth}
 use Rattle.names.proofs.Names.{Writing, name-byte, row-written, unwritten, written, zero-byte}
 use Rattle.names.proofs.table.put_name.Statement.{statement}
 use Rattle.names.proofs.table.put_name.Tie as tie
@@ -11,7 +12,7 @@ abbrev Inv-loop : tie.InvT-loop
 Inv-loop names₀ row sort word at k₀ names k = Writing names₀ word names at k
 
 abbrev μ-loop : tie.MeasureT-loop
-μ-loop names₀ row sort word at k₀ names k = 64 - k
+μ-loop names₀ row sort word at k₀ names k = longest - k
 
 mul-at : tie.Need-mul-at Inv-loop μ-loop
 mul-at c = omega arith
@@ -59,7 +60,7 @@ returns : tie.Need-returns Inv-loop μ-loop
 returns c =
     let given = c .before .before .args in
     written _ (c .before .before .pre .1 .1) (c .before .loop .inv) (omega arith)
-    ∙ row-written (given .names .now) (given .word .now) (66 * given .row) (given .sort)
+    ∙ row-written (given .names .now) (given .word .now) (rowWidth * given .row) (given .sort)
 
 pub put-name-spec : {M : Type 1} → statement M
 put-name-spec =

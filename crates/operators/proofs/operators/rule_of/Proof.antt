@@ -1,6 +1,6 @@
 use borrow.Author.Needs.{needs}
 use Rattle.operators.specs.Operators.{Operator, operators}
-use Rattle.operators.specs.Sorts.{ruleNumber}
+use Rattle.operators.specs.code.RuleNumbers.{ruleNumber}
 use Rattle.operators.proofs.Table.{column, past}
 use Rattle.operators.proofs.operators.rule_of.Statement.{statement}
 use Rattle.operators.proofs.operators.rule_of.Tie as tie

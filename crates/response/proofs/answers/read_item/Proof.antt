@@ -1,6 +1,4 @@
-use Rattle.response.proofs.Reading.{base-room, body-asked, body-read, extra-list, extra-read, word-read}
-use native.Mathlib.Omega.{arith}
-use mathlib.Core.Path.{refl}
+use Rattle.response.proofs.ItemRead.{body-asked, body-read, extra-list, extra-read, word-read}
 use borrow.Author.Needs.{needs}
 use Rattle.response.proofs.answers.read_item.Statement.{statement}
 use Rattle.response.proofs.answers.read_item.Tie as tie
@@ -25,11 +23,8 @@ same-length c = search needs
 returns-2 : tie.Need-returns-2
 returns-2 c = extra-read (c .before .before .before .before .before .before .before .code-at .ensures) (c .before .before .before .before .before .before .if1 .left) (c .before .before .before .before .if2 .taken) (c .before .before .extra .ensures)
 
-add-base : tie.Need-add-base
-add-base c = omega (arith, base-room (c .before .before .before .before .before .before .before .before .before .before .before .pre))
-
 read-body-requires : tie.Need-read-body-requires
-read-body-requires c κs = body-asked (c .before .before .before .before .before .before .before .code-at .ensures) (c .before .before .before .before .before .before .if1 .left) (c .before .before .before .before .if2 .left) refl (c .before .before .before .before .before .before .before .before .before .before .before .before .before .before .pre)
+read-body-requires c κs = body-asked (c .before .before .before .before .before .before .code-at .ensures) (c .before .before .before .before .before .if1 .left) (c .before .before .before .if2 .left) (c .before .before .before .before .before .before .before .before .before .before .before .before .before .pre)
 
 same-length-2 : tie.Need-same-length-2
 same-length-2 c = search needs
@@ -41,7 +36,7 @@ same-length-4 : tie.Need-same-length-4
 same-length-4 c = search needs
 
 returns-3 : tie.Need-returns-3
-returns-3 c = body-read (c .before .before .before .before .before .before .before .before .before .before .before .before .before .before .code-at .ensures) (c .before .before .before .before .before .before .before .before .before .before .before .before .before .if1 .left) (c .before .before .before .before .before .before .before .before .before .before .before .if2 .left) refl (c .before .before .before .before .before .before .read-body .ensures)
+returns-3 c = body-read (c .before .before .before .before .before .before .before .before .before .before .before .before .before .code-at .ensures) (c .before .before .before .before .before .before .before .before .before .before .before .before .if1 .left) (c .before .before .before .before .before .before .before .before .before .before .if2 .left) (c .before .before .before .before .before .before .read-body .ensures)
 
 pub read-item-spec : {M : Type 1} → statement M
 read-item-spec =
@@ -53,7 +48,6 @@ read-item-spec =
     extra-requires
     same-length
     returns-2
-    add-base
     read-body-requires
     same-length-2
     same-length-3

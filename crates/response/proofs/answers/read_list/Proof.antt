@@ -1,4 +1,6 @@
-use Rattle.response.proofs.Turns.{Going, first-ahead, going-start, going-turn, item-asked, item-less, item-low, item-stops, list-short, list-whole, more-behind}
+use Rattle.response.proofs.ItemRead.{base-room}
+use Rattle.response.proofs.ListRead.{Going, first-ahead, going-start, going-turn, item-asked, item-less, item-low, item-stops, list-short, list-whole}
+use Rattle.response.proofs.ListRead.{more-behind}
 use Prim.Native.Nat.{_-_}
 use borrow.Author.Needs.{needs}
 use native.Mathlib.Omega.{arith}
@@ -22,8 +24,11 @@ sub-close c = omega (arith, first-ahead (c .next-at .ensures) (c .before .before
 loop-holds : tie.Need-loop-holds Inv-loop μ-loop
 loop-holds c = going-start (c .next-at .ensures) (c .before .before .before .before .before .before .before .pre .1) (c .before .before .before .before .before .before .before .pre .0)
 
+add-base : tie.Need-add-base Inv-loop μ-loop
+add-base c = omega (arith, base-room (item-asked (c .before .before .loop .inv) (c .before .loop-test .taken)), c .before .before .loop .inv .same-nodes)
+
 read-item-requires : tie.Need-read-item-requires Inv-loop μ-loop
-read-item-requires c κs = item-asked (c .before .before .before .before .loop .inv) (c .before .before .before .loop-test .taken)
+read-item-requires c κs = item-asked (c .before .before .before .before .before .loop .inv) (c .before .before .before .before .loop-test .taken)
 
 same-length : tie.Need-same-length Inv-loop μ-loop
 same-length c = search needs
@@ -35,25 +40,25 @@ same-length-3 : tie.Need-same-length-3 Inv-loop μ-loop
 same-length-3 c = search needs
 
 returns : tie.Need-returns Inv-loop μ-loop
-returns c = item-stops (c .before .before .before .before .before .before .before .before .before .before .before .before .before .loop .inv) (c .before .before .before .before .before .before .before .before .before .before .before .before .loop-test .taken) (c .before .before .before .before .before .before .before .before .read-item .ensures) (c .if1 .taken) (search needs)
+returns c = item-stops (c .before .before .before .before .before .before .before .before .before .before .before .before .before .before .loop .inv) (c .before .before .before .before .before .before .before .before .before .before .before .before .before .loop-test .taken) (c .before .before .before .before .before .before .before .before .read-item .ensures) (c .if1 .taken) (search needs)
 
 next-at-requires-2 : tie.Need-next-at-requires-2 Inv-loop μ-loop
 next-at-requires-2 c κs = search needs
 
 add-function : tie.Need-add-function Inv-loop μ-loop
-add-function c = omega (arith, c .before .before .before .before .before .before .before .before .before .before .before .before .before .before .loop .inv .few)
+add-function c = omega (arith, c .before .before .before .before .before .before .before .before .before .before .before .before .before .before .before .loop .inv .few)
 
 add-rows : tie.Need-add-rows Inv-loop μ-loop
-add-rows c = omega (arith, item-low (c .before .before .before .before .before .before .before .before .before .before .before .before .before .before .before .loop .inv) (c .before .before .before .before .before .before .before .before .before .before .before .before .before .before .loop-test .taken) (c .before .before .before .before .before .before .before .before .before .before .read-item .ensures) (c .before .before .if1 .left) (c .before .next-at2 .ensures))
+add-rows c = omega (arith, item-low (c .before .before .before .before .before .before .before .before .before .before .before .before .before .before .before .before .loop .inv) (c .before .before .before .before .before .before .before .before .before .before .before .before .before .before .before .loop-test .taken) (c .before .before .before .before .before .before .before .before .before .before .read-item .ensures) (c .before .before .if1 .left) (c .before .next-at2 .ensures))
 
 loop-less : tie.Need-loop-less Inv-loop μ-loop
-loop-less c = item-less (c .before .before .before .before .before .before .before .before .before .before .before .before .before .before .before .loop .inv) (c .before .before .before .before .before .before .before .before .before .before .before .before .before .before .loop-test .taken) (c .before .before .before .before .before .before .before .before .before .before .read-item .ensures) (c .before .before .if1 .left) (c .before .next-at2 .ensures)
+loop-less c = item-less (c .before .before .before .before .before .before .before .before .before .before .before .before .before .before .before .before .loop .inv) (c .before .before .before .before .before .before .before .before .before .before .before .before .before .before .before .loop-test .taken) (c .before .before .before .before .before .before .before .before .before .before .read-item .ensures) (c .before .before .if1 .left) (c .before .next-at2 .ensures)
 
 loop-again : tie.Need-loop-again Inv-loop μ-loop
 loop-again c =
     going-turn
-    (c .before .before .before .before .before .before .before .before .before .before .before .before .before .before .before .loop .inv)
-    (c .before .before .before .before .before .before .before .before .before .before .before .before .before .before .loop-test .taken)
+    (c .before .before .before .before .before .before .before .before .before .before .before .before .before .before .before .before .loop .inv)
+    (c .before .before .before .before .before .before .before .before .before .before .before .before .before .before .before .loop-test .taken)
     (c .before .before .before .before .before .before .before .before .before .before .read-item .ensures)
     (c .before .before .if1 .left)
     (c .before .next-at2 .ensures)
@@ -127,6 +132,7 @@ read-list-spec =
     next-at-requires
     sub-close
     loop-holds
+    add-base
     read-item-requires
     same-length
     same-length-2

@@ -1,4 +1,4 @@
-use Rattle.response.proofs.Wholes.{fail-said, infeasible-said, nothing-said, other-said}
+use Rattle.response.proofs.NoList.{fail-said, infeasible-said, nothing-said, other-said}
 use borrow.Author.Needs.{needs}
 use Rattle.response.proofs.answers.read_response.Statement.{statement}
 use Rattle.response.proofs.answers.read_response.Tie as tie

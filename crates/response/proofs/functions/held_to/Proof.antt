@@ -1,38 +1,16 @@
-use Rattle.response.proofs.Comparing.{header-compared, header-differs, j-low, matches, name-unknown, names-sought, sort-differs, sort-sought}
-use mathlib.Core.Path.{refl}
+use Rattle.response.proofs.HeldToFunction.{header-compared, header-differs, j-low, matches, name-unknown, names-sought, sort-differs, sort-sought}
 use borrow.Author.Needs.{needs}
 use Rattle.response.proofs.functions.held_to.Statement.{statement}
 use Rattle.response.proofs.functions.held_to.Tie as tie
 
-mul-arguments : tie.Need-mul-arguments
-mul-arguments c = search needs
+arguments-of-requires : tie.Need-arguments-of-requires
+arguments-of-requires c κs = j-low (c .before .before .before .before .before .before .pre .asked)
 
-add-arguments : tie.Need-add-arguments
-add-arguments c = search needs
-
-mul-arguments-2 : tie.Need-mul-arguments-2
-mul-arguments-2 c = search needs
-
-shared-slice-read-arguments : tie.Need-shared-slice-read-arguments
-shared-slice-read-arguments c = search needs
-
-mul-result : tie.Need-mul-result
-mul-result c = search needs
-
-add-result : tie.Need-add-result
-add-result c = search needs
-
-add-result-2 : tie.Need-add-result-2
-add-result-2 c = search needs
-
-mul-result-2 : tie.Need-mul-result-2
-mul-result-2 c = search needs
-
-shared-slice-read-result : tie.Need-shared-slice-read-result
-shared-slice-read-result c = search needs
+result-of-requires : tie.Need-result-of-requires
+result-of-requires c κs = j-low (c .before .before .before .before .before .before .before .pre .asked)
 
 header-differs-requires : tie.Need-header-differs-requires
-header-differs-requires c κs = header-compared refl refl (c .before .before .before .before .before .before .before .before .pre)
+header-differs-requires c κs = header-compared (c .before .arguments-of .ensures) (c .result-of .ensures) (c .before .before .before .before .before .before .before .before .pre)
 
 verdict-requires : tie.Need-verdict-requires
 verdict-requires c κs = search needs
@@ -40,16 +18,14 @@ verdict-requires c κs = search needs
 returns : tie.Need-returns
 returns c =
     rw (c .verdict .ensures)
-    (header-differs refl refl (c .before .before .header-differs .ensures) (c .before .if1 .taken))
+    (header-differs (c .before .before .before .before .arguments-of .ensures) (c .before .before .before .result-of .ensures) (c .before .before .header-differs .ensures) (c .before .if1 .taken))
 
 seen-by-requires : tie.Need-seen-by-requires
-seen-by-requires c κs =
-    let given = c .before .before .before .before .before .before .before .before .before .before .pre .asked in
-    (j-low given, given .reading .places-hold .long)
+seen-by-requires c κs = j-low (c .before .before .before .before .before .before .before .before .before .before .pre .asked)
 
 body-names-requires : tie.Need-body-names-requires
 body-names-requires c κs =
-    names-sought refl refl (c .before .before .before .before .header-differs .ensures) (c .before .before .before .if1 .left) (c .before .before .seen-by .ensures) (c .before .before .before .before .before .before .before .before .before .before .before .before .before .pre)
+    names-sought (c .before .before .before .before .before .before .arguments-of .ensures) (c .before .before .before .before .before .result-of .ensures) (c .before .before .before .before .header-differs .ensures) (c .before .before .before .if1 .left) (c .before .before .seen-by .ensures) (c .before .before .before .before .before .before .before .before .before .before .before .before .before .pre)
 
 verdict-requires-2 : tie.Need-verdict-requires-2
 verdict-requires-2 c κs = search needs
@@ -64,8 +40,8 @@ returns-2 : tie.Need-returns-2
 returns-2 c =
     rw (c .verdict2 .ensures)
     (name-unknown
-    refl
-    refl
+    (c .before .before .before .before .before .before .before .before .before .before .before .before .before .arguments-of .ensures)
+    (c .before .before .before .before .before .before .before .before .before .before .before .before .result-of .ensures)
     (c .before .before .before .before .before .before .before .before .before .before .before .header-differs .ensures)
     (c .before .before .before .before .before .before .before .before .before .before .if1 .left)
     (c .before .before .before .before .before .before .before .before .before .seen-by .ensures)
@@ -75,8 +51,8 @@ returns-2 c =
 body-sort-requires : tie.Need-body-sort-requires
 body-sort-requires c κs =
     sort-sought
-    refl
-    refl
+    (c .before .before .before .before .before .before .before .before .before .before .before .before .before .before .arguments-of .ensures)
+    (c .before .before .before .before .before .before .before .before .before .before .before .before .before .result-of .ensures)
     (c .before .before .before .before .before .before .before .before .before .before .before .before .header-differs .ensures)
     (c .before .before .before .before .before .before .before .before .before .before .before .if1 .left)
     (c .before .before .before .before .before .before .before .before .before .before .seen-by .ensures)
@@ -97,8 +73,8 @@ returns-3 : tie.Need-returns-3
 returns-3 c =
     rw (c .verdict3 .ensures)
     (sort-differs
-    refl
-    refl
+    (c .before .before .before .before .before .before .before .before .before .before .before .before .before .before .before .before .before .arguments-of .ensures)
+    (c .before .before .before .before .before .before .before .before .before .before .before .before .before .before .before .before .result-of .ensures)
     (c .before .before .before .before .before .before .before .before .before .before .before .before .before .before .before .header-differs .ensures)
     (c .before .before .before .before .before .before .before .before .before .before .before .before .before .before .if1 .left)
     (c .before .before .before .before .before .before .before .before .before .before .before .before .before .seen-by .ensures)
@@ -120,8 +96,8 @@ returns-4 : tie.Need-returns-4
 returns-4 c =
     rw (c .verdict4 .ensures)
     (matches
-    refl
-    refl
+    (c .before .before .before .before .before .before .before .before .before .before .before .before .before .before .before .before .before .arguments-of .ensures)
+    (c .before .before .before .before .before .before .before .before .before .before .before .before .before .before .before .before .result-of .ensures)
     (c .before .before .before .before .before .before .before .before .before .before .before .before .before .before .before .header-differs .ensures)
     (c .before .before .before .before .before .before .before .before .before .before .before .before .before .before .if1 .left)
     (c .before .before .before .before .before .before .before .before .before .before .before .before .before .seen-by .ensures)
@@ -134,15 +110,8 @@ pub held-to-spec : {M : Type 1} → statement M
 held-to-spec =
     tie.close
     (tie.spec
-    mul-arguments
-    add-arguments
-    mul-arguments-2
-    shared-slice-read-arguments
-    mul-result
-    add-result
-    add-result-2
-    mul-result-2
-    shared-slice-read-result
+    arguments-of-requires
+    result-of-requires
     header-differs-requires
     verdict-requires
     returns

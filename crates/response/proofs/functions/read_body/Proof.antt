@@ -1,8 +1,5 @@
-use Rattle.response.proofs.Comparing.{command-list, j-low}
-use Rattle.response.proofs.Taking.{body-passes, list-in, matched-stops, outline-stops, to-compare}
-use native.Mathlib.Omega.{arith}
-use mathlib.Core.Path.{refl}
-use lib.Seq.{lt-length-set}
+use Rattle.response.proofs.HeldToFunction.{command-list, j-low}
+use Rattle.response.proofs.BodyTaken.{body-passes, list-in, matched-stops, outline-stops, to-compare}
 use borrow.Author.Needs.{needs}
 use Rattle.response.proofs.functions.read_body.Statement.{statement}
 use Rattle.response.proofs.functions.read_body.Tie as tie
@@ -34,25 +31,11 @@ returns-2 c = matched-stops (c .before .before .before .before .before .before .
 body-word-requires : tie.Need-body-word-requires
 body-word-requires c κs = command-list (c .before .before .before .before .before .before .before .before .before .before .before .before .before .before .before .before .before .before .before .before .before .before .pre)
 
-add-places : tie.Need-add-places
-add-places c = omega (arith, j-low (c .before .before .before .before .before .before .before .before .before .before .before .before .before .before .before .before .before .before .before .before .before .before .before .pre))
+start-at-requires : tie.Need-start-at-requires
+start-at-requires c κs = search needs
 
-mul-places : tie.Need-mul-places
-mul-places c = omega (arith, j-low (c .before .before .before .before .before .before .before .before .before .before .before .before .before .before .before .before .before .before .before .before .before .before .before .pre), c .before .before .before .before .before .before .before .before .before .before .before .before .before .before .before .before .before .before .before .before .before .before .before .pre .reading .places-hold .long)
-
-slice-write-places : tie.Need-slice-write-places
-slice-write-places c = omega (arith, j-low (c .before .before .before .before .before .before .before .before .before .before .before .before .before .before .before .before .before .before .before .before .before .before .before .pre), c .before .before .before .before .before .before .before .before .before .before .before .before .before .before .before .before .before .before .before .before .before .before .before .pre .reading .places-hold .long)
-
-add-places-2 : tie.Need-add-places-2
-add-places-2 c = omega (arith, j-low (c .before .before .before .before .before .before .before .before .before .before .before .before .before .before .before .before .before .before .before .before .before .before .before .pre))
-
-mul-places-2 : tie.Need-mul-places-2
-mul-places-2 c = omega (arith, j-low (c .before .before .before .before .before .before .before .before .before .before .before .before .before .before .before .before .before .before .before .before .before .before .before .pre), c .before .before .before .before .before .before .before .before .before .before .before .before .before .before .before .before .before .before .before .before .before .before .before .pre .reading .places-hold .long)
-
-slice-write-places-2 : tie.Need-slice-write-places-2
-slice-write-places-2 c =
-    let given = c .before .before .before .before .before .before .before .before .before .before .before .before .before .before .before .before .before .before .before .before .before .before .before .pre in
-    lt-length-set (c .before .before .before .before .before .before .before .before .before .before .before .before .before .before .before .before .before .before .before .before .before .before .before .args .places .now) _ _ (omega (arith, j-low given, given .reading .places-hold .long))
+put-body-requires : tie.Need-put-body-requires
+put-body-requires c κs = j-low (c .before .before .before .before .before .before .before .before .before .before .before .before .before .before .before .before .before .before .before .before .before .before .before .before .before .pre)
 
 same-length-5 : tie.Need-same-length-5
 same-length-5 c = search needs
@@ -65,7 +48,8 @@ same-length-7 c = search needs
 
 returns-3 : tie.Need-returns-3
 returns-3 c =
-    body-passes (c .before .before .before .before .before .before .before .before .before .before .before .before .before .before .before .outline .ensures) (c .before .before .before .before .before .before .before .before .before .before .before .if1 .left) (c .before .before .before .before .before .before .before .held-to .ensures) (c .before .if2 .left) (c .body-word .ensures) refl
+    body-passes (c .before .before .before .before .before .before .before .before .before .before .before .before .before .before .before .before .before .before .before .before .outline .ensures) (c .before .before .before .before .before .before .before .before .before .before .before .before .before .before .before .before .if1 .left) (c .before .before .before .before .before .before .before .before .before .before .before .before .held-to .ensures) (c .before .before .before .before .before .before .if2 .left) (c .before .before .before .before .before .body-word .ensures) (c .before .before .before .before .start-at .ensures)
+    (c .before .before .put-body .ensures)
 
 pub read-body-spec : {M : Type 1} → statement M
 read-body-spec =
@@ -80,12 +64,8 @@ read-body-spec =
     same-length-4
     returns-2
     body-word-requires
-    add-places
-    mul-places
-    slice-write-places
-    add-places-2
-    mul-places-2
-    slice-write-places-2
+    start-at-requires
+    put-body-requires
     same-length-5
     same-length-6
     same-length-7

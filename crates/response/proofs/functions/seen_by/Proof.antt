@@ -8,32 +8,11 @@ mul-first c = search needs
 add-first : tie.Need-add-first
 add-first c = search needs
 
-mul-names : tie.Need-mul-names
-mul-names c = search needs
+arguments-of-requires : tie.Need-arguments-of-requires
+arguments-of-requires c κs = search needs
 
-add-names : tie.Need-add-names
-add-names c = search needs
-
-mul-names-2 : tie.Need-mul-names-2
-mul-names-2 c = search needs
-
-shared-slice-read-names : tie.Need-shared-slice-read-names
-shared-slice-read-names c = search needs
-
-mul-before : tie.Need-mul-before
-mul-before c = search needs
-
-add-before : tie.Need-add-before
-add-before c = search needs
-
-add-before-2 : tie.Need-add-before-2
-add-before-2 c = search needs
-
-mul-before-2 : tie.Need-mul-before-2
-mul-before-2 c = search needs
-
-shared-slice-read-before : tie.Need-shared-slice-read-before
-shared-slice-read-before c = search needs
+defined-before-requires : tie.Need-defined-before-requires
+defined-before-requires c κs = search needs
 
 least-requires : tie.Need-least-requires
 least-requires c κs = search needs
@@ -47,14 +26,7 @@ seen-by-spec =
     (tie.spec
     mul-first
     add-first
-    mul-names
-    add-names
-    mul-names-2
-    shared-slice-read-names
-    mul-before
-    add-before
-    add-before-2
-    mul-before-2
-    shared-slice-read-before
+    arguments-of-requires
+    defined-before-requires
     least-requires
     returns)

@@ -1,4 +1,4 @@
-use Rattle.response.proofs.Limits.{extra-passes, extra-stops}
+use Rattle.response.proofs.ShapeAndLimits.{extra-passes, extra-stops}
 use borrow.Author.Needs.{needs}
 use Rattle.response.proofs.outlines.extra.Statement.{statement}
 use Rattle.response.proofs.outlines.extra.Tie as tie

@@ -1,4 +1,4 @@
-use Rattle.response.proofs.Limits.{body-in, head-in, misshapen, other-command, past-limit, some-uncarried, within-limits}
+use Rattle.response.proofs.ShapeAndLimits.{body-in, head-in, misshapen, other-command, past-limit, some-uncarried, within-limits}
 use Rattle.lexemes.proofs.Listed.{as-item, between, item-ahead, list-room}
 use native.Mathlib.Omega.{arith}
 use borrow.Author.Needs.{needs}

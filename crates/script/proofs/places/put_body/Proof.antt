@@ -2,7 +2,7 @@ use Prim.Native.Nat.{ℕ, _+_}
 use mathlib.Core.List.{List}
 use mathlib.Core.Path.{ap, _∙_}
 use lib.ListN.{set}
-use Rattle.script.specs.code.Places.{firstsPlace}
+use Rattle.script.specs.code.Places.{offsetsPlace}
 use borrow.Author.Needs.{needs}
 use Rattle.script.proofs.places.put_body.Statement.{statement}
 use Rattle.script.proofs.places.put_body.Tie as tie
@@ -26,7 +26,7 @@ returns : tie.Need-returns
 returns c =
     let a = c .before .before .before .before .before .before .before .before .before .args in
     c .before .before .put-entry2 .ensures
-    ∙ ap (λ (l : List ℕ). set l (firstsPlace + a .function) (a .first)) (c .before .before .before .before .before .before .put-entry .ensures)
+    ∙ ap (λ (l : List ℕ). set l (offsetsPlace + a .function) (a .offset)) (c .before .before .before .before .before .before .put-entry .ensures)
 
 pub put-body-spec : {M : Type 1} → statement M
 put-body-spec =

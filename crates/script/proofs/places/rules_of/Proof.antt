@@ -1,7 +1,7 @@
 use Prim.Native.Nat.{ℕ, _*_}
 use mathlib.Core.Path.{ap₂, _∙_}
 use lib.ListN.{drop, take}
-use Rattle.derivation.specs.code.Columns.{ruleWidth}
+use Rattle.derivation.specs.code.Rules.{ruleWidth}
 use Rattle.script.proofs.TableParts.{part-whole}
 use borrow.Author.Needs.{needs}
 use Rattle.script.proofs.places.rules_of.Statement.{statement}

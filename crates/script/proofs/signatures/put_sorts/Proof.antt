@@ -1,6 +1,6 @@
 use Prim.Native.Nat.{_-_}
 use native.Mathlib.Omega.{arith}
-use Rattle.script.proofs.Sorted.{Sorting, all-sorted, sort-put, sort-signing, unsorted}
+use Rattle.script.proofs.SortsPut.{Sorting, all-sorted, sort-put, sort-signing, unsorted}
 use Rattle.script.proofs.signatures.put_sorts.Statement.{statement}
 use Rattle.script.proofs.signatures.put_sorts.Tie as tie
 

@@ -1,4 +1,4 @@
-use Rattle.script_reader.proofs.Reading.{few-after, in-shape, read-misplaced, read-tested, read-uncarried, word-near}
+use Rattle.script_reader.proofs.CommandReading.{few-after, in-shape, read-misplaced, read-tested, read-uncarried, word-near}
 use native.Mathlib.Omega.{arith}
 use borrow.Author.Needs.{needs}
 use Rattle.script_reader.proofs.command.read_command.Statement.{statement}
@@ -14,7 +14,7 @@ returns : tie.Need-returns
 returns c = read-uncarried (c .before .before .not-carried .ensures) (c .before .if1 .taken) (c .answer .ensures)
 
 add-code-at : tie.Need-add-code-at
-add-code-at c = omega (arith, word-near (c .before .before .before .before .before .before .before .before .pre))
+add-code-at c = omega (arith, word-near (c .before .before .before .before .before .before .before .before .before .pre))
 
 code-at-requires : tie.Need-code-at-requires
 code-at-requires c κs = search needs
@@ -49,7 +49,7 @@ test-command-requires c κs =
     (come .before .before .command-shape .ensures)
     (come .before .out-of-place .ensures)
     (come .if2 .left)
-    (c .before .before .before .before .before .before .before .before .before .before .before .before .before .before .before .before .pre)
+    (c .before .before .before .before .before .before .before .before .before .before .before .before .before .before .before .before .before .pre)
 
 step-by-requires : tie.Need-step-by-requires
 step-by-requires c κs =
@@ -62,7 +62,7 @@ step-by-requires c κs =
     (come .before .out-of-place .ensures)
     (come .if2 .left)
     (c .before .before .before .before .before .before .before .before .test-command .ensures)
-    (c .before .before .before .before .before .before .before .before .before .before .before .before .before .before .before .before .before .before .before .before .before .before .before .before .before .pre)
+    (c .before .before .before .before .before .before .before .before .before .before .before .before .before .before .before .before .before .before .before .before .before .before .before .before .before .before .pre)
 
 same-length : tie.Need-same-length
 same-length c = search needs

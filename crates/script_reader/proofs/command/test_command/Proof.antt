@@ -1,7 +1,7 @@
 use native.Mathlib.Omega.{arith}
 use lib.ListN.{length-take}
 use Rattle.script.specs.code.Places.{formsPlace}
-use Rattle.script_reader.proofs.Testing.{constrained, constraining, declared, declaring, defined, defining, others, synthesized, synthesizing}
+use Rattle.script_reader.proofs.TestedByCode.{constrained, constraining, declared, declaring, defined, defining, others, synthesized, synthesizing}
 use borrow.Author.Needs.{needs}
 use Rattle.script_reader.proofs.command.test_command.Statement.{statement}
 use Rattle.script_reader.proofs.command.test_command.Tie as tie
@@ -43,8 +43,8 @@ slice-aggregate-constrain c =
 constrain-requires : tie.Need-constrain-requires
 constrain-requires c κs = constraining (c .before .before .before .before .before .before .before .before .before .before .before .pre) (c .before .before .before .before .match .keys4)
 
-passing-requires : tie.Need-passing-requires
-passing-requires c κs = search needs
+verdict-requires : tie.Need-verdict-requires
+verdict-requires c κs = search needs
 
 same-length : tie.Need-same-length
 same-length c = search needs
@@ -99,7 +99,7 @@ returns-4 c = λ s. constrained s (c .before .before .before .before .before .be
 
 returns-5 : tie.Need-returns-5
 returns-5 c =
-    λ s. others s (c .before .match .rest .0 .0 .0 .1) (c .before .match .rest .0 .0 .1) (c .before .match .rest .0 .1) (c .before .match .rest .1) (c .passing .ensures)
+    λ s. others s (c .before .match .rest .0 .0 .0 .1) (c .before .match .rest .0 .0 .1) (c .before .match .rest .0 .1) (c .before .match .rest .1) (c .verdict .ensures)
 
 pub test-command-spec : {M : Type 1} → statement M
 test-command-spec =
@@ -116,7 +116,7 @@ test-command-spec =
     slice-relend-prefix-constrain
     slice-aggregate-constrain
     constrain-requires
-    passing-requires
+    verdict-requires
     same-length
     returns
     same-length-2

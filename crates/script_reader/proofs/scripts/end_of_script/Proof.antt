@@ -1,6 +1,6 @@
 use mathlib.Core.Bool.{Bool}
 use mathlib.Core.Path.{_∙_, ap, sym}
-use Rattle.script_reader.specs.code.Commands.{lastStep}
+use Rattle.script_reader.specs.code.Scripts.{lastStep}
 use borrow.Author.Needs.{needs}
 use Rattle.script_reader.proofs.scripts.end_of_script.Statement.{statement}
 use Rattle.script_reader.proofs.scripts.end_of_script.Tie as tie

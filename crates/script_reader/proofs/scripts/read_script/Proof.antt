@@ -1,7 +1,7 @@
 use mathlib.Core.Path.{_∙_}
 use borrow.Author.Needs.{needs}
 use Prim.Native.Nat.{_-_}
-use Rattle.script_reader.proofs.Walking.{Walk, command-at, walk-end, walk-less, walk-start, walk-stop, walk-turn, walk-word}
+use Rattle.script_reader.proofs.ScriptWalk.{Walk, command-at, walk-end, walk-less, walk-start, walk-stop, walk-turn, walk-word}
 use Rattle.script_reader.proofs.scripts.read_script.Statement.{statement}
 use Rattle.script_reader.proofs.scripts.read_script.Tie as tie
 

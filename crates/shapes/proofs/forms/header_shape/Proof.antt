@@ -1,5 +1,5 @@
 use Rattle.shapes.proofs.Shaped.{header-made}
-use Rattle.shapes.proofs.Parts.{shorter, the-item}
+use Rattle.shapes.proofs.ListItems.{shorter, the-item}
 use native.Mathlib.Omega.{arith}
 use borrow.Author.Needs.{needs}
 use Rattle.shapes.proofs.forms.header_shape.Statement.{statement}

@@ -1,5 +1,5 @@
 use Rattle.shapes.proofs.Shaped.{pattern-list, pattern-made, pattern-miss, term-made}
-use Rattle.shapes.proofs.Parts.{long, the-item}
+use Rattle.shapes.proofs.ListItems.{long, the-item}
 use native.Mathlib.Omega.{arith}
 use borrow.Author.Needs.{needs}
 use Rattle.shapes.proofs.grammars.rule_shape.Statement.{statement}

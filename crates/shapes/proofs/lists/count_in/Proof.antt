@@ -1,4 +1,4 @@
-use Rattle.shapes.proofs.Parts.{counted}
+use Rattle.shapes.proofs.ListItems.{counted}
 use Rattle.lexemes.proofs.Listed.{as-item, between, item-ahead, list-room}
 use native.Mathlib.Omega.{arith}
 use borrow.Author.Needs.{needs}

@@ -1,4 +1,4 @@
-use Rattle.shapes.proofs.Parts.{item-found, room-of}
+use Rattle.shapes.proofs.ListItems.{item-found, room-of}
 use Rattle.lexemes.proofs.Listed.{as-item, between, item-ahead}
 use native.Mathlib.Omega.{arith}
 use borrow.Author.Needs.{needs}

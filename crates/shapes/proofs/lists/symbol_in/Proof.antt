@@ -1,4 +1,4 @@
-use Rattle.shapes.proofs.Parts.{part-symbol}
+use Rattle.shapes.proofs.ListItems.{part-symbol}
 use borrow.Author.Needs.{needs}
 use Rattle.shapes.proofs.lists.symbol_in.Statement.{statement}
 use Rattle.shapes.proofs.lists.symbol_in.Tie as tie

@@ -1,4 +1,4 @@
-use Rattle.shapes.proofs.Tests.{pattern-test}
+use Rattle.shapes.proofs.TestsByCode.{pattern-test}
 use Rattle.lexemes.proofs.Listed.{item-room}
 use native.Mathlib.Omega.{arith}
 use borrow.Author.Needs.{needs}

@@ -1,4 +1,4 @@
-use Rattle.shapes.proofs.Tests.{sort-test}
+use Rattle.shapes.proofs.TestsByCode.{sort-test}
 use borrow.Author.Needs.{needs}
 use Rattle.shapes.proofs.sorts.sort_shape.Statement.{statement}
 use Rattle.shapes.proofs.sorts.sort_shape.Tie as tie

@@ -1,5 +1,5 @@
-use Rattle.shapes.proofs.Tests.{application-test, short-test}
-use Rattle.shapes.proofs.Parts.{long, the-item}
+use Rattle.shapes.proofs.TestsByCode.{application-test, short-test}
+use Rattle.shapes.proofs.ListItems.{long, the-item}
 use native.Mathlib.Omega.{arith}
 use borrow.Author.Needs.{needs}
 use Rattle.shapes.proofs.terms.has_head.Statement.{statement}

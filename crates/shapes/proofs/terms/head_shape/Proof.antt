@@ -1,4 +1,4 @@
-use Rattle.shapes.proofs.Tests.{head-test}
+use Rattle.shapes.proofs.TestsByCode.{head-test}
 use borrow.Author.Needs.{needs}
 use Rattle.shapes.proofs.terms.head_shape.Statement.{statement}
 use Rattle.shapes.proofs.terms.head_shape.Tie as tie

@@ -1,6 +1,6 @@
 use Rattle.lexemes.proofs.Listed.{as-item}
 use Rattle.lexemes.proofs.Pending.{DownAny, list-given, skip-less}
-use Rattle.shapes.proofs.Walks.{Terms, terms-behind, terms-end, terms-less, terms-miss, terms-skip, terms-start, terms-word}
+use Rattle.shapes.proofs.TermWalk.{Terms, terms-behind, terms-end, terms-less, terms-miss, terms-skip, terms-start, terms-word}
 use Prim.Native.Nat.{_-_}
 use borrow.Author.Needs.{needs}
 use native.Mathlib.Omega.{arith}

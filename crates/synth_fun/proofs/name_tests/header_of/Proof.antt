@@ -1,5 +1,5 @@
-use Rattle.synth_fun.proofs.Headers.{declared-ahead, declared-between, declared-room, first-ahead, first-between, first-room, header-counted}
-use Rattle.synth_fun.proofs.Headers.{sort-here}
+use Rattle.synth_fun.proofs.HeaderRead.{declared-ahead, declared-between, declared-room, first-ahead, first-between, first-room, header-counted}
+use Rattle.synth_fun.proofs.HeaderRead.{sort-here}
 use Rattle.lexemes.proofs.Listed.{list-room}
 use native.Mathlib.Omega.{arith}
 use borrow.Author.Needs.{needs}

@@ -1,16 +1,18 @@
-use Rattle.synth_fun.proofs.Naming.{grammar-here, head-here, names-found}
+use Rattle.synth_fun.proofs.NamesPut.{grammar-here, head-here, names-found}
 use borrow.Author.Needs.{needs}
 use Rattle.synth_fun.proofs.name_tests.names_place.Statement.{statement}
 use Rattle.synth_fun.proofs.name_tests.names_place.Tie as tie
 
-mul-t14 : tie.Need-mul-t14
-mul-t14 c = search needs
+mul-t16 : tie.Need-mul-t16
+mul-t16 c = search needs
 
-add-t15 : tie.Need-add-t15
-add-t15 c = search needs
+add-t17 : tie.Need-add-t17
+add-t17 c = search needs
 
 head-names-requires : tie.Need-head-names-requires
-head-names-requires c κs = head-here (c .before .before .before .before .before .before .before .pre)
+head-names-requires c κs =
+    let entry = c .before .before .before .before .before .before .before .before in
+    head-here (entry .pre)
 
 add-scope : tie.Need-add-scope
 add-scope c = search needs
@@ -18,7 +20,7 @@ add-scope c = search needs
 grammar-names-requires : tie.Need-grammar-names-requires
 grammar-names-requires c κs =
     let head = c .before .before .before .before .before .before in
-    let entry = head .before .before .before .before .before .before .before .before in
+    let entry = head .before .before .before .before .before .before .before .before .before in
     grammar-here (entry .pre) (head .head-names .ensures)
 
 least-requires : tie.Need-least-requires
@@ -43,8 +45,8 @@ pub names-place-spec : {M : Type 1} → statement M
 names-place-spec =
     tie.close
     (tie.spec
-    mul-t14
-    add-t15
+    mul-t16
+    add-t17
     head-names-requires
     add-scope
     grammar-names-requires

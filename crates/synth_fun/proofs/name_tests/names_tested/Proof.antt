@@ -1,5 +1,6 @@
-use Rattle.synth_fun.proofs.Small.{synth-at}
-use Rattle.synth_fun.proofs.Testing.{names-refused, unnamed-here, unsorted-here}
+use Rattle.synth_fun.proofs.SortVerdicts.{same-verdict}
+use Rattle.synth_fun.proofs.SynthFunParts.{synth-at}
+use Rattle.synth_fun.proofs.NameVerdicts.{names-refused, unnamed-here, unsorted-here}
 use borrow.Author.Needs.{needs}
 use Rattle.synth_fun.proofs.name_tests.names_tested.Statement.{statement}
 use Rattle.synth_fun.proofs.name_tests.names_tested.Tie as tie
@@ -15,6 +16,9 @@ names-place-requires c κs =
     let entry = header .before .before .before .before .before .before .before in
     unnamed-here (entry .pre) (header .header-of .ensures)
 
+verdict-requires : tie.Need-verdict-requires
+verdict-requires c κs = search needs
+
 same-length : tie.Need-same-length
 same-length c = search needs
 
@@ -26,14 +30,15 @@ same-length-3 c = search needs
 
 returns : tie.Need-returns
 returns c =
-    let named = c .before .before .before .before .before .before .before in
+    let found = c .before in
+    let named = found .before .before .before .before .before .before .before .before in
     let header = named .before .before .before .before in
-    λ s. names-refused s (header .header-of .ensures) (named .names-place .ensures) (c .if1 .taken)
+    λ s. same-verdict (c .verdict .ensures) (names-refused s (header .header-of .ensures) (named .names-place .ensures) (found .if1 .taken))
 
 sorts-tested-requires : tie.Need-sorts-tested-requires
 sorts-tested-requires c κs =
     let fine = c .before .before .before .before in
-    let named = fine .before .before .before .before .before .before .before in
+    let named = fine .before .before .before .before .before .before .before .before in
     let header = named .before .before .before .before in
     let entry = header .before .before .before .before .before .before .before in
     unsorted-here (entry .pre) (header .header-of .ensures) (named .names-place .ensures) (fine .if1 .left)
@@ -54,7 +59,7 @@ returns-2 : tie.Need-returns-2
 returns-2 c =
     let sorted = c .before .before in
     let fine = sorted .before .before .before .before .before in
-    let named = fine .before .before .before .before .before .before .before in
+    let named = fine .before .before .before .before .before .before .before .before in
     let header = named .before .before .before .before in
     λ s. sorted .sorts-tested .ensures (unsorted-here s (header .header-of .ensures) (named .names-place .ensures) (fine .if1 .left))
 
@@ -64,6 +69,7 @@ names-tested-spec =
     (tie.spec
     header-of-requires
     names-place-requires
+    verdict-requires
     same-length
     same-length-2
     same-length-3

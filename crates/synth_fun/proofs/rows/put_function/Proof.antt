@@ -1,4 +1,4 @@
-use Rattle.synth_fun.proofs.Putting.{put-done}
+use Rattle.synth_fun.proofs.FunctionPut.{put-done}
 use borrow.Author.Needs.{needs}
 use Rattle.synth_fun.proofs.rows.put_function.Statement.{statement}
 use Rattle.synth_fun.proofs.rows.put_function.Tie as tie

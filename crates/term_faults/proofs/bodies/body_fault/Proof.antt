@@ -1,4 +1,4 @@
-use Rattle.term_faults.proofs.Parts.{body-root, part-found, whole-found}
+use Rattle.term_faults.proofs.BodyFaults.{body-root, part-found, whole-found}
 use borrow.Author.Needs.{needs}
 use Rattle.term_faults.proofs.bodies.body_fault.Statement.{statement}
 use Rattle.term_faults.proofs.bodies.body_fault.Tie as tie
@@ -13,7 +13,8 @@ returns : tie.Need-returns
 returns c = part-found (c .before .before .before .fault-word .ensures) (c .if1 .taken)
 
 root-misfit-requires : tie.Need-root-misfit-requires
-root-misfit-requires c κs = body-root (c .before .before .before .before .fault-word .ensures) (c .before .before .before .before .before .before .before .before .before .before .pre)
+root-misfit-requires c κs =
+    body-root (c .before .before .before .before .fault-word .ensures) (c .before .before .before .before .before .before .before .before .before .before .pre)
 
 same-length-2 : tie.Need-same-length-2
 same-length-2 c = search needs

@@ -1,5 +1,5 @@
 use mathlib.Core.Path.{refl}
-use Rattle.term_faults.proofs.Passing.{Passing, heads, passing-begins, passing-ends, passing-goes, root-here}
+use Rattle.term_faults.proofs.RulesLoop.{Passing, heads, passing-begins, passing-ends, passing-goes, root-here}
 use borrow.Author.Needs.{needs}
 use native.Mathlib.Omega.{arith}
 use Prim.Native.Nat.{_-_}
@@ -40,7 +40,8 @@ head-sort-requires : tie.Need-head-sort-requires Inv-loop μ-loop
 head-sort-requires c κs = search heads
 
 root-misfit-requires : tie.Need-root-misfit-requires Inv-loop μ-loop
-root-misfit-requires c κs = root-here (c .before .before .before .before .loop .inv) (c .before .before .before .loop-test .taken) refl refl (c .head-sort .ensures)
+root-misfit-requires c κs =
+    root-here (c .before .before .before .before .loop .inv) (c .before .before .before .loop-test .taken) refl refl (c .head-sort .ensures)
 
 least-requires : tie.Need-least-requires Inv-loop μ-loop
 least-requires c κs = search needs
@@ -52,7 +53,16 @@ loop-less : tie.Need-loop-less Inv-loop μ-loop
 loop-less c = omega arith
 
 loop-again : tie.Need-loop-again Inv-loop μ-loop
-loop-again c = passing-goes (c .before .before .before .before .before .before .loop .inv) (c .before .before .before .before .before .loop-test .taken) refl refl (c .before .before .head-sort .ensures) (c .before .root-misfit .ensures) (c .least .ensures)
+loop-again c =
+    let test = c .before .before .before .before .before in
+    passing-goes
+    (test .before .loop .inv)
+    (test .loop-test .taken)
+    refl
+    refl
+    (c .before .before .head-sort .ensures)
+    (c .before .root-misfit .ensures)
+    (c .least .ensures)
 
 returns : tie.Need-returns Inv-loop μ-loop
 returns c = passing-ends (c .before .loop .inv) (c .loop-test .left)

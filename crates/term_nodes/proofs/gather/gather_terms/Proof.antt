@@ -1,4 +1,4 @@
-use Rattle.term_nodes.proofs.Walk.{Walk, walk-ahead, walk-begins, walk-closes, walk-ends, walk-goes, walk-term}
+use Rattle.term_nodes.proofs.GatheringWalk.{Walk, walk-ahead, walk-begins, walk-closes, walk-ends, walk-goes, walk-term}
 use Prim.Native.Nat.{_-_}
 use native.Mathlib.Omega.{arith}
 use borrow.Author.Needs.{needs}

@@ -1,4 +1,5 @@
 use Prim.Native.Nat.{_*_}
+use Rattle.term_nodes.specs.code.Table.{rowWidth}
 use Rattle.term_nodes.proofs.NodeRows.{row-written}
 use lib.ListN.{length-set}
 use native.Mathlib.Omega.{arith}
@@ -46,7 +47,7 @@ same-length : tie.Need-same-length
 same-length c = search needs
 
 returns : tie.Need-returns
-returns c = row-written (c .args .raw .now) (4 * c .args .node) _ _ _ _
+returns c = row-written (c .args .raw .now) (rowWidth * c .args .node) _ _ _ _
 
 pub put-node-spec : {M : Type 1} → statement M
 put-node-spec =

@@ -1,5 +1,6 @@
 use Prim.Native.Nat.{_-_}
 use Rattle.lexemes.proofs.Along.{along-less}
+use Rattle.forest.specs.Limits.{mostNodes, mostRules}
 use Rattle.term_nodes.proofs.Onward.{raw-kept, rules-kept}
 use Rattle.term_nodes.proofs.RuleLoop.{RulesTo, rule-next, rules-end, rules-start, rules-turn}
 use borrow.Author.Needs.{needs}
@@ -7,11 +8,11 @@ use Rattle.term_nodes.proofs.rules.gather_group.Statement.{statement}
 use Rattle.term_nodes.proofs.rules.gather_group.Tie as tie
 
 abbrev Inv-loop : tie.InvT-loop
-Inv-loop lexemes first close head raw₀ rules₀ most nodes nowhere found₀ at₀ raw rules found at =
-    RulesTo lexemes first close nowhere most nodes raw₀ rules₀ found₀ head raw rules found at
+Inv-loop lexemes first close head raw₀ rules₀ nowhere found₀ at₀ raw rules found at =
+    RulesTo lexemes first close nowhere mostRules mostNodes raw₀ rules₀ found₀ head raw rules found at
 
 abbrev μ-loop : tie.MeasureT-loop
-μ-loop lexemes first close head raw₀ rules₀ most nodes nowhere found₀ at₀ raw rules found at = close - at
+μ-loop lexemes first close head raw₀ rules₀ nowhere found₀ at₀ raw rules found at = close - at
 
 loop-holds : tie.Need-loop-holds Inv-loop μ-loop
 loop-holds c = search rules-start

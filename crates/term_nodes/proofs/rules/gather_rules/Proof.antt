@@ -1,6 +1,7 @@
 use Prim.Native.Nat.{_-_, _≤_}
 use native.Mathlib.Omega.{arith}
 use Rattle.lexemes.proofs.Along.{along-less, along-room}
+use Rattle.forest.specs.Limits.{mostNodes, mostRules}
 use Rattle.term_nodes.proofs.Onward.{raw-kept, rules-kept}
 use Rattle.term_nodes.proofs.GroupLoop.{GroupsTo, group-next, groups-end, groups-start, groups-turn, heads-few, list-closes, list-room}
 use borrow.Author.Needs.{needs}
@@ -8,11 +9,11 @@ use Rattle.term_nodes.proofs.rules.gather_rules.Statement.{statement}
 use Rattle.term_nodes.proofs.rules.gather_rules.Tie as tie
 
 abbrev Inv-loop : tie.InvT-loop
-Inv-loop lexemes first close raw₀ rules₀ most nodes nowhere found₀ head₀ at₀ raw rules found head at =
-    GroupsTo lexemes first close nowhere most nodes raw₀ rules₀ head raw rules found at × (head ≤ at)
+Inv-loop lexemes first close raw₀ rules₀ nowhere found₀ head₀ at₀ raw rules found head at =
+    GroupsTo lexemes first close nowhere mostRules mostNodes raw₀ rules₀ head raw rules found at × (head ≤ at)
 
 abbrev μ-loop : tie.MeasureT-loop
-μ-loop lexemes first close raw₀ rules₀ most nodes nowhere found₀ head₀ at₀ raw rules found head at =
+μ-loop lexemes first close raw₀ rules₀ nowhere found₀ head₀ at₀ raw rules found head at =
     close - at
 
 loop-holds : tie.Need-loop-holds Inv-loop μ-loop

@@ -1,4 +1,5 @@
 use Prim.Native.Nat.{_*_}
+use Rattle.derivation.specs.code.Rules.{ruleWidth}
 use Rattle.term_nodes.proofs.OneRule.{pair-written}
 use lib.ListN.{length-set}
 use native.Mathlib.Omega.{arith}
@@ -28,7 +29,7 @@ same-length : tie.Need-same-length
 same-length c = search needs
 
 returns : tie.Need-returns
-returns c = pair-written (c .args .rules .now) (2 * c .args .rule) _ _
+returns c = pair-written (c .args .rules .now) (ruleWidth * c .args .rule) _ _
 
 pub put-rule-spec : {M : Type 1} → statement M
 put-rule-spec =

@@ -16,8 +16,14 @@ value-at-requires c κs = search needs
 operands-at-requires : tie.Need-operands-at-requires
 operands-at-requires c κs = search needs
 
+kind-of-requires : tie.Need-kind-of-requires
+kind-of-requires c κs = search needs
+
 add-operator-sort : tie.Need-add-operator-sort
 add-operator-sort c = search needs
+
+head-of-requires : tie.Need-head-of-requires
+head-of-requires c κs = search needs
 
 operator-sort-requires : tie.Need-operator-sort-requires
 operator-sort-requires c κs =
@@ -31,12 +37,12 @@ first-row-requires c κs = search needs
 
 add-row : tie.Need-add-row
 add-row c =
-    let pre = c .before .before .before .before .before .before .before .before .before .before .pre in
-    let whole = c .before .before .before .before .before .before .if1 .left in
+    let said-kind = c .before .before .before in
+    let said = said-kind .before in
     omega (
       arith,
-      row-low whole (c .before .before .before .operands-at .ensures) (c .before .before .before .before .before .code-at .ensures)
-          (c .before .before .before .before .value-at .ensures) (c .before .if3 .taken) (c .first-row .ensures) pre,
+      row-low (said .before .before .before .if1 .left) (said .operands-at .ensures) (said .before .before .code-at .ensures) (said .before .value-at .ensures)
+          (said-kind .kind-of .ensures) (c .before .if3 .taken) (c .first-row .ensures) (said .before .before .before .before .before .before .before .pre),
     )
 
 add-called-sort : tie.Need-add-called-sort
@@ -44,9 +50,10 @@ add-called-sort c = search needs
 
 called-sort-requires : tie.Need-called-sort-requires
 called-sort-requires c κs =
-    call-ready (c .before .before .before .before .before .before .if1 .left) (c .before .before .before .operands-at .ensures)
-    (c .before .before .before .before .before .code-at .ensures) (c .before .before .before .before .value-at .ensures) (c .before .if3 .taken)
-    (c .first-row .ensures) (c .before .before .before .before .before .before .before .before .before .before .pre)
+    let said-kind = c .before .before .before in
+    let said = said-kind .before in
+    call-ready (said .before .before .before .if1 .left) (said .operands-at .ensures) (said .before .before .code-at .ensures) (said .before .value-at .ensures)
+    (said-kind .kind-of .ensures) (c .before .if3 .taken) (c .first-row .ensures) (said .before .before .before .before .before .before .before .pre)
 
 returns-3 : tie.Need-returns-3
 returns-3 c = search called-node
@@ -55,7 +62,7 @@ leaf-sort-requires : tie.Need-leaf-sort-requires
 leaf-sort-requires c κs = search needs
 
 add-number-when : tie.Need-add-number-when
-add-number-when c = omega (arith, leaf-small (c .before .before .before .before .before .code-at .result))
+add-number-when c = omega (arith, leaf-small (c .before .before .before .before .before .before .code-at .result))
 
 number-when-requires : tie.Need-number-when-requires
 number-when-requires c κs = search needs
@@ -71,7 +78,9 @@ node-sort-spec =
     code-at-requires
     value-at-requires
     operands-at-requires
+    kind-of-requires
     add-operator-sort
+    head-of-requires
     operator-sort-requires
     returns-2
     first-row-requires

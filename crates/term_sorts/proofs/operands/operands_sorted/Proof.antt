@@ -1,4 +1,4 @@
-use Rattle.term_sorts.proofs.Wholes.{Undecided, undecided-begins, undecided-ends, undecided-fails, undecided-goes, undecided-room}
+use Rattle.term_sorts.proofs.AllSorted.{Undecided, undecided-begins, undecided-ends, undecided-fails, undecided-goes, undecided-room}
 use borrow.Author.Needs.{needs}
 use native.Mathlib.Omega.{arith}
 use Rattle.term_sorts.proofs.operands.operands_sorted.Statement.{statement}

@@ -1,5 +1,7 @@
-use Rattle.term_sorts.proofs.RuleSorts.{all-operands, choice-gives, cutting-gives, equality-gives, first-room, first-there, joining-gives, logic-gives, order-gives, other-operands, second-there, width-gives}
+use Rattle.term_sorts.proofs.RuleSorts.{all-operands, choice-gives, cutting-gives, equality-gives, first-room, first-there, joining-gives, logic-gives}
+use Rattle.term_sorts.proofs.RuleSorts.{order-gives, other-operands, second-there, width-gives}
 use mathlib.Core.Path.{refl}
+use Rattle.operators.specs.Sorts.{choice, joining}
 use native.Mathlib.Omega.{arith}
 use borrow.Author.Needs.{needs}
 use Rattle.term_sorts.proofs.rules.rule_sort.Statement.{statement}
@@ -11,11 +13,19 @@ sort-at-requires c κs = search needs
 sub-first : tie.Need-sub-first
 sub-first c = omega (arith, first-there (c .before .before .before .pre))
 
+high-in-requires : tie.Need-high-in-requires
+high-in-requires c κs = search needs
+
+low-in-requires : tie.Need-low-in-requires
+low-in-requires c κs = search needs
+
 cut-sort-requires : tie.Need-cut-sort-requires
 cut-sort-requires c κs = search needs
 
 returns : tie.Need-returns
-returns c = cutting-gives _ (c .before .before .sort-at .ensures) (c .before .if1 .taken) (c .cut-sort .ensures)
+returns c =
+    let cut = c .before .before .before in
+    cutting-gives _ (cut .before .sort-at .ensures) (cut .if1 .taken) (c .before .before .high-in .ensures) (c .before .low-in .ensures) (c .cut-sort .ensures)
 
 size-at-requires : tie.Need-size-at-requires
 size-at-requires c κs = search needs
@@ -29,7 +39,7 @@ sort-at-requires-2 c κs = search needs
 sub-joined-sort : tie.Need-sub-joined-sort
 sub-joined-sort c =
     let pre = c .before .before .before .before .before .before .before .pre in
-    omega (arith, second-there (c .before .before .size-at .ensures) 5 refl (c .before .if2 .taken) pre)
+    omega (arith, second-there (c .before .before .size-at .ensures) joining refl (c .before .if2 .taken) pre)
 
 joined-sort-requires : tie.Need-joined-sort-requires
 joined-sort-requires c κs = search needs
@@ -44,7 +54,7 @@ sub-common-sort c = all-operands (c .before .before .before .before .before .bef
 
 common-sort-requires : tie.Need-common-sort-requires
 common-sort-requires c κs =
-    other-operands (c .before .before .size-at .ensures) 2 refl (c .if3 .taken)
+    other-operands (c .before .before .size-at .ensures) choice refl (c .if3 .taken)
     (c .before .before .before .before .before .before .before .pre)
 
 number-when-requires : tie.Need-number-when-requires
@@ -91,6 +101,8 @@ rule-sort-spec =
     (tie.spec
     sort-at-requires
     sub-first
+    high-in-requires
+    low-in-requires
     cut-sort-requires
     returns
     size-at-requires

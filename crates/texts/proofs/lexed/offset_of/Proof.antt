@@ -1,6 +1,6 @@
 use mathlib.Core.Path.{_∙_}
 use native.Mathlib.Omega.{arith}
-use Rattle.texts.proofs.Starts.{offset-there, offset-past}
+use Rattle.texts.proofs.Offsets.{offset-there, offset-past}
 use borrow.Author.Needs.{needs}
 use Rattle.texts.proofs.lexed.offset_of.Statement.{statement}
 use Rattle.texts.proofs.lexed.offset_of.Tie as tie

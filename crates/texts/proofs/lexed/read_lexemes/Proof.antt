@@ -1,5 +1,5 @@
 use mathlib.Core.Path.{sym, _∙_}
-use Rattle.texts.proofs.Wording.{lexed-refused, lexed-whole, to-number}
+use Rattle.texts.proofs.TextLexemes.{lexed-refused, lexed-whole, to-number}
 use borrow.Author.Needs.{needs}
 use Rattle.texts.proofs.lexed.read_lexemes.Statement.{statement}
 use Rattle.texts.proofs.lexed.read_lexemes.Tie as tie

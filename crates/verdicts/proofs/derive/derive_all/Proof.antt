@@ -2,8 +2,8 @@ use Prim.Native.Nat.{_-_}
 use native.Mathlib.Omega.{arith}
 use borrow.Author.Needs.{needs}
 use borrow.Author.Tests.{not-false, not-true}
-use Rattle.verdicts.specs.code.Deriving.{Derivable}
-use Rattle.verdicts.proofs.Turns.{Going, going-done, going-fails, going-start, going-turn, next-derivable}
+use Rattle.verdicts.specs.code.Derive.{Derivable}
+use Rattle.verdicts.proofs.DeriveTurns.{Going, going-done, going-fails, going-start, going-turn, next-derivable}
 use Rattle.verdicts.proofs.derive.derive_all.Statement.{statement}
 use Rattle.verdicts.proofs.derive.derive_all.Tie as tie
 

@@ -1,6 +1,6 @@
 use mathlib.Core.Path.{_∙_}
 use borrow.Author.Needs.{needs}
-use Rattle.verdicts.proofs.Outcomes.{budget-left, constrained, outcome-by, run-evaluated, sorts-long, sorts-small}
+use Rattle.verdicts.proofs.PointsAnswer.{budget-left, constrained, outcome-by, run-evaluated, sorts-long, sorts-small}
 use Rattle.verdicts.proofs.evaluate.evaluate.Statement.{statement}
 use Rattle.verdicts.proofs.evaluate.evaluate.Tie as tie
 

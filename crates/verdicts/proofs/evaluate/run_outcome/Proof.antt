@@ -1,6 +1,6 @@
 use mathlib.Core.Path.{_∙_}
 use borrow.Author.Needs.{needs}
-use Rattle.verdicts.proofs.Outcomes.{outcome-found}
+use Rattle.verdicts.proofs.PointsAnswer.{outcome-found}
 use Rattle.verdicts.proofs.evaluate.run_outcome.Statement.{statement}
 use Rattle.verdicts.proofs.evaluate.run_outcome.Tie as tie
 

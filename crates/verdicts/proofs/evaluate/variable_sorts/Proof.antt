@@ -2,7 +2,7 @@ use Prim.Native.Nat.{_-_, _≤_}
 use native.Mathlib.Omega.{arith}
 use mathlib.Core.Path.{_≡_, refl}
 use borrow.Author.Needs.{needs}
-use Rattle.verdicts.proofs.Variables.{SortsRead, sorts-more, sorts-start}
+use Rattle.verdicts.proofs.VariableSorts.{SortsRead, sorts-more, sorts-start}
 use Rattle.verdicts.proofs.evaluate.variable_sorts.Statement.{statement}
 use Rattle.verdicts.proofs.evaluate.variable_sorts.Tie as tie
 

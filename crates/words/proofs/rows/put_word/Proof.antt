@@ -1,6 +1,6 @@
 use native.Mathlib.Omega.{arith}
 use lib.ListN.{length-set}
-use Rattle.words.proofs.Turns.{word-written}
+use Rattle.words.proofs.ScanTurns.{word-written}
 use borrow.Author.Needs.{needs}
 use Rattle.words.proofs.rows.put_word.Statement.{statement}
 use Rattle.words.proofs.rows.put_word.Tie as tie

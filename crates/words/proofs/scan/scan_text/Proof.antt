@@ -3,7 +3,7 @@ use Prim.Native.Nat.{_-_}
 use lib.ListN.{length}
 use native.Mathlib.Omega.{arith}
 use Rattle.words.proofs.Offsets.{end-past, end-within, next-less}
-use Rattle.words.proofs.Turns.{Scanning, scan-begins, scan-ends, scan-goes, scan-stops, word-fits}
+use Rattle.words.proofs.ScanTurns.{Scanning, scan-begins, scan-ends, scan-goes, scan-stops, word-fits}
 use Rattle.words.proofs.scan.scan_text.Statement.{statement}
 use Rattle.words.proofs.scan.scan_text.Tie as tie
 

@@ -3,7 +3,7 @@ use Prim.Native.Nat.{_-_}
 use native.Mathlib.Omega.{arith}
 use lib.ListN.{drop, length}
 use mathlib.Core.Path.{_≡_, refl}
-use Rattle.words.specs.code.Scanning.{firstFrom, firstStart}
+use Rattle.words.specs.code.Spans.{firstFrom, firstStart}
 use Rattle.words.proofs.Offsets.{first-ends, first-goes, first-stops}
 use Rattle.words.proofs.spans.first_start.Statement.{statement}
 use Rattle.words.proofs.spans.first_start.Tie as tie

@@ -1,4 +1,4 @@
-use Rattle.written_sorts.proofs.Commands.{grammar-groups, grammar-pairs, grammar-place}
+use Rattle.written_sorts.proofs.HeaderSorts.{grammar-groups, grammar-pairs, grammar-place}
 use Rattle.lexemes.proofs.Listed.{list-room}
 use native.Mathlib.Omega.{arith}
 use borrow.Author.Needs.{needs}

@@ -1,4 +1,4 @@
-use Rattle.written_sorts.proofs.Parts.{group-place, group-rules, group-sort}
+use Rattle.written_sorts.proofs.PairParts.{group-place, group-rules, group-sort}
 use Rattle.lexemes.proofs.Listed.{item-room}
 use native.Mathlib.Omega.{arith}
 use borrow.Author.Needs.{needs}

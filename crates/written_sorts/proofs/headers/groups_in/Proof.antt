@@ -1,4 +1,4 @@
-use Rattle.written_sorts.proofs.Parts.{list-between, list-least}
+use Rattle.written_sorts.proofs.PairParts.{list-between, list-least}
 use Rattle.written_sorts.proofs.Least.{Seeking, seek-end, seek-item, seek-start, seek-turn}
 use Rattle.lexemes.proofs.Along.{along-less}
 use Rattle.written_sorts.specs.Written.{groupPlace}

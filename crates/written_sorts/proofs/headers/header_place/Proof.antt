@@ -1,4 +1,4 @@
-use Rattle.written_sorts.proofs.Commands.{header-arguments, header-place, header-sort}
+use Rattle.written_sorts.proofs.HeaderSorts.{header-arguments, header-place, header-sort}
 use Rattle.lexemes.proofs.Listed.{list-room}
 use native.Mathlib.Omega.{arith}
 use borrow.Author.Needs.{needs}

@@ -1,4 +1,4 @@
-use Rattle.written_sorts.proofs.Parts.{list-between, list-least}
+use Rattle.written_sorts.proofs.PairParts.{list-between, list-least}
 use Rattle.lexemes.proofs.Listed.{item-ahead, item-room}
 use native.Mathlib.Omega.{arith}
 use borrow.Author.Needs.{needs}

@@ -1,4 +1,4 @@
-use Rattle.written_sorts.proofs.Parts.{no-rule-place, rule-place, rule-sort}
+use Rattle.written_sorts.proofs.PairParts.{no-rule-place, rule-place, rule-sort}
 use Rattle.lexemes.proofs.Listed.{item-room}
 use native.Mathlib.Omega.{arith}
 use borrow.Author.Needs.{needs}

@@ -1,4 +1,4 @@
-use Rattle.written_sorts.proofs.Parts.{pair-place, pair-sort}
+use Rattle.written_sorts.proofs.PairParts.{pair-place, pair-sort}
 use Rattle.written_sorts.proofs.Least.{Seeking, seek-end, seek-item, seek-start, seek-turn}
 use Rattle.lexemes.proofs.Along.{along-less, along-room}
 use Rattle.written_sorts.specs.Written.{pairPlace}

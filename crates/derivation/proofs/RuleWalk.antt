@@ -1,0 +1,322 @@
+-- The walk of a rule over the body: what holds at each pair of places, and how a step keeps it.
+use mathlib.Core.Path.{_≡_, refl, sym, ap, _∙_, subst}
+use Prim.Native.Nat.{ℕ, suc, _+_, _*_, _<_, _≤_}
+use native.Mathlib.Omega.{arith}
+use mathlib.Core.Bool.{Bool, true, false, not, true≢false}
+use mathlib.Core.List.{List, []}
+use lib.ListN.{length, getD}
+use borrow.Author.Tests.{not-true, not-false}
+use Rattle.forest.specs.Forest.{Forest, none, tree, count, join}
+use Rattle.forest.specs.code.Cursors.{size, from, first}
+use Rattle.terms.specs.Labels.{Label, Terms}
+use Rattle.terms.specs.code.Nodes.{Plain, codeAt, sizeAt, valueAt}
+use Rattle.terms.proofs.Bodies.{Says, plain-at}
+use Rattle.forest.proofs.Laws.{count-join, count-node, count-size, count-tree, count-zero, from-one, from-over, inside, join-assoc, Tree, size-from, size-join}
+use Rattle.forest.proofs.Laws.{size-tree, size-zero, tree-at, tree-of-count, tree-of-size}
+use Rattle.derivation.specs.Derivation.{Item, nonTerminal, the, formOf, done, Grammar}
+use Rattle.derivation.specs.code.Tables.{rightSides, itemCode, itemValue}
+use Rattle.terms.specs.code.Codes.{nonTerminalKind}
+use Rattle.derivation.specs.code.Search.{Fits, DerivesAt}
+use Rattle.derivation.specs.code.Admitted.{LeafFits, Proper}
+use Rattle.derivation.specs.code.Matching.{alike, AsksNoChain, Matched}
+use Rattle.derivation.specs.code.Masks.{has}
+use Rattle.derivation.specs.code.Rules.{startAt}
+use Rattle.derivation.proofs.RuleRows.{RuleAt, rule-at}
+use Rattle.derivation.proofs.Meta.{fits-hole-to, fits-hole-rest, fits-hole, fits-node-to, fits-node}
+use Rattle.derivation.proofs.Leaves.{fit-at}
+use Rattle.derivation.proofs.Likeness.{Alike, NotHole, alike-sound, alike-complete, hole-item, proper-bare, proper-on}
+use Rattle.derivation.proofs.Reading.{ItemSays, body-length, body-says, forms-length, item-says}
+
+pub size-node : {L : Type 0} (l : L) (ps qs : Forest L) → size (tree l ps qs) ≡ suc (size ps + size qs)
+unfolding size
+size-node l ps qs = refl
+
+module _ {rules forms body masks : List ℕ} {i r : ℕ} (q : AsksNoChain rules forms body masks i r) where
+  abbrev pub G : Grammar
+  G = q .asks .given .G
+
+  abbrev pub F : Terms
+  F = q .asks .given .F
+
+  abbrev pub P : Forest Item
+  P = formOf (G .rules) r
+
+  abbrev pub where-rule : RuleAt rules (G .rules) r
+  where-rule = rule-at (G .rules) (q .asks .given .holds .is-rules) r (q .is-rule)
+
+  -- the node of the rules' table past rule r
+  abbrev pub end : ℕ
+  end = startAt rules r + size P
+
+  -- `left` is what is left of the rule at node p of the rules, j the node of the body that it is held against
+  pub record At (p j : ℕ) : Type 0 where
+    pub left : Forest Item
+    pub is : from (rightSides (G .rules)) p ≡ join left (where-rule .rest)
+    pub ends : p + size left ≡ end
+    pub enough : count left ≤ count (from F j)
+    pub prop : Proper 16 left
+    pub past : i ≤ j
+    pub late : (A : ℕ) (ps qs : Forest Item) → left ≡ tree (nonTerminal A) ps qs → i < j
+    pub to : Fits G P (from F i) → Fits G left (from F j)
+    pub back : Fits G left (from F j) → Fits G P (from F i)
+
+  unfoldable pub at-start : At (startAt rules r) i
+  at-start = record {
+    left = P;
+    is = where-rule .is;
+    ends = refl;
+    enough = omega (arith, q .asks .given .admitted .single r (q .is-rule), count-tree (tree-at F i (q .asks .inside)));
+    prop = q .asks .given .admitted .proper r (q .is-rule);
+    past = omega arith;
+    late = λ A ps qs e. absurd (q .no-chain A ps qs e);
+    to = λ f. f;
+    back = λ f. f;
+  }
+
+  pub at-end : (p j : ℕ) → At p j → end ≤ p → Fits G P (from F i)
+  unfolding Fits first count
+  at-end p j a h =
+      let e : a .left ≡ none = size-zero (a .left) (omega (arith, a .ends)) in
+      a .back (rw e ([], done))
+
+  module _ (p j : ℕ) (a : At p j) (h : p < end) where
+    pub rule-tree : Tree (a .left)
+    rule-tree = tree-of-size (a .left) (omega (arith, a .ends))
+
+    pub body-tree : Tree (from F j)
+    body-tree = tree-of-count (from F j) (omega (arith, a .enough, count-tree rule-tree))
+
+    pub in-body : j < size F
+    in-body = inside F j body-tree
+
+    -- what the two nodes' numbers say
+    pub rule-says : (l : Item) (ps qs : Forest Item) → a .left ≡ tree l ps qs → ItemSays forms p l ps
+    unfolding join
+    rule-says l ps qs e = item-says (rightSides (G .rules)) (q .asks .given .holds .is-forms) (a .is ∙ ap (λ (x : Forest Item). join x (where-rule .rest)) e)
+
+    pub node-says : (l : Label) (ts us : Terms) → from F j ≡ tree l ts us → Says body j l ts
+    node-says l ts us e = body-says F (q .asks .given .holds .is-body) e
+
+    plain-here : Plain (body-tree .l)
+    plain-here = plain-at F j (body-tree .l) (body-tree .ops) (body-tree .rest) (q .asks .given .holds .plain) (body-tree .is)
+
+    fits-here : LeafFits (G .arguments) (body-tree .l)
+    fits-here = fit-at (G .arguments) F j (body-tree .l) (body-tree .ops) (body-tree .rest) (q .asks .given .holds .leaves) (body-tree .is)
+
+    -- the rule goes one node on
+    pub on : (l : Item) (ps qs : Forest Item) → a .left ≡ tree l ps qs → from (rightSides (G .rules)) (p + 1) ≡ join (join ps qs) (where-rule .rest)
+    unfolding join
+    on l ps qs e =
+        from-one (rightSides (G .rules)) p l ps (join qs (where-rule .rest)) (a .is ∙ ap (λ (x : Forest Item). join x (where-rule .rest)) e)
+        ∙ sym (join-assoc ps qs (where-rule .rest))
+
+    -- a non-terminal of the rule
+    pub record HoleAt : Type 0 where
+      pub A : ℕ
+      pub qs : Forest Item
+      pub is : a .left ≡ tree (nonTerminal A) none qs
+      pub low : A < 16
+      pub value : valueAt forms p ≡ A
+      pub prop : Proper 16 qs
+
+    pub hole-view : codeAt forms p ≡ nonTerminalKind → HoleAt
+    unfolding Proper
+    hole-view k =
+        let t = rule-tree in
+        let says = rule-says (t .l) (t .ops) (t .rest) (t .is) in
+        let e = t .is ∙ ap (λ (x : Item). tree x (t .ops) (t .rest)) (hole-item (t .l) (sym (says .code) ∙ k)) in
+        let pr = subst (Proper 16) e (a .prop) in
+        record {
+          A = itemValue (t .l);
+          qs = t .rest;
+          is = e ∙ ap (λ (x : Forest Item). tree (nonTerminal (itemValue (t .l))) x (t .rest)) (pr .1);
+          low = pr .0;
+          value = says .value;
+          prop = pr .2;
+        }
+
+    pub hole-low : codeAt forms p ≡ nonTerminalKind → valueAt forms p < 16
+    hole-low k = let v = hole-view k in omega (arith, v .low, v .value)
+
+    pub hole-late : codeAt forms p ≡ nonTerminalKind → i < j
+    hole-late k = let v = hole-view k in a .late (v .A) none (v .qs) (v .is)
+
+    unfoldable pub step-hole : codeAt forms p ≡ nonTerminalKind → has (getD masks j 0) (valueAt forms p) ≡ true → At (p + 1) (j + sizeAt body j)
+    unfolding join size
+    step-hole k y =
+        let v = hole-view k in
+        let b = body-tree in
+        let s = node-says (b .l) (b .ops) (b .rest) (b .is) .size in
+        let eF : from F (j + sizeAt body j) ≡ b .rest = ap (λ (x : ℕ). from F (j + x)) s ∙ from-over F j (b .l) (b .ops) (b .rest) (b .is) in
+        let der : DerivesAt G (v .A) (from F j) =
+        q .asks .exact j (hole-late k) in-body .sound (v .A) (v .low) (ap (has (getD masks j 0)) (sym (v .value)) ∙ y) in
+        record {
+          left = v .qs;
+          is = on (nonTerminal (v .A)) none (v .qs) (v .is);
+          ends = omega (arith, a .ends, ap size (v .is));
+          enough = omega (arith, a .enough, ap count (v .is), count-tree b, ap count eF, count-node (nonTerminal (v .A)) none (v .qs));
+          prop = v .prop;
+          past = omega (arith, a .past);
+          late = λ _ _ _ _. omega (arith, s, a .past);
+          to = λ f. rw eF (fits-hole-rest G (v .A) (v .qs) (b .l) (b .ops) (b .rest) (rw (v .is, b .is) at (a .to f)));
+          back = λ f. a .back (rw (v .is, b .is) (fits-hole G (v .A) (v .qs) (b .l) (b .ops) (b .rest) (rw (b .is) at der) (rw eF at f)));
+        }
+
+    pub fail-hole : codeAt forms p ≡ nonTerminalKind → has (getD masks j 0) (valueAt forms p) ≡ false → Fits G P (from F i) → ⊥
+    fail-hole k n f =
+        let v = hole-view k in
+        let der : DerivesAt G (v .A) (from F j) = fits-hole-to G (v .A) (v .qs) (from F j) (rw (v .is) at (a .to f)) in
+        let y : has (getD masks j 0) (v .A) ≡ true = q .asks .exact j (hole-late k) in-body .complete (v .A) (v .low) der in
+        true≢false (sym y ∙ ap (has (getD masks j 0)) (sym (v .value)) ∙ n)
+
+    -- any other item of the rule
+    pub not-hole : (codeAt forms p ≡ nonTerminalKind → ⊥) → NotHole (rule-tree .l)
+    not-hole k A e = k (rule-says (rule-tree .l) (rule-tree .ops) (rule-tree .rest) (rule-tree .is) .code ∙ ap itemCode e)
+
+    unfoldable pub step-alike : (l : Item) (ps qs : Forest Item) (m : Label) (ts us : Terms) → a .left ≡ tree l ps qs → from F j ≡ tree m ts us
+        → NotHole l → Alike (G .arguments) l m → count ts ≡ count ps → At (p + 1) (j + 1)
+    step-alike l ps qs m ts us eP eF n al ec =
+        let eF1 : from F (j + 1) ≡ join ts us = from-one F j m ts us eF in
+        let pr = subst (Proper 16) eP (a .prop) in
+        record {
+          left = join ps qs;
+          is = on l ps qs eP;
+          ends = omega (arith, a .ends, ap size eP, size-node l ps qs, size-join ps qs);
+          enough =
+              omega
+              (arith, a .enough, ap count eP, ap count eF, ap count eF1, count-join ps qs, count-join ts us, count-node l ps qs, count-node m ts us);
+          prop = proper-on 16 l ps qs pr;
+          past = omega (arith, a .past);
+          late = λ _ _ _ _. omega (arith, a .past);
+          to = λ f. rw eF1 (fits-node-to G l ps qs m ts us n (rw (eP, eF) at (a .to f)) .2);
+          back = λ f. a .back (rw (eP, eF) (fits-node G l ps qs m ts us al (proper-bare 16 l ps qs pr) ec (rw eF1 at f)));
+        }
+
+    pub step-node : (codeAt forms p ≡ nonTerminalKind → ⊥) → alike forms p body j ≡ true → At (p + 1) (j + 1)
+    step-node k w =
+        let l = rule-tree in
+        let b = body-tree in
+        let x = rule-says (l .l) (l .ops) (l .rest) (l .is) in
+        let y = node-says (b .l) (b .ops) (b .rest) (b .is) in
+        let z = alike-sound x y plain-here fits-here 16 (l .rest) (not-hole k) (subst (Proper 16) (l .is) (a .prop)) w in
+        step-alike (l .l) (l .ops) (l .rest) (b .l) (b .ops) (b .rest) (l .is) (b .is) (not-hole k) (z .0) (z .1)
+
+    pub fail-node : (codeAt forms p ≡ nonTerminalKind → ⊥) → alike forms p body j ≡ false → Fits G P (from F i) → ⊥
+    fail-node k w f =
+        let l = rule-tree in
+        let b = body-tree in
+        let x = rule-says (l .l) (l .ops) (l .rest) (l .is) in
+        let y = node-says (b .l) (b .ops) (b .rest) (b .is) in
+        let g = fits-node-to G (l .l) (l .ops) (l .rest) (b .l) (b .ops) (b .rest) (not-hole k) (rw (l .is, b .is) at (a .to f)) in
+        true≢false (sym (alike-complete x y plain-here (g .0) (g .1)) ∙ w)
+
+    -- the numbers that the code needs
+    pub record Room : Type 0 where
+      pub in-forms : 4 * p < length forms
+      pub in-body : 4 * j < length body
+      pub over : 4 * (j + sizeAt body j) ≤ length body
+
+    pub room : Room
+    room =
+        let b = body-tree in
+        let s = node-says (b .l) (b .ops) (b .rest) (b .is) .size in
+        let x = size-from F j in
+        let y = size-tree b in
+        let z = body-length F (q .asks .given .holds .is-body) in
+        let u = forms-length (rightSides (G .rules)) (q .asks .given .holds .is-forms) in
+        record {
+          in-forms = omega (arith, ap size (a .is), size-join (a .left) (where-rule .rest), size-from (rightSides (G .rules)) p, size-tree rule-tree);
+          in-body = omega arith;
+          over = omega arith;
+        }
+
+-- the walk's invariant
+pub record Inv (rules forms body masks : List ℕ) (i r stop p j : ℕ) : Type 0 where
+  pub pre : AsksNoChain rules forms body masks i r
+  pub stops : (q : AsksNoChain rules forms body masks i r) → stop ≡ end q
+  pub known : (q : AsksNoChain rules forms body masks i r) → At q p j
+
+module _ {rules forms body masks : List ℕ} {i r : ℕ} where
+  -- the size of the rule's first tree is that of the rule
+  pub end-is : (q : AsksNoChain rules forms body masks i r) → startAt rules r + sizeAt forms (startAt rules r) ≡ end q
+  unfolding join size
+  end-is q = go (t .l) (t .ops) (t .rest) (t .is)
+    where
+      t : Tree (P q)
+      t = tree-of-count (P q) (omega (arith, q .asks .given .admitted .single r (q .is-rule)))
+
+      go : (l : Item) (ps qs : Forest Item) → P q ≡ tree l ps qs → startAt rules r + sizeAt forms (startAt rules r) ≡ end q
+      go l ps qs e =
+          let z : qs ≡ none = count-zero qs (omega (arith, q .asks .given .admitted .single r (q .is-rule), ap count e, count-node l ps qs)) in
+          let x =
+          item-says (rightSides (G q .rules)) (q .asks .given .holds .is-forms)
+          (where-rule q .is ∙ ap (λ (o : Forest Item). join o (where-rule q .rest)) e) in
+          omega (arith, x .size, ap size e, ap size z)
+
+  pub end-fits : (q : AsksNoChain rules forms body masks i r) → 4 * end q ≤ length forms
+  end-fits q =
+      omega (
+        arith,
+        forms-length (rightSides (G q .rules)) (q .asks .given .holds .is-forms),
+        ap size (where-rule q .is),
+        size-join (P q) (where-rule q .rest),
+        size-from (rightSides (G q .rules)) (startAt rules r),
+        count-size (P q),
+        q .asks .given .admitted .single r (q .is-rule),
+      )
+
+  pub end-small : AsksNoChain rules forms body masks i r → {p n : ℕ} → p ≡ startAt rules r → n ≡ sizeAt forms p → p + n ≤ length forms
+  end-small q ep en = omega (arith, ep, en ∙ ap (sizeAt forms) ep, end-is q, end-fits q)
+
+  pub inv-start : AsksNoChain rules forms body masks i r → (p n : ℕ) → p ≡ startAt rules r → n ≡ sizeAt forms p → Inv rules forms body masks i r (p + n) p i
+  inv-start q p n ep en = record {
+    pre = q;
+    stops = λ q2. omega (arith, end-is q2, en ∙ ap (sizeAt forms) ep);
+    known = λ q2. subst (λ (x : ℕ). At q2 x i) (sym ep) (at-start q2);
+  }
+
+  module _ {stop p j : ℕ} (v : Inv rules forms body masks i r stop p j) (h : p < stop) where
+    within : (q : AsksNoChain rules forms body masks i r) → p < end q
+    within q = omega (arith, v .stops q)
+
+    pub turn-place : p + 1 ≤ length forms
+    turn-place = omega (arith, room (v .pre) p j (v .known (v .pre)) (within (v .pre)) .in-forms)
+
+    pub turn-here : j + 1 ≤ length body
+    turn-here = omega (arith, room (v .pre) p j (v .known (v .pre)) (within (v .pre)) .in-body)
+
+    pub turn-over : {n : ℕ} → n ≡ sizeAt body j → j + n ≤ length body
+    turn-over en = omega (arith, en, room (v .pre) p j (v .known (v .pre)) (within (v .pre)) .over)
+
+    next : (n : ℕ) → ((q : AsksNoChain rules forms body masks i r) → At q (p + 1) (j + n)) → Inv rules forms body masks i r stop (p + 1) (j + n)
+    next n k = record { pre = v .pre; stops = v .stops; known = k }
+
+    module _ {code : ℕ} (ec : code ≡ codeAt forms p) where
+      module _ (k : code ≡ nonTerminalKind) {x : ℕ} (ex : x ≡ valueAt forms p) where
+        pub turn-low : x < 16
+        turn-low = omega (arith, ex, hole-low (v .pre) p j (v .known (v .pre)) (within (v .pre)) (sym ec ∙ k))
+
+        module _ {m : ℕ} (em : m ≡ getD masks j 0) {b : Bool} (eb : b ≡ has m x) where
+          pub turn-hole : not b ≡ false → {n : ℕ} → n ≡ sizeAt body j → Inv rules forms body masks i r stop (p + 1) (j + n)
+          turn-hole y {n} en =
+              next n
+              (λ q. subst (λ (o : ℕ). At q (p + 1) (j + o)) (sym en) (step-hole q p j (v .known q) (within q) (sym ec ∙ k) (cc (not-false b y))))
+
+          pub miss-hole : not b ≡ true → Matched rules forms body masks i r false
+          miss-hole y = record {
+            sound = λ q e. absurd (true≢false (sym e));
+            complete = λ q e. fail-hole q p j (v .known q) (within q) (sym ec ∙ k) (cc (not-true b y));
+          }
+
+      module _ (k : code ≡ nonTerminalKind → ⊥) {b : Bool} (eb : b ≡ alike forms p body j) where
+        pub turn-node : not b ≡ false → Inv rules forms body masks i r stop (p + 1) (j + 1)
+        turn-node y = next 1 (λ q. step-node q p j (v .known q) (within q) (λ e. k (ec ∙ e)) (sym eb ∙ not-false b y))
+
+        pub miss-node : not b ≡ true → Matched rules forms body masks i r false
+        miss-node y = record {
+          sound = λ q e. absurd (true≢false (sym e));
+          complete = λ q e. fail-node q p j (v .known q) (within q) (λ e2. k (ec ∙ e2)) (sym eb ∙ not-true b y);
+        }
+
+  pub turn-end : {stop p j : ℕ} → Inv rules forms body masks i r stop p j → stop ≤ p → Matched rules forms body masks i r true
+  turn-end {p = p} {j = j} v h = record { sound = λ q e. at-end q p j (v .known q) (omega (arith, v .stops q)); complete = λ q e. absurd (true≢false e) }

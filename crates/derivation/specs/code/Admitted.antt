@@ -1,0 +1,40 @@
+-- What rules and terms keep to where they stand in tables.
+use mathlib.Core.Path.{_≡_}
+use Prim.Native.Nat.{ℕ, _<_, _≤_}
+use mathlib.Core.List.{List}
+use lib.ListN.{length}
+use Rattle.operators.specs.Sorts.{Fit}
+use Rattle.forest.specs.Forest.{Forest, count, none, tree}
+use Rattle.terms.specs.Labels.{Label, Terms, defined, function, literal, name, operator}
+use Rattle.terms.specs.code.Nodes.{Plain}
+use Rattle.derivation.specs.Derivation.{Item, Argument, Grammar, headOf, formOf, the, nonTerminal, anyLiteral, anyArgument}
+use Rattle.terms.specs.code.Codes.{sortCount}
+
+-- Non-terminals are below k, and neither they nor `(Constant σ)` and `(Variable σ)`, whose sorts a code can hold, have operands; labels are told by their
+-- numbers.
+unfoldable pub Proper : ℕ → Forest Item → Type 0
+Proper k none = Unit {0}
+Proper k (tree (the l) ps qs) = Plain l × Proper k ps × Proper k qs
+Proper k (tree (nonTerminal A) ps qs) = (A < k) × (ps ≡ none) × Proper k qs
+Proper k (tree (anyLiteral s) ps qs) = (s < sortCount) × (ps ≡ none) × Proper k qs
+Proper k (tree (anyArgument s) ps qs) = (s < sortCount) × (ps ≡ none) × Proper k qs
+
+-- A literal is a value of its sort, and a name an argument of the function, of its sort.
+abbrev pub LeafFits : (arguments : List ℕ) → Label → Type 0
+LeafFits arguments (literal s v w) = Fit s v
+LeafFits arguments (name s k) = Argument arguments s k
+LeafFits arguments (operator o i j) = Unit {0}
+LeafFits arguments (defined k) = Unit {0}
+LeafFits arguments (function k) = Unit {0}
+
+-- Each literal and each name of the terms is such.
+unfoldable pub LeavesFit : (arguments : List ℕ) → Terms → Type 0
+LeavesFit arguments none = Unit {0}
+LeavesFit arguments (tree l ops rest) = LeafFits arguments l × LeavesFit arguments ops × LeavesFit arguments rest
+
+-- The rules that document 01 admits: "16 non-terminals and 128 rules a grammar", each right side one term.
+pub record Admitted (G : Grammar) : Type 0 where
+  pub few : length (G .rules) ≤ 128
+  pub low : (r : ℕ) → r < length (G .rules) → headOf (G .rules) r < 16
+  pub proper : (r : ℕ) → r < length (G .rules) → Proper 16 (formOf (G .rules) r)
+  pub single : (r : ℕ) → r < length (G .rules) → count (formOf (G .rules) r) ≡ 1

@@ -1,0 +1,102 @@
+-- What writing the rules of a derivation asks and gives.
+use mathlib.Core.Path.{_≡_}
+use mathlib.Core.Bool.{Bool, true, false}
+use Prim.Native.Nat.{ℕ, _+_, _*_, _<_, _≤_}
+use mathlib.Core.List.{List, [], _++_}
+use lib.ListN.{length}
+use lib.Seq.{sets}
+use Rattle.forest.specs.Forest.{none, tree, count}
+use Rattle.forest.specs.code.Cursors.{size, from, first}
+use Rattle.derivation.specs.Derivation.{nonTerminal, formOf, Derives, Simple}
+use Rattle.derivation.specs.code.Tables.{Given}
+use Rattle.derivation.specs.Answer.{start}
+use Rattle.derivation.specs.code.Matching.{AsksNoChain, chain, no-chain}
+use Rattle.derivation.specs.code.Search.{DerivesAt, Fits, NoChain, Asks, Chain}
+
+-- The choices lead from the non-terminal a, at a node, to a rule that is no chain rule, within the room that the list has.
+pub record FollowPre (rules forms chosen : List ℕ) (a : ℕ) (shown : List ℕ) (at : ℕ) : Type 0 where
+  pub body : List ℕ
+  pub masks : List ℕ
+  pub i : ℕ
+  pub asks : Asks rules forms body masks i
+  pub low : a < 16
+  pub sixteen : length chosen ≡ 16
+  pub s : ℕ
+  pub k : ℕ
+  pub chain : Chain (asks .given .G) (from (asks .given .F) i) s chosen a k
+  pub room : at + k ≤ length shown
+
+-- The rules ws were written, and a derivation of the last one's form makes one of a.
+pub record FollowPost (rules forms chosen : List ℕ) (a : ℕ) (shown : List ℕ) (at : ℕ) (f : FollowPre rules forms chosen a shown at) (shown' : List ℕ)
+    (at' r : ℕ) : Type 0 where
+  pub ws : List ℕ
+  pub wrote : shown' ≡ sets shown at ws
+  pub next : at' ≡ at + length ws
+  pub few : length ws ≤ f .k
+  pub is-rule : r < length (f .asks .given .G .rules)
+  pub no-chain : NoChain (formOf (f .asks .given .G .rules) r)
+  pub fits : Fits (f .asks .given .G) (formOf (f .asks .given .G .rules) r) (from (f .asks .given .F) (f .i))
+  pub back : (es : List ℕ) → Simple (f .asks .given .G) [] (formOf (f .asks .given .G .rules) r) (first 1 (from (f .asks .given .F) (f .i))) es
+      → Simple (f .asks .given .G) [] (tree (nonTerminal a) none none) (first 1 (from (f .asks .given .F) (f .i))) (ws ++ es)
+
+-- The same, for whatever the tables hold.
+abbrev pub Follows : (rules forms chosen : List ℕ) (a : ℕ) (shown : List ℕ) (at : ℕ) (shown' : List ℕ) (at' r : ℕ) → Type 0
+Follows rules forms chosen a shown at shown' at' r = (f : FollowPre rules forms chosen a shown at) → FollowPost rules forms chosen a shown at f shown' at' r
+
+-- The non-terminal a derives the tree at node i, and the list has room.
+pub record EmitPre (rules forms body masks : List ℕ) (i a : ℕ) (shown : List ℕ) (at : ℕ) : Type 0 where
+  pub asks : Asks rules forms body masks i
+  pub low : a < 16
+  pub derives : DerivesAt (asks .given .G) a (from (asks .given .F) i)
+  pub room : at + 16 * size (first 1 (from (asks .given .F) i)) ≤ length shown
+
+-- A derivation of that tree was written.
+pub record EmitPost (rules forms body masks : List ℕ) (i a : ℕ) (shown : List ℕ) (at : ℕ) (e : EmitPre rules forms body masks i a shown at)
+    (shown' : List ℕ) (at' : ℕ) : Type 0 where
+  pub ds : List ℕ
+  pub derivation : Simple (e .asks .given .G) [] (tree (nonTerminal a) none none) (first 1 (from (e .asks .given .F) i)) ds
+  pub wrote : shown' ≡ sets shown at ds
+  pub next : at' ≡ at + length ds
+  pub few : length ds ≤ 16 * size (first 1 (from (e .asks .given .F) i))
+
+-- The same, for whatever the tables hold.
+abbrev pub Emits : (rules forms body masks : List ℕ) (i a : ℕ) (shown : List ℕ) (at : ℕ) (shown' : List ℕ) (at' : ℕ) → Type 0
+Emits rules forms body masks i a shown at shown' at' =
+    (e : EmitPre rules forms body masks i a shown at) → EmitPost rules forms body masks i a shown at e shown' at'
+
+-- Rule r, which is no chain rule, derives the tree at node i, and the list has room.
+pub record SpreadPre (rules forms body masks : List ℕ) (i r : ℕ) (shown : List ℕ) (at : ℕ) : Type 0 where
+  pub rule-asks : AsksNoChain rules forms body masks i r
+  pub fits : Fits (rule-asks .asks .given .G) (formOf (rule-asks .asks .given .G .rules) r) (from (rule-asks .asks .given .F) i)
+  pub room : at + 16 * size (first 1 (from (rule-asks .asks .given .F) i)) ≤ length shown + 16
+
+-- Derivations for the places of the rule were written.
+pub record SpreadPost (rules forms body masks : List ℕ) (i r : ℕ) (shown : List ℕ) (at : ℕ) (e : SpreadPre rules forms body masks i r shown at)
+    (shown' : List ℕ) (at' : ℕ) : Type 0 where
+  pub ds : List ℕ
+  pub derivation : Simple (e .rule-asks .asks .given .G) [] (formOf (e .rule-asks .asks .given .G .rules) r)
+      (first 1 (from (e .rule-asks .asks .given .F) i)) ds
+  pub wrote : shown' ≡ sets shown at ds
+  pub next : at' ≡ at + length ds
+  pub few : length ds + 16 ≤ 16 * size (first 1 (from (e .rule-asks .asks .given .F) i))
+
+-- The same, for whatever the tables hold.
+abbrev pub Spreads : (rules forms body masks : List ℕ) (i r : ℕ) (shown : List ℕ) (at : ℕ) (shown' : List ℕ) (at' : ℕ) → Type 0
+Spreads rules forms body masks i r shown at shown' at' =
+    (e : SpreadPre rules forms body masks i r shown at) → SpreadPost rules forms body masks i r shown at e shown' at'
+
+-- There is a mask for each node, and the list is as long as it has to be.
+pub record ShowPre (rules forms body masks shown : List ℕ) : Type 0 where
+  pub given : Given rules forms body
+  pub one : count (given .F) ≡ 1
+  pub long : length masks ≡ size (given .F)
+  pub room : 16 * size (given .F) ≤ length shown
+
+-- Whether the start derives the body, and the derivation that was written.
+pub record ShowPost (rules forms body masks shown : List ℕ) (p : ShowPre rules forms body masks shown) (shown' : List ℕ) (r : Bool) : Type 0 where
+  pub yes! : r ≡ true → (ds : List ℕ) × Simple (p .given .G) [] start (p .given .F) ds × (shown' ≡ sets shown 0 ds) × (length ds ≤ 16 * size (p .given .F))
+  pub no! : r ≡ false → ((ds : List ℕ) → Derives (p .given .G) start (p .given .F) ds → ⊥) × (shown' ≡ shown)
+
+-- The same, for whatever the tables hold.
+abbrev pub Shows : (rules forms body masks shown shown' : List ℕ) → Bool → Type 0
+Shows rules forms body masks shown shown' r = (p : ShowPre rules forms body masks shown) → ShowPost rules forms body masks shown p shown' r

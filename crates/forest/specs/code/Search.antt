@@ -1,0 +1,16 @@
+-- What the search for a word asks of the words: they stand one after the other in a list of bytes.
+use Prim.Native.Nat.{ℕ, _+_, _-_, _≤_, _<_}
+use mathlib.Core.List.{List, [], _∷_}
+use lib.ListN.{drop, getD, length, take}
+
+-- The words that stand one after the other in `names`: each from its own of the `starts` to the next of them, the last of which is where the last word ends.
+unfoldable pub wordsIn : (names starts : List ℕ) → List (List ℕ)
+wordsIn names [] = []
+wordsIn names (start ∷ []) = []
+wordsIn names (start ∷ end ∷ more) = take (end - start) (drop start names) ∷ wordsIn names (end ∷ more)
+
+-- What the search asks of the starts: there is one at least, none is greater than the next, and each is within `names`.
+pub record Rising (names starts : List ℕ) : Type 0 where
+  pub some : 0 < length starts
+  pub rises : (k : ℕ) → k + 1 < length starts → getD starts k 0 ≤ getD starts (k + 1) 0
+  pub within : (k : ℕ) → k < length starts → getD starts k 0 ≤ length names

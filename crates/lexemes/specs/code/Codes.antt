@@ -1,0 +1,115 @@
+-- The codes of the words that the reader tells apart, each by the word that it stands for (`proofs/WordCodes: codes-are`).
+use Prim.Native.Nat.{ℕ, _+_, _-_}
+use Rattle.operators.specs.Operators.{operatorCount}
+
+-- The code of the first of them.
+abbrev pub firstCode : ℕ
+firstCode = 5
+
+-- `BV`
+abbrev pub bvCode : ℕ
+bvCode = firstCode
+
+-- `fail`
+abbrev pub failCode : ℕ
+failCode = bvCode + 1
+
+-- `infeasible`
+abbrev pub infeasibleCode : ℕ
+infeasibleCode = failCode + 1
+
+-- `set-logic`
+abbrev pub setLogicCode : ℕ
+setLogicCode = infeasibleCode + 1
+
+-- `declare-var`
+abbrev pub declareVarCode : ℕ
+declareVarCode = setLogicCode + 1
+
+-- `define-fun`
+abbrev pub defineFunCode : ℕ
+defineFunCode = declareVarCode + 1
+
+-- `synth-fun`
+abbrev pub synthFunCode : ℕ
+synthFunCode = defineFunCode + 1
+
+-- `constraint`
+abbrev pub constraintCode : ℕ
+constraintCode = synthFunCode + 1
+
+-- `check-synth`
+abbrev pub checkSynthCode : ℕ
+checkSynthCode = constraintCode + 1
+
+-- How many other commands there are, which are not carried; their codes follow that of `check-synth`.
+abbrev pub otherCommandCount : ℕ
+otherCommandCount = 22
+
+-- The first of them.
+abbrev pub otherCommandCode : ℕ
+otherCommandCode = checkSynthCode + 1
+
+-- `true`
+abbrev pub trueCode : ℕ
+trueCode = otherCommandCode + otherCommandCount
+
+-- `false`
+abbrev pub falseCode : ℕ
+falseCode = trueCode + 1
+
+-- `Bool`
+abbrev pub boolCode : ℕ
+boolCode = falseCode + 1
+
+-- `BitVec`
+abbrev pub bitVecCode : ℕ
+bitVecCode = boolCode + 1
+
+-- `_`
+abbrev pub underscoreCode : ℕ
+underscoreCode = bitVecCode + 1
+
+-- `!`
+abbrev pub bangCode : ℕ
+bangCode = underscoreCode + 1
+
+-- `let`
+abbrev pub letCode : ℕ
+letCode = bangCode + 1
+
+-- `exists`
+abbrev pub existsCode : ℕ
+existsCode = letCode + 1
+
+-- `forall`
+abbrev pub forallCode : ℕ
+forallCode = existsCode + 1
+
+-- `Constant`
+abbrev pub constantCode : ℕ
+constantCode = forallCode + 1
+
+-- `Variable`
+abbrev pub variableCode : ℕ
+variableCode = constantCode + 1
+
+-- The first operator.
+abbrev pub firstOperatorCode : ℕ
+firstOperatorCode = variableCode + 1
+
+-- How many words stand before the operators.
+abbrev pub wordsBefore : ℕ
+wordsBefore = firstOperatorCode - firstCode
+
+-- How many words there are.
+abbrev pub knownCount : ℕ
+knownCount = wordsBefore + operatorCount
+
+-- Any other symbol.
+abbrev pub otherCode : ℕ
+otherCode = firstOperatorCode + operatorCount
+
+-- `extract`, the last operator
+abbrev pub extractCode : ℕ
+extractCode = otherCode - 1

@@ -1,0 +1,187 @@
+-- A name that is put into a row of the table: what that row holds, and that the other rows hold what they held.
+use Prim.Native.Nat.{ℕ, zero, suc, _+_, _-_, _*_, _≤_, _<_}
+use native.Mathlib.Omega.{arith}
+use mathlib.Core.Path.{_≡_, refl, sym, ap, ap₂, _∙_, subst}
+use mathlib.Core.Bool.{Bool, true, false}
+use mathlib.Core.List.{List, [], _∷_, _++_, append-assoc}
+use lib.ListN.{drop, getD, length, replicate, take, length-append, length-drop, length-replicate, take-append-drop, List·getD-append}
+use lib.Seq.{drop-append-add, drop-append-le, drop-at, drop-drop, getD-drop, length-sets, length-take-le, sets, sets-eq, take-append-le, take-append-seam}
+use lib.Dec.{eqb, ltb}
+use borrow.Author.Tests.{eqb-false, eqb-true, ltb-false, ltb-true}
+use Rattle.names.specs.code.Lookup.{Kept, Names}
+use Rattle.names.specs.code.Table.{longest, nameIn, nameRow, namesFrom, rowCount, rowWidth, sortIn, sortsFrom}
+
+-- Two tables hold the same in row k.
+pub record SameRow (one other : List ℕ) (k : ℕ) : Type 0 where
+  pub size : getD one (rowWidth * k + 1) 0 ≡ getD other (rowWidth * k + 1) 0
+  pub name : nameIn one k ≡ nameIn other k
+  pub sort : sortIn one k ≡ sortIn other k
+
+-- Two tables hold the same in m rows from row r on.
+pub record SameRows (one other : List ℕ) (r m : ℕ) : Type 0 where
+  pub names : namesFrom one r m ≡ namesFrom other r m
+  pub sorts : sortsFrom one r m ≡ sortsFrom other r m
+
+-- Tables that hold the same in each of some rows.
+pub same-rows : {one other : List ℕ} (r m : ℕ) → ((k : ℕ) → r ≤ k → k < r + m → SameRow one other k) → SameRows one other r m
+unfolding namesFrom sortsFrom
+same-rows r zero each = record { names = refl; sorts = refl }
+same-rows r (suc m) each =
+    let here = each r (omega arith) (omega arith) in
+    let rest = same-rows (r + 1) m (λ k l h. each k (omega arith) (omega arith)) in
+    record { names = ap₂ _∷_ (here .name) (rest .names); sorts = ap₂ _∷_ (here .sort) (rest .sorts) }
+
+-- The names and sorts in n + 1 rows from row r on are those in n rows and those in the row behind them.
+pub record LastRow (names : List ℕ) (r n : ℕ) : Type 0 where
+  pub name : namesFrom names r (n + 1) ≡ namesFrom names r n ++ nameIn names (r + n) ∷ []
+  pub sort : sortsFrom names r (n + 1) ≡ sortsFrom names r n ++ sortIn names (r + n) ∷ []
+
+-- Every table.
+pub last-row : (names : List ℕ) (r n : ℕ) → LastRow names r n
+unfolding namesFrom sortsFrom
+last-row names r zero = let z : r + 0 ≡ r = omega arith in record { name = rw z; sort = rw z }
+last-row names r (suc n) =
+    let z : r + suc n ≡ r + 1 + n = omega arith in
+    let later = last-row names (r + 1) n in
+    let one : suc n + 1 ≡ suc (n + 1) = omega arith in
+    record { name = rw (one, z) (ap (_∷_ (nameIn names r)) (later .name)); sort = rw (one, z) (ap (_∷_ (sortIn names r)) (later .sort)) }
+
+-- Tables that begin alike hold the same in the rows of that beginning, where the name is not too long.
+same-front : (front one other : List ℕ) (k : ℕ) → rowWidth * k + rowWidth ≤ length front → getD (front ++ other) (rowWidth * k + 1) 0 ≤ longest
+    → SameRow (front ++ one) (front ++ other) k
+same-front front one other k h short = record {
+  size = read (rowWidth * k + 1) (omega arith);
+  name = rw (read (rowWidth * k + 1) (omega arith)) (part (rowWidth * k + 2) (getD (front ++ other) (rowWidth * k + 1) 0) (omega arith));
+  sort = read (rowWidth * k) (omega arith);
+}
+  where
+    read : (i : ℕ) → i < length front → getD (front ++ one) i 0 ≡ getD (front ++ other) i 0
+    read i l = List·getD-append front one 0 i l ∙ sym (List·getD-append front other 0 i l)
+
+    cut : (rest : List ℕ) (i n : ℕ) → i + n ≤ length front → take n (drop i (front ++ rest)) ≡ take n (drop i front)
+    cut rest i n l = ap (take n) (drop-append-le i front rest (omega arith)) ∙ take-append-le n (drop i front) rest (rw length-drop (omega arith))
+
+    part : (i n : ℕ) → i + n ≤ length front → take n (drop i (front ++ one)) ≡ take n (drop i (front ++ other))
+    part i n l = cut one i n l ∙ sym (cut other i n l)
+
+-- Tables that are the same from a row on hold the same in it.
+same-behind : {one other : List ℕ} (k : ℕ) → drop (rowWidth * k) one ≡ drop (rowWidth * k) other → SameRow one other k
+same-behind {one} {other} k e = record {
+  size = read 1;
+  name = ap₂ take (read 1) (sym (drop-drop 2 (rowWidth * k) one) ∙ ap (drop 2) e ∙ drop-drop 2 (rowWidth * k) other);
+  sort = let z : rowWidth * k + 0 ≡ rowWidth * k = omega arith in rw z at (read 0);
+}
+  where
+    read : (i : ℕ) → getD one (rowWidth * k + i) 0 ≡ getD other (rowWidth * k + i) 0
+    read i = sym (getD-drop (rowWidth * k) one i 0) ∙ ap (λ (l : List ℕ). getD l i 0) e ∙ getD-drop (rowWidth * k) other i 0
+
+-- A name and its sort stand in a row, and the other rows are what they were.
+pub record Put (names : List ℕ) (row sort : ℕ) (word after : List ℕ) : Type 0 where
+  pub table : Names after
+  pub name : nameIn after row ≡ word
+  pub sort-is : sortIn after row ≡ sort
+  pub kept : Kept names row 1 after
+
+module _ {names : List ℕ} (t : Names names) {row : ℕ} (h : row < rowCount) (sort : ℕ) (word : List ℕ) (short : length word ≤ longest)
+    {after : List ℕ} (e : after ≡ sets names (rowWidth * row) (nameRow sort word)) where
+  -- how long the row is
+  row-long : length (nameRow sort word) ≡ rowWidth
+  row-long = let l : length (word ++ replicate (longest - length word) 0) ≡ longest = rw (length-append, length-replicate) (omega arith) in omega arith
+
+  -- and the table before it
+  front-long : length (take (rowWidth * row) names) ≡ rowWidth * row
+  front-long = let s = t .sized in length-take-le (rowWidth * row) names (omega arith)
+
+  -- the table in parts
+  parts : after ≡ take (rowWidth * row) names ++ (nameRow sort word ++ drop (rowWidth * row + rowWidth) names)
+  parts =
+      let s = t .sized in
+      let l = row-long in
+      e
+      ∙ sets-eq (nameRow sort word) names (rowWidth * row) (omega arith)
+      ∙ rw l (append-assoc (take (rowWidth * row) names) (nameRow sort word) (drop (rowWidth * row + rowWidth) names))
+
+  -- the table from the row on
+  from-row : drop (rowWidth * row) after ≡ nameRow sort word ++ drop (rowWidth * row + rowWidth) names
+  from-row = ap (drop (rowWidth * row)) parts ∙ drop-at (take (rowWidth * row) names) _ (rowWidth * row) front-long
+
+  -- and from a later place on
+  from-behind : (i : ℕ) → drop (rowWidth * row + (rowWidth + i)) after ≡ drop (rowWidth * row + (rowWidth + i)) names
+  from-behind i =
+      let z : length (nameRow sort word) + i ≡ rowWidth + i = ap (λ (n : ℕ). n + i) row-long in
+      let y : rowWidth * row + rowWidth + i ≡ rowWidth * row + (rowWidth + i) = omega arith in
+      sym (drop-drop (rowWidth + i) (rowWidth * row) after)
+      ∙ ap (drop (rowWidth + i)) from-row
+      ∙ ap (λ (n : ℕ). drop n (nameRow sort word ++ drop (rowWidth * row + rowWidth) names)) (sym z)
+      ∙ drop-append-add (nameRow sort word) (drop (rowWidth * row + rowWidth) names) i
+      ∙ drop-drop i (rowWidth * row + rowWidth) names
+      ∙ ap (λ (n : ℕ). drop n names) y
+
+  -- byte i from the row's first on
+  byte-in : (i : ℕ) → getD after (rowWidth * row + i) 0 ≡ getD (nameRow sort word ++ drop (rowWidth * row + rowWidth) names) i 0
+  byte-in i = sym (getD-drop (rowWidth * row) after i 0) ∙ ap (λ (l : List ℕ). getD l i 0) from-row
+
+  -- the row holds the name
+  name-put : nameIn after row ≡ word
+  name-put =
+      ap₂ take (byte-in 1) (sym (drop-drop 2 (rowWidth * row) after) ∙ ap (drop 2) from-row)
+      ∙ ap (take (length word)) (append-assoc word (replicate (longest - length word) 0) (drop (rowWidth * row + rowWidth) names))
+      ∙ take-append-seam word _
+
+  -- the rows before it hold what they held
+  before-same : (k : ℕ) → k < row → SameRow after names k
+  before-same k l =
+      let whole = take-append-drop (rowWidth * row) names in
+      let small = t .short k (omega arith) in
+      let long = front-long in
+      rw parts (subst (λ (other : List ℕ). SameRow (take (rowWidth * row) names ++ (nameRow sort word ++ drop (rowWidth * row + rowWidth) names)) other k) whole
+      (same-front (take (rowWidth * row) names) _ (drop (rowWidth * row) names) k (omega arith) (rw whole small)))
+
+  -- and so do the rows behind it
+  behind-same : (k : ℕ) → row + 1 ≤ k → SameRow after names k
+  behind-same k l =
+      let z : rowWidth * row + (rowWidth + (rowWidth * k - (rowWidth * row + rowWidth))) ≡ rowWidth * k = omega arith in
+      same-behind k (rw z at (from-behind (rowWidth * k - (rowWidth * row + rowWidth))))
+
+  -- all of them
+  kept : Kept names row 1 after
+  kept = record {
+    names-before = λ r m l. same-rows r m (λ k a b. before-same k (omega arith)) .names;
+    sorts-before = λ r m l. same-rows r m (λ k a b. before-same k (omega arith)) .sorts;
+    names-behind = λ r m l. same-rows r m (λ k a b. behind-same k (omega arith)) .names;
+    sorts-behind = λ r m l. same-rows r m (λ k a b. behind-same k (omega arith)) .sorts;
+  }
+
+  -- no name is too long
+  lengths : (r : ℕ) → r < rowCount → getD after (rowWidth * r + 1) 0 ≤ longest
+  lengths r l = go (eqb r row) refl (ltb r row) refl
+    where
+      go : (here : Bool) → eqb r row ≡ here → (early : Bool) → ltb r row ≡ early → getD after (rowWidth * r + 1) 0 ≤ longest
+      go true x early y = let z = eqb-true r row x in rw (z, byte-in 1) short
+      go false x true y = let z = ltb-true r row y in rw (before-same r z .size) (t .short r l)
+      go false x false y =
+          let z = eqb-false r row x in
+          let w = ltb-false r row y in
+          rw (behind-same r (omega arith) .size) (t .short r l)
+
+  -- the name and its sort are put into the row
+  pub put-row : Put names row sort word after
+  put-row = record {
+    table = record { sized = ap length e ∙ length-sets names (rowWidth * row) (nameRow sort word) ∙ t .sized; short = lengths };
+    name = name-put;
+    sort-is = let z : rowWidth * row + 0 ≡ rowWidth * row = omega arith in rw z at (byte-in 0);
+    kept = kept;
+  }
+
+-- No row is changed.
+pub kept-none : (names : List ℕ) (row : ℕ) → Kept names row 0 names
+kept-none names row = record { names-before = λ r m h. refl; sorts-before = λ r m h. refl; names-behind = λ r m h. refl; sorts-behind = λ r m h. refl }
+
+-- One row more is changed.
+pub kept-more : {names between after : List ℕ} {row n : ℕ} → Kept names row n between → Kept between (row + n) 1 after → Kept names row (n + 1) after
+kept-more a b = record {
+  names-before = λ r m h. b .names-before r m (omega arith) ∙ a .names-before r m h;
+  sorts-before = λ r m h. b .sorts-before r m (omega arith) ∙ a .sorts-before r m h;
+  names-behind = λ r m h. b .names-behind r m (omega arith) ∙ a .names-behind r m (omega arith);
+  sorts-behind = λ r m h. b .sorts-behind r m (omega arith) ∙ a .sorts-behind r m (omega arith);
+}

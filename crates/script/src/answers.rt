@@ -1,0 +1,65 @@
+//! The numbers of the answers, each once, and the verdict that has one.
+use crate::Verdict;
+ghost use mathlib.Core.Path.{_≡_};
+
+// Accepted; of a command or a text, that it passes.
+pub const ACCEPTED: usize = 0;
+
+// A text or the list of points is too long, or a lent area is not of its size.
+pub const TOO_LONG: usize = 1;
+
+// A bad word.
+pub const BAD_WORD: usize = 2;
+
+// A bracket is closed too often, or never.
+pub const BRACKET: usize = 3;
+
+// Past a limit.
+pub const PAST_LIMIT: usize = 4;
+
+// The shape is unknown.
+pub const SHAPE: usize = 5;
+
+// Not carried.
+pub const NOT_CARRIED: usize = 6;
+
+// A name is unknown, taken or reserved.
+pub const NAME: usize = 7;
+
+// A sort fault.
+pub const SORT: usize = 8;
+
+// A grammar fault.
+pub const GRAMMAR: usize = 9;
+
+// The response is `fail`.
+pub const FAIL: usize = 10;
+
+// The response is `infeasible`.
+pub const INFEASIBLE: usize = 11;
+
+// A header of the response differs.
+pub const HEADER: usize = 12;
+
+// No derivation.
+pub const NO_DERIVATION: usize = 13;
+
+// A constraint is false.
+pub const FALSE: usize = 14;
+
+// The budget ended.
+pub const BUDGET: usize = 15;
+
+// The list of points is not whole points, or has a value outside its sort.
+pub const POINTS: usize = 16;
+
+// The verdict of a number at a word, with so many rows.
+pub fn verdict(number: usize, place: usize, rows: usize) -> Verdict
+    ensures { λ r. ⌜ r ≡ record { number = number; place = place; rows = rows } ⌝ }
+{
+    Verdict {
+        number,
+        place,
+        rows,
+    }
+}

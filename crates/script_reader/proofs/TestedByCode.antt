@@ -1,0 +1,276 @@
+-- The test of a command by its code: what each command asks, and what it gives.
+use Prim.Native.Nat.{ℕ, _*_, _-_, _≤_, _<_}
+use Prim.Native.String.{String}
+use native.Mathlib.Omega.{arith}
+use mathlib.Core.Bool.{true}
+use mathlib.Core.List.{List, _++_}
+use mathlib.Core.Path.{_≡_, refl, ap, subst, subst⁻¹}
+use lib.ListN.{drop, length, length-drop, take}
+use lib.Seq.{length-take-le}
+use borrow.Author.Tests.{ne-eqb}
+use Rattle.lexemes.specs.Lists.{Items, is, item}
+use Rattle.forest.specs.Limits.{allowed, mostConstraints, mostDefined, mostFunctions, mostVariables}
+use Rattle.terms.specs.code.Nodes.{rowWidth as nodeWidth}
+use Rattle.script.specs.Script.{Known, knownAfter, limitPlace, tested}
+use Rattle.script.specs.code.Tables.{CommandOf, Says, TablesHold}
+use Rattle.script.specs.code.Places.{formsPlace}
+use Rattle.script.specs.declared.Progress.{Progress}
+use Rattle.script.specs.declared.Verdict.{Verdict}
+use Rattle.commands.specs.code.Constraint.{Constrained, Constraining}
+use Rattle.commands.specs.code.DeclareVar.{Declared, Declaring}
+use Rattle.commands.specs.code.DefineFun.{Defined, Defining}
+use Rattle.synth_fun.specs.code.Synthesizing.{Synthesized, Synthesizing}
+use Rattle.script_reader.specs.code.Commands.{saidBy}
+use Rattle.script_reader.specs.code.Command.{CommandTested, Shaped}
+use Rattle.script_reader.proofs.CommandWords.{Tests, ends-in, tests}
+use Rattle.script_reader.proofs.KnownAfter.{counted-after, names-kept, places-kept, same-constraints, same-defined, same-functions, same-variables}
+use Rattle.script_reader.proofs.NodeTableParts.{Parts, all-lent, formsLent, parts-behind, parts-front, parts-same}
+use Rattle.script_reader.proofs.JudgedInOrder.{fewer, others-pass, within-limits}
+
+-- The tables hold what is known, in no more rows than words before the one given.
+pub record Held (names places nodes forms : List ℕ) (q : Progress) (k : Known) (close : ℕ) : Type 0 where
+  pub tables : TablesHold names places nodes forms q k
+  pub nodes-within : q .nodes ≤ close
+  pub forms-within : q .forms ≤ close
+
+module _ {text lexemes names raw places nodes : List ℕ} {p : Progress} {code i nowhere : ℕ}
+    (c : Shaped text lexemes names raw places nodes p code i nowhere) where
+  -- What is known before the command.
+  abbrev pub known : Known
+  known = c .commanded .known
+
+  -- The command.
+  abbrev pub command : Items
+  command = c .commanded .here .command
+
+  -- What is known after it.
+  abbrev pub later : Known
+  later = knownAfter known command
+
+  -- The tests of its word.
+  pub command-is : {m : ℕ} → code ≡ m → Tests command m
+  command-is e = subst (λ (m : ℕ). Tests command m) e (tests (c .commanded .here) (c .coded))
+
+  -- The part for terms is whole.
+  terms-whole : formsPlace ≤ length nodes
+  terms-whole = omega (arith, c .commanded .roomy .nodes-room)
+
+  -- A test of the command from what holds of its code.
+  by-code : {m : ℕ} → code ≡ m → {namesAfter rawAfter placesAfter nodesAfter terms forms : List ℕ} {v : Verdict}
+      → Says v (tested allowed nowhere known i command later)
+      → length rawAfter ≡ length raw → Parts nodes nodesAfter terms forms
+      → (v .number ≡ 0 → Held namesAfter placesAfter terms forms (saidBy p m (v .rows)) later (c .commanded .here .close))
+      → CommandTested c namesAfter rawAfter placesAfter nodesAfter v
+  by-code e {namesAfter} {rawAfter} {placesAfter} {nodesAfter} {terms} {forms} {v} says raw-long parts held =
+      let roomy = c .commanded .roomy in
+      let holds : v .number ≡ 0 → Held namesAfter placesAfter terms forms (saidBy p code (v .rows)) later (c .commanded .here .close)
+      = λ z. subst⁻¹ (λ (m : ℕ). Held namesAfter placesAfter terms forms (saidBy p m (v .rows)) later (c .commanded .here .close)) e (held z) in
+      record {
+        verdict-is = says;
+        tables = λ z. rw (parts .terms-are, parts .forms-are) (holds z .tables);
+        roomy = record { raw-room = omega (arith, roomy .raw-room); nodes-room = omega (arith, roomy .nodes-room, parts .long) };
+        nodes-within = λ z. holds z .nodes-within;
+        forms-within = λ z. holds z .forms-within;
+      }
+
+  -- The command, by its word.
+  abbrev pub command-of : {word : String} → is word (item 0 command) ≡ true → CommandOf word text lexemes p i nowhere
+  command-of by = record { here = c .commanded .here; by = by; shaped = c .shaped; known = known; counted = c .commanded .tables .counted }
+
+  -- A row for each word of the text among the terms.
+  pub terms-room : nodeWidth * nowhere ≤ length (take formsPlace nodes)
+  terms-room = omega (arith, c .commanded .here .few, length-take-le formsPlace nodes terms-whole)
+
+  -- And among the forms.
+  pub forms-room : nodeWidth * nowhere ≤ length (formsLent nodes)
+  forms-room = omega (arith, c .commanded .roomy .nodes-room, ap length (all-lent nodes), length-drop formsPlace nodes)
+
+  -- What `declare-var` asks.
+  abbrev pub declaring : code ≡ 9 → Declaring text lexemes names p i nowhere
+  declaring e = record {
+    of = command-of (command-is e .declares);
+    names-hold = c .commanded .tables .names-hold;
+  }
+
+  -- What `define-fun` asks.
+  abbrev pub defining : code ≡ 10 → Defining text lexemes names raw places (take formsPlace nodes) p i nowhere
+  defining e = record {
+    of = command-of (command-is e .defines);
+    names-hold = c .commanded .tables .names-hold;
+    places-hold = c .commanded .tables .places-hold;
+    raw-room = c .commanded .roomy .raw-room;
+    nodes-room = terms-room;
+    within = c .commanded .nodes-within;
+  }
+
+  -- What `synth-fun` asks.
+  abbrev pub synthesizing : code ≡ 11 → Synthesizing text lexemes names raw places (formsLent nodes) p i nowhere
+  synthesizing e = record {
+    of = command-of (command-is e .synthesizes);
+    names-hold = c .commanded .tables .names-hold;
+    nodes = take formsPlace nodes;
+    places-hold = c .commanded .tables .places-hold;
+    grammars-hold = rw (all-lent nodes) (c .commanded .tables .grammars-hold);
+    raw-room = c .commanded .roomy .raw-room;
+    forms-room = forms-room;
+    within = c .commanded .forms-within;
+  }
+
+  -- What `constraint` asks.
+  abbrev pub constraining : code ≡ 12 → Constraining text lexemes names raw places (take formsPlace nodes) p i nowhere
+  constraining e = record {
+    of = command-of (command-is e .constrains);
+    names-hold = c .commanded .tables .names-hold;
+    places-hold = c .commanded .tables .places-hold;
+    raw-room = c .commanded .roomy .raw-room;
+    nodes-room = terms-room;
+    within = c .commanded .nodes-within;
+  }
+
+  -- A command that passes is not past a limit.
+  limits : (v : Verdict) → Says v (tested allowed nowhere known i command later) → v .number ≡ 0 → nowhere ≤ limitPlace allowed nowhere known i command
+  limits v says z = within-limits allowed nowhere known i command later v says z
+
+  -- It stands before the end of the text.
+  ahead : i < nowhere
+  ahead = let e = ends-in (c .commanded .here) in omega arith
+
+  -- What a `declare-var` gives.
+  pub declared : (e : code ≡ 9) {namesAfter : List ℕ} {v : Verdict} → Declared (declaring e) namesAfter v → CommandTested c namesAfter raw places nodes v
+  unfolding limitPlace
+  declared e {namesAfter} {v} g = by-code e (g .verdict-is) refl (parts-same nodes) held
+    where
+      held : v .number ≡ 0 → Held namesAfter places (take formsPlace nodes) (drop formsPlace nodes) (saidBy p 9 (v .rows)) later (c .commanded .here .close)
+      held z =
+          let before = c .commanded in
+          let n = before .tables .counted in
+          let ends = ends-in (before .here) in
+          let t = command-is e in
+          let most = rw (t .declares) at (limits v (g .verdict-is) z) in
+          let room = fewer nowhere mostVariables (length (known .variables)) i _ ahead most in
+          let functions = same-functions known t refl in
+          record {
+            tables = record {
+              counted = counted-after known t (v .rows) n (omega arith) (n .few-defined) (n .few-functions) (n .few-constraints);
+              names-hold = g .names-hold z;
+              places-hold = places-kept (same-defined known t refl) functions (same-constraints known t refl) (before .tables .places-hold);
+              grammars-hold = rw functions (before .tables .grammars-hold);
+              forms-room = before .tables .forms-room;
+            };
+            nodes-within = omega (arith, before .nodes-within);
+            forms-within = omega (arith, before .forms-within);
+          }
+
+  -- What a `define-fun` gives.
+  pub defined : (e : code ≡ 10) {namesAfter rawAfter placesAfter terms : List ℕ} {v : Verdict}
+      → Defined (defining e) namesAfter rawAfter placesAfter terms v
+      → CommandTested c namesAfter rawAfter placesAfter (terms ++ drop formsPlace nodes) v
+  unfolding limitPlace
+  defined e {namesAfter} {rawAfter} {placesAfter} {terms} {v} g = by-code e (g .verdict-is) (g .raw-long) (parts-front terms-whole (g .nodes-long)) held
+    where
+      held : v .number ≡ 0 → Held namesAfter placesAfter terms (drop formsPlace nodes) (saidBy p 10 (v .rows)) later (c .commanded .here .close)
+      held z =
+          let before = c .commanded in
+          let n = before .tables .counted in
+          let ends = ends-in (before .here) in
+          let t = command-is e in
+          let most = rw (t .declares, t .defines) at (limits v (g .verdict-is) z) in
+          let room = fewer nowhere mostDefined (length (known .defined)) i _ ahead most in
+          record {
+            tables = record {
+              counted = counted-after known t (v .rows) n (n .few-variables) (omega arith) (n .few-functions) (n .few-constraints);
+              names-hold = g .names-hold z;
+              places-hold = g .places-hold z;
+              grammars-hold = rw (same-functions known t refl, g .kept) (before .tables .grammars-hold);
+              forms-room = before .tables .forms-room;
+            };
+            nodes-within = g .within z;
+            forms-within = omega (arith, before .forms-within);
+          }
+
+  -- What a `synth-fun` gives.
+  pub synthesized : (e : code ≡ 11) {namesAfter rawAfter placesAfter forms : List ℕ} {v : Verdict}
+      → Synthesized (synthesizing e) namesAfter rawAfter placesAfter forms v
+      → CommandTested c namesAfter rawAfter placesAfter (take formsPlace nodes ++ (forms ++ drop (length nodes - formsPlace) (drop formsPlace nodes))) v
+  unfolding limitPlace
+  synthesized e {namesAfter} {rawAfter} {placesAfter} {forms} {v} g = by-code e (g .verdict-is) (g .raw-long) (parts-behind terms-whole (g .forms-long)) held
+    where
+      held : v .number ≡ 0 → Held namesAfter placesAfter (take formsPlace nodes) forms (saidBy p 11 (v .rows)) later (c .commanded .here .close)
+      held z =
+          let before = c .commanded in
+          let n = before .tables .counted in
+          let ends = ends-in (before .here) in
+          let t = command-is e in
+          let most = rw (t .declares, t .defines, t .synthesizes) at (limits v (g .verdict-is) z) in
+          let room = fewer nowhere mostFunctions (length (known .functions)) i _ ahead most in
+          record {
+            tables = record {
+              counted = counted-after known t (v .rows) n (n .few-variables) (n .few-defined) (omega arith) (n .few-constraints);
+              names-hold = g .names-hold z;
+              places-hold = g .places-hold z;
+              grammars-hold = g .grammars-hold z;
+              forms-room = omega (arith, g .within z, g .forms-long, forms-room);
+            };
+            nodes-within = omega (arith, before .nodes-within);
+            forms-within = g .within z;
+          }
+
+  -- What a `constraint` gives.
+  pub constrained : (e : code ≡ 12) {rawAfter placesAfter terms : List ℕ} {v : Verdict}
+      → Constrained (constraining e) rawAfter placesAfter terms v
+      → CommandTested c names rawAfter placesAfter (terms ++ drop formsPlace nodes) v
+  unfolding limitPlace
+  constrained e {rawAfter} {placesAfter} {terms} {v} g = by-code e (g .verdict-is) (g .raw-long) (parts-front terms-whole (g .nodes-long)) held
+    where
+      held : v .number ≡ 0 → Held names placesAfter terms (drop formsPlace nodes) (saidBy p 12 (v .rows)) later (c .commanded .here .close)
+      held z =
+          let before = c .commanded in
+          let n = before .tables .counted in
+          let ends = ends-in (before .here) in
+          let t = command-is e in
+          let most = rw (t .declares, t .defines, t .synthesizes, t .constrains) at (limits v (g .verdict-is) z) in
+          let room = fewer nowhere mostConstraints (length (known .constraints)) i _ ahead most in
+          let functions = same-functions known t refl in
+          record {
+            tables = record {
+              counted = counted-after known t (v .rows) n (n .few-variables) (n .few-defined) (n .few-functions) (omega arith);
+              names-hold = names-kept (same-defined known t refl) functions (same-variables known t refl) (before .tables .names-hold);
+              places-hold = g .places-hold z;
+              grammars-hold = rw (functions, g .kept) (before .tables .grammars-hold);
+              forms-room = before .tables .forms-room;
+            };
+            nodes-within = g .within z;
+            forms-within = omega (arith, before .forms-within);
+          }
+
+  -- What the other commands give.
+  pub others : (code ≡ 9 → ⊥) → (code ≡ 10 → ⊥) → (code ≡ 11 → ⊥) → (code ≡ 12 → ⊥) → {v : Verdict} → v ≡ record { number = 0; place = i; rows = 0 }
+      → CommandTested c names raw places nodes v
+  others n9 n10 n11 n12 {v} e =
+      let before = c .commanded in
+      let n = before .tables .counted in
+      let ends = ends-in (before .here) in
+      let t = command-is refl in
+      let e9 = ne-eqb code 9 n9 in
+      let e10 = ne-eqb code 10 n10 in
+      let e11 = ne-eqb code 11 n11 in
+      let e12 = ne-eqb code 12 n12 in
+      let functions = same-functions known t e11 in
+      let defined = same-defined known t e10 in
+      let zero : v .number ≡ 0 = ap (λ (w : Verdict). w .number) e in
+      by-code refl (rw (others-pass allowed nowhere known i command later t e9 e10 e11 e12) zero) refl (parts-same nodes) (λ z. record {
+        tables = record {
+          counted =
+              counted-after known t (v .rows) n
+              (rw e9 (n .few-variables))
+              (rw e10 (n .few-defined))
+              (rw e11 (n .few-functions))
+              (rw e12 (n .few-constraints));
+          names-hold = names-kept defined functions (same-variables known t e9) (before .tables .names-hold);
+          places-hold = rw (e10, e12) (places-kept defined functions (same-constraints known t e12) (before .tables .places-hold));
+          grammars-hold = rw (e11, functions) (before .tables .grammars-hold);
+          forms-room = rw e11 (before .tables .forms-room);
+        };
+        nodes-within = rw (e10, e12) (omega (arith, before .nodes-within));
+        forms-within = rw e11 (omega (arith, before .forms-within));
+      })

@@ -1,0 +1,78 @@
+//! What a command says, in numbers.
+use crate::Step;
+use lexemes::codes::CHECK_SYNTH;
+use lexemes::codes::CONSTRAINT;
+use lexemes::codes::DECLARE_VAR;
+use lexemes::codes::DEFINE_FUN;
+use lexemes::codes::SET_LOGIC;
+use lexemes::codes::SYNTH_FUN;
+use script::Progress;
+use script::Verdict;
+use script::answers::ACCEPTED;
+ghost use mathlib.Core.Bool.{cond};
+ghost use mathlib.Core.Path.{_≡_};
+ghost use Prim.Native.Nat.{_+_, _≤_};
+ghost use Rattle.forest.specs.Limits.{scriptWords};
+ghost use Rattle.script_reader.specs.code.Commands.{saidBy};
+ghost use Rattle.script_reader.specs.code.Progress.{Few, Stepped, outOfPlaceBy};
+
+// Whether a command of the code is out of place.
+pub fn out_of_place(progress: Progress, code: u64) -> bool
+    ensures { λ r. ⌜ r ≡ outOfPlaceBy progress code ⌝ }
+{
+    progress.ended
+        | (!progress.logic & (code != SET_LOGIC))
+        | (progress.logic & (code == SET_LOGIC))
+        | ((code == CHECK_SYNTH) & (progress.functions == 0))
+}
+
+// A number that grows by some where the test says so.
+fn grown(count: usize, grows: bool, by: usize) -> usize
+    requires { ⌜ cond grows (count + by) count ≤ scriptWords ⌝ }
+    ensures { λ r. ⌜ r ≡ cond grows (count + by) count ⌝ }
+{
+    if grows {
+        return count + by;
+    }
+    count
+}
+
+// What is said after a command of the code, which takes so many rows.
+fn said(progress: Progress, code: u64, rows: usize) -> Progress
+    requires { ⌜ Few (saidBy progress code rows) ⌝ }
+    ensures { λ r. ⌜ r ≡ saidBy progress code rows ⌝ }
+{
+    let term = (code == DEFINE_FUN) | (code == CONSTRAINT);
+    Progress {
+        logic: progress.logic | (code == SET_LOGIC),
+        ended: progress.ended | (code == CHECK_SYNTH),
+        variables: grown(progress.variables, code == DECLARE_VAR, 1),
+        defined: grown(progress.defined, code == DEFINE_FUN, 1),
+        functions: grown(progress.functions, code == SYNTH_FUN, 1),
+        constraints: grown(progress.constraints, code == CONSTRAINT, 1),
+        nodes: grown(progress.nodes, term, rows),
+        forms: grown(progress.forms, code == SYNTH_FUN, rows),
+    }
+}
+
+// The answer of a number at a word.
+pub fn answer(number: usize, place: usize, progress: Progress) -> Step
+    ensures { λ r. ⌜ r ≡ record { number = number; place = place; progress = progress } ⌝ }
+{
+    Step {
+        number,
+        place,
+        progress,
+    }
+}
+
+// The step that a command of the code makes by its verdict.
+pub fn step_by(progress: Progress, code: u64, verdict: Verdict) -> Step
+    requires { ⌜ (verdict .number ≡ 0 → Few (saidBy progress code (verdict .rows))) ⌝ }
+    ensures { λ r. ⌜ Stepped progress code verdict r ⌝ }
+{
+    if verdict.number != 0 {
+        return answer(verdict.number, verdict.place, progress);
+    }
+    answer(ACCEPTED, verdict.place, said(progress, code, verdict.rows))
+}

@@ -1,0 +1,58 @@
+-- A script, from its bytes.
+use Prim.Native.Nat.{ℕ, _*_}
+use native.Mathlib.Omega.{arith}
+use mathlib.Core.Path.{_≡_, refl, ap, _∙_}
+use mathlib.Core.List.{List}
+use lib.ListN.{take}
+use Rattle.words.specs.Reading.{readingOf}
+use Rattle.words.specs.Answers.{numberOf, placeOf}
+use Rattle.words.specs.Limits.{scriptLimits}
+use Rattle.words.specs.declared.Reading.{Reading}
+use Rattle.words.specs.declared.Reading.the-variants.{Whole, Refused}
+use Rattle.lexemes.specs.code.Table.{rowWidth as lexemeWidth}
+use Rattle.lexemes.specs.Lists.{itemsOf}
+use Rattle.lexemes.proofs.WholeText.{text-stands}
+use Rattle.term_faults.proofs.Texts.{text-lawful}
+use Rattle.forest.specs.Limits.{allowed}
+use Rattle.script.specs.Script.{Read, passed, readAll, refused, nothingKnown}
+use Rattle.script_reader.specs.code.Commands.{Reads}
+use Rattle.script_reader.specs.code.Scripts.{ScriptAt, ScriptRead as CommandsRead}
+use Rattle.script_reader.specs.declared.Step.{Step}
+use Rattle.script.specs.Outcome.{byCommands, offsetOf, scriptOutcome}
+use Rattle.texts.specs.code.Scripts.{Lent, ScriptRead, ScriptTold}
+use Rattle.texts.specs.code.Lexed.{Worded}
+use Rattle.texts.proofs.TextLexemes.{only-lexemes}
+
+-- a word is refused
+pub words-refused : {text names places nodes : List ℕ} (r : Reading) {s : Step} → r ≡ readingOf scriptLimits text → (numberOf r ≡ 0 → ⊥)
+    → (s .number ≡ numberOf r) × (s .place ≡ placeOf r) → ScriptRead text names places nodes s
+unfolding scriptOutcome
+words-refused (Whole n) e some told = absurd (some refl)
+words-refused (Refused fault place n) e some told = record { told = rw (← e) told }
+
+module _ {text lexemes names raw places nodes : List ℕ} {n : ℕ} (w : Worded scriptLimits text lexemes n) (lent : Lent names raw places nodes) where
+  -- what the reading of commands asks
+  abbrev pub script-at : ScriptAt text (take (lexemeWidth * n) lexemes) names raw places nodes n
+  script-at =
+      record {
+        items = itemsOf text;
+        stands = rw (only-lexemes w) (text-stands scriptLimits text n (w .whole));
+        lawful = rw (only-lexemes w) (text-lawful scriptLimits text n (w .whole));
+        few = w .few;
+        table = lent .table;
+        long = lent .long;
+        roomy = record { raw-room = omega (arith, w .few, lent .raw-room); nodes-room = omega (arith, w .few, lent .nodes-room) };
+      }
+
+  -- the commands are read
+  pub commands-told : {namesAfter placesAfter nodesAfter : List ℕ} {s : Step} {offset : ℕ}
+      → CommandsRead script-at namesAfter placesAfter nodesAfter s → offset ≡ offsetOf text (s .place)
+      → ScriptRead text namesAfter placesAfter nodesAfter (record { number = s .number; place = offset; progress = s .progress })
+  unfolding scriptOutcome
+  commands-told {namesAfter} {placesAfter} {nodesAfter} {s} {offset} done at =
+      record { told = rw (w .whole) (go (readAll allowed n nothingKnown (itemsOf text)) (done .reads)) }
+    where
+      go : (r : Read) → Reads r namesAfter placesAfter nodesAfter s
+          → ScriptTold (byCommands text r) namesAfter placesAfter nodesAfter (record { number = s .number; place = offset; progress = s .progress })
+      go (refused number place) (e, f) = (e, at ∙ ap (offsetOf text) f)
+      go (passed k) (e, held) = (e, held, omega (arith, done .nodes-within e, w .few))

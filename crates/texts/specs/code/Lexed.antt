@@ -1,0 +1,30 @@
+-- What the reading of the words and lexemes of one text asks and gives.
+use Prim.Native.Nat.{ℕ, _+_, _*_, _≤_}
+use mathlib.Core.List.{List, _++_}
+use mathlib.Core.Path.{_≡_}
+use lib.ListN.{length}
+use Rattle.words.specs.Reading.{readingOf}
+use Rattle.words.specs.Words.{wordsOf}
+use Rattle.forest.specs.Limits.{scriptWords}
+use Rattle.lexemes.specs.code.Table.{lexemeTable, rowWidth as lexemeWidth}
+use Rattle.words.specs.Answers.{numberOf, passed}
+use Rattle.words.specs.declared.Limits.{Limits}
+use Rattle.words.specs.declared.Reading.{Reading}
+use Rattle.words.specs.declared.Reading.the-variants.{Whole}
+
+-- The limits are not past those of a script, and there is a row for each word that they allow.
+pub record Room (limits : Limits) (lexemes : List ℕ) : Type 0 where
+  pub few-words : limits .words ≤ scriptWords
+  pub lexemes-room : lexemeWidth * limits .words ≤ length lexemes
+
+-- A text is read whole, and the table begins with its lexemes.
+pub record Worded (limits : Limits) (text lexemes : List ℕ) (n : ℕ) : Type 0 where
+  pub whole : readingOf limits text ≡ Whole n
+  pub few : n ≤ limits .words
+  pub rest : List ℕ
+  pub is-lexemes : lexemes ≡ lexemeTable text (wordsOf text) ++ rest
+
+-- What is found in the words of a text; where none is refused, the table holds their lexemes.
+pub record Lexed (limits : Limits) (text lexemes : List ℕ) (r : Reading) : Type 0 where
+  pub found : r ≡ readingOf limits text
+  pub worded : numberOf r ≡ 0 → Worded limits text lexemes (passed r)
