@@ -1,5 +1,5 @@
-"""Cases of the checker, each with the answer that follows from how it is made: the rows of the table of answers, points and budgets, calls and costs, and the
-bench. Those of the limits stand in limits.py.
+"""Cases of the checker, each with the answer that follows from how it is made: the rows of the table of answers, points and budgets, calls and costs, what is
+seen, and the bench. Those of the limits stand in limits.py.
 
 A text may have the mark § in it, which is no part of it: it stands at the answer's place.
 """
@@ -360,6 +360,74 @@ def costs_past_budgets():
         for answer, budget in ((false_at(0, 0, 255), 255), (ended_at(0, 0, 0), 254))])
 
 
+# What is seen
+
+X = "(x (_ BitVec 8))"
+
+
+def applied(k):
+    """An application of dk, and x alone for the one before d0: where x is 0 its value is 2^(k + 1) - 1, and it costs 4 * k + 5."""
+    return "(d%d x)" % k if k >= 0 else "x"
+
+
+def adding(k):
+    """The `define-fun` dk: it adds 2^k to what the one before it gives, so that no two give the same or cost the same."""
+    return defined("d%d" % k, X, bits(8), "(bvadd %s #x%02x)" % (applied(k - 1), 2 ** k))
+
+
+def calling(name, count):
+    """A function whose grammar has its argument and the first `define-fun`s, each by its rule."""
+    return function(name, X, bits(8), "x" + row(count, lambda k: " (d%d A)" % k))
+
+
+def gives(name, k):
+    """A constraint that a function gives for 0 what dk gives."""
+    return constraint("(= (%s #x00) #x%02x)" % (name, 2 ** (k + 1) - 1))
+
+
+def among(counts, *constraints):
+    """A script with so many `define-fun`s before the function f, between f and g, and after g, each in a constraint behind those that are given."""
+    first, second, last = counts[0], counts[0] + counts[1], sum(counts)
+    made = [adding(k) for k in range(last)]
+    checks = [gives("d%d" % k, k) for k in range(last)]
+    return script(*made[:first], calling("f", first), *made[first:second], calling("g", second), *made[second:], *constraints, *checks)
+
+
+def calls_of(counts):
+    """Each `define-fun` called by the body of f and by that of g, beside a body of the other that calls none: 7 where it stands behind the function."""
+    last = sum(counts)
+    for sees, place in ((counts[0], 0), (counts[0] + counts[1], 1)):
+        for k in range(last):
+            called = [-1, -1]
+            called[place] = k
+            bodies = [applied(i) for i in called]
+            if k >= sees:
+                bodies[place] = bodies[place].replace("d", MARK + "d")
+            cost = sum(4 * i + 9 for i in called) + sum(4 * i + 7 for i in range(last))
+            given = among(counts, gives("f", called[0]), gives("g", called[1]))
+            answers = response(*[defined(name, X, bits(8), body) for name, body in zip("fg", bodies)])
+            yield case(given, answers, accepted(1, cost) if k < sees else refused(7), budget=cost)
+
+
+def seen_by_bodies():
+    """Two functions with `define-fun`s before, between and after them; and what the last `define-fun`s would give in place of the first, which is false."""
+    for counts in ((1, 2, 1), (2, 1, 0), (0, 1, 1)):
+        yield from named("seen-%d-%d-%d" % counts, calls_of(counts))
+    bodies = response(*[defined(name, X, bits(8), applied(0)) for name in "fg"])
+    for i, (f, g, answer) in enumerate(((3, 0, false_at(0, 0, 9)), (0, 1, false_at(0, 1, 18))), 1):
+        yield case(among((1, 2, 1), gives("f", f), gives("g", g)), bodies, answer, budget=18, name="seen-last-%d" % i)
+
+
+def seen_by_commands():
+    """A rule, a `define-fun` and a constraint that call a later `define-fun`, a later function, or a function where only a constraint may: 7."""
+    d0, d1, f, g = adding(0), adding(1), calling("f", 0), calling("g", 1)
+    later = function("f", X, bits(8), "x (d0 A) (§d1 A)")
+    yield from named("unseen", [
+        case(script(*commands), TRUE, refused(7)) for commands in (
+            (d0, later, d1, g), (d0, f, g.replace("(d0", "(§d1"), d1), (d0, f, g.replace("(d0", "(§f"), d1), (f, d1.replace("(d0", "(§d0"), g, d0),
+            (f, d0.replace("x #x", "(§f x) #x"), g), (d0, f, gives("d0", 0), gives("§d1", 1), d1, g), (d0, f, gives("§g", 0), d1, g))])
+
+
 # The bench
 
 SWAP_RULES = "#x00000000 #x00000001 #xFFFFFFFF x (bvand BV32 BV32) (bvor BV32 BV32) (bvnot BV32) (concat BV16 BV16)"
@@ -450,5 +518,6 @@ def values():
 def all_cases():
     """Every case of this file."""
     for some in (
-            refusals, grammar_verdicts, orders, points_and_budgets, point_values, budgets, calls, costs_of_d, costs_past_budgets, swaps, rings, slips, values):
+            refusals, grammar_verdicts, orders, points_and_budgets, point_values, budgets, calls, costs_of_d, costs_past_budgets, seen_by_bodies,
+            seen_by_commands, swaps, rings, slips, values):
         yield from some()

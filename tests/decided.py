@@ -1,8 +1,9 @@
 #!/usr/bin/env python3
-"""The crate test_decided's table of decided readings: tests/decided.py [--check]
+"""The crate test_decided's tables of decided readings and of limits: tests/decided.py [--check]
 
 Writes crates/test_decided/proofs/Readings.antt from tests/readings.jsonl: the readings whose texts have no fault in a word and at most 200 printable bytes each, without
-comments. Each is proved of the definitions by its answer's number and the index of the word at its place. With --check it says whether that file is what it would write.
+comments. Writes proofs/Limits.antt from crates/test_vectors: the records at the limits on commands, arguments, non-terminals, rules and nodes, and one past them. Each is
+proved of the definitions by its answer's number and the index of the word at its place. With --check it says whether these files are what it would write.
 """
 import glob
 import json
@@ -13,14 +14,19 @@ import sys
 HERE = os.path.dirname(os.path.abspath(__file__))
 CRATES = os.path.join(HERE, "..", "crates")
 READINGS = os.path.join(HERE, "readings.jsonl")
-TABLE = os.path.join(CRATES, "test_decided", "proofs", "Readings.antt")
+RECORDS = os.path.join(CRATES, "test_vectors")
+PROOFS = os.path.join(CRATES, "test_decided", "proofs")
 
-LONGEST = 200                       # bytes of a text that the prover computes with
+LONGEST = 200                       # bytes of a reading's text that the prover computes with
+LONGEST_AT_LIMIT = 1400             # and of a text at a limit
 NESTING = 64
 NOT_BY_WORDS = (1, 2, 3)            # answers that stand before the words are known
 WITHOUT_WORD = (10, 11)             # answers whose place is 0 and no word
 SCRIPT, RESPONSE = 0, 1             # the texts that an answer speaks of
 NO_DERIVATION = 13
+
+# The records at a limit on what a script or a response says, and one past it; the table of each kind is proved by itself, since the prover's steps have a limit too.
+AT_LIMIT = re.compile(r"(functions|(?:defined-)?arguments|defined|variables|constraints|non-terminals|rules|nodes-\w+)-\d+")
 
 # A word that is too large or of no form.
 FAULTY = re.compile(r"[^ ()]{65,}|(?<![^ ()])[0-9]{10,}|#x[0-9a-fA-F]{17,}|#b[01]{65,}|(?<![^ ()])(#x|#b|#)(?=[ ()]|$)|#[^xb]")
@@ -40,8 +46,14 @@ NAMED = {"Rattle.forest.specs.Limits": ["allowed"],
          "Rattle.script.specs.Script": ["Known", "Read", "passed", "refused", "nothingKnown"],
          "Rattle.script.specs.Response": ["Answered", "bodies", "refused as refusedBody"]}
 
+READINGS_HEAD = "-- Decided readings of document 01, computed from the definitions: one table under one statement. A place is a word.\n"
+
+LIMITS_HEAD = """\
+-- "The limit itself passes; one more is refused": texts at the limits on commands, arguments, non-terminals, rules and nodes and one past them, computed from the
+-- definitions. A place is a word.
+"""
+
 HEAD = """\
--- Decided readings of document 01, computed from the definitions: one table under one statement. A place is a word.
 use Prim.Native.Nat.{ℕ}
 use Prim.Native.String.{String}
 use mathlib.Core.List.{List, [], _∷_, map}
@@ -58,38 +70,41 @@ pub record Reading : Type 0 where
   pub answer : List ℕ
 
 -- One row of the table.
-abbrev row : (script response : String) → List ℕ → Reading
+abbrev pub row : (script response : String) → List ℕ → Reading
 row s r a = record { script = s; response = r; answer = a }
 
 -- The answer to a response.
-abbrev bodiesAnswer : Answered → List ℕ
+abbrev pub bodiesAnswer : Answered → List ℕ
 bodiesAnswer (refusedBody number place) = number ∷ place ∷ []
 bodiesAnswer (bodies ts) = []
 
 -- The answer to a script, and where it passes to the response, a text.
-abbrev bothAnswer : (response : List ℕ) → Read → List ℕ
+abbrev pub bothAnswer : (response : List ℕ) → Read → List ℕ
 bothAnswer response (refused number place) = number ∷ place ∷ []
 bothAnswer response (passed k) =
     bodiesAnswer (answered allowed (length (wordsOf response)) (k .defined) (inScriptOrder (k .functions)) (itemsOf response))
 
 -- What the definitions answer to two texts.
-abbrev textsAnswer : (script response : List ℕ) → List ℕ
+abbrev pub textsAnswer : (script response : List ℕ) → List ℕ
 textsAnswer script response = bothAnswer response (readAll allowed (length (wordsOf script)) nothingKnown (itemsOf script))
 
 -- What they answer to a reading.
-abbrev defined : Reading → List ℕ
+abbrev pub defined : Reading → List ℕ
 defined reading = textsAnswer (spelling (reading .script)) (spelling (reading .response))
 
--- The readings.
-abbrev readings : List Reading
-readings =
+"""
+
+TABLE = """
+-- %s
+abbrev %s : List Reading
+%s =
 """
 
 THEOREM = """
 -- The definitions answer every one of them so.
-pub decided : map defined readings ≡ map (λ (r : Reading). r .answer) readings
+pub %s : map defined %s ≡ map (λ (r : Reading). r .answer) %s
 unfolding %s
-decided = refl
+%s = refl
 """
 
 
@@ -100,10 +115,10 @@ def word_starts(text):
     return [found.start() for found in re.finditer(r"[()]|[^ ()]+", text)]
 
 
-def plain(digits):
+def plain(digits, longest):
     """A text from its bytes in hexadecimal; None where it is long, or has a byte that the table does not write."""
     text = bytes.fromhex(digits)
-    if len(text) > LONGEST or any(not 32 <= byte < 127 for byte in text) or re.search(rb'["\\|:;]', text):
+    if len(text) > longest or any(not 32 <= byte < 127 for byte in text) or re.search(rb'["\\|:;]', text):
         return None
     return text.decode()
 
@@ -128,10 +143,10 @@ def word_at(text, offset):
 
 # Readings
 
-def case_of(reading):
-    """A reading as (script, response, answer) in words; None where the table does not have it."""
-    script, response = plain(reading["script"]), plain(reading["response"])
-    number, text, place = reading["answer"][:3]
+def case_of(script, response, answer, longest):
+    """A case from its texts in hexadecimal and its answer, as (script, response, answer) in words; None where the table does not have it."""
+    script, response = plain(script, longest), plain(response, longest)
+    number, text, place = answer[:3]
     if script is None or number in NOT_BY_WORDS or not well_formed(script):
         return None
     if text == SCRIPT:
@@ -147,14 +162,27 @@ def case_of(reading):
     return None if word is None else (script, response, (number, word))
 
 
-def cases():
-    """The cases of the table, each pair of texts once."""
+def readings():
+    """The cases of the readings, each pair of texts once."""
     with open(READINGS, encoding="utf-8") as lines:
-        found = {case[:2]: case for case in map(case_of, map(json.loads, lines)) if case}
-    return list(found.values())
+        given = [case_of(reading["script"], reading["response"], reading["answer"], LONGEST) for reading in map(json.loads, lines)]
+    return list({case[:2]: case for case in given if case}.values())
 
 
-# The file
+def limits():
+    """The cases of the records at the limits, by their kind."""
+    found = {}
+    with open(os.path.join(RECORDS, "stdin"), encoding="ascii") as given, open(os.path.join(RECORDS, "stdout"), encoding="ascii") as written:
+        for record, line in zip(given, written):
+            name, script, response = record.split()[:3]
+            kind = AT_LIMIT.fullmatch(name)
+            if kind:
+                answer = [int(number) for number in line.split(" answer ")[1].split()[:3]]
+                found.setdefault(kind.group(1), []).append(case_of(script, response, answer, LONGEST_AT_LIMIT))
+    return found
+
+
+# The files
 
 def definitions(crate):
     """The definitions of a crate that the prover unfolds: (module, names), each name as it is imported."""
@@ -188,25 +216,34 @@ def row(case):
     return 'row "%s" "%s" %s' % (script, response, "(%d ∷ %d ∷ [])" % answer if answer else "[]")
 
 
-def written():
-    """The text of the file, and how many readings it has."""
+def table(sentence, name, theorem, cases, names):
+    """A table of cases, and the theorem on it."""
+    rows = "    " + "\n    ∷ ".join([row(case) for case in cases] + ["[]"]) + "\n"
+    return TABLE % (sentence, name, name) + rows + THEOREM % (theorem, name, name, " ".join(names), theorem)
+
+
+def files():
+    """The text of each file."""
     imports, names = unfolded()
-    uses = ["use %s.{%s}\n" % (module, ", ".join(sorted(imports[module], key=lambda name: (name.lower(), name)))) for module in sorted(imports)]
-    rows = [row(case) for case in cases()]
-    table = "    " + "\n    ∷ ".join(rows + ["[]"]) + "\n"
-    return HEAD + "".join(uses) + DEFINITIONS + table + THEOREM % " ".join(names), len(rows)
+    uses = "".join("use %s.{%s}\n" % (module, ", ".join(sorted(imports[module], key=lambda name: (name.lower(), name)))) for module in sorted(imports))
+    decided = table("The readings.", "readings", "decided", readings(), names)
+    held = "".join(table("The limit on %s." % kind.replace("-", " "), kind + "-texts", kind + "-held", cases, names) for kind, cases in limits().items())
+    own = "use Rattle.test_decided.proofs.Readings.{Reading, bodiesAnswer, bothAnswer, defined, row, textsAnswer}\n"
+    return {"Readings.antt": READINGS_HEAD + HEAD + uses + DEFINITIONS.rstrip("\n") + "\n" + decided, "Limits.antt": LIMITS_HEAD + HEAD + uses + own + held}
 
 
 def main():
-    """Writes the file, or compares it with what stands there."""
-    text, count = written()
-    if "--check" in sys.argv[1:]:
-        with open(TABLE, encoding="utf-8") as file:
-            return file.read() != text
-    with open(TABLE, "w", encoding="utf-8") as file:
-        file.write(text)
-    print("%d readings" % count)
-    return 0
+    """Writes the files, or compares them with what stands there."""
+    wrong = False
+    for name, text in files().items():
+        path = os.path.join(PROOFS, name)
+        if "--check" in sys.argv[1:]:
+            with open(path, encoding="utf-8") as file:
+                wrong = wrong or file.read() != text
+        else:
+            with open(path, "w", encoding="utf-8") as file:
+                file.write(text)
+    return wrong
 
 
 if __name__ == "__main__":

@@ -1,10 +1,8 @@
 //! The lent area.
+use derivation::UNUSED;
 use forest::limits::AREA;
 ghost use mathlib.Core.Path.{_≡_};
 ghost use Rattle.outcome.specs.Checked.{unshown};
-
-// An entry that no list uses.
-const UNUSED: u16 = 65535;
 
 // Makes every entry of an area unused; one of wrong size is left as it is.
 pub fn blank_area(shown: &mut [u16])

@@ -1,4 +1,5 @@
 -- A set to which no rule can add is the set of all that derive; and the choices lead to a derivation.
+use Rattle.forest.specs.Limits.{mostNonTerminals}
 use mathlib.Core.Path.{_≡_, refl, ap, _∙_, subst}
 use mathlib.Core.Path as path
 use Prim.Native.Nat.{ℕ, suc, _-_, _<_, _≤_, _%_, _^_}
@@ -33,7 +34,7 @@ data Kind (P : Forest Item) : Type 0 where
   is-chain : (B : ℕ) → P ≡ tree (nonTerminal B) none none → Kind P
   is-no-chain : NoChain P → Kind P
 
-kind : (P : Forest Item) → Proper 16 P → count P ≡ 1 → Kind P
+kind : (P : Forest Item) → Proper mostNonTerminals P → count P ≡ 1 → Kind P
 unfolding Proper count
 kind none pr c = absurd (omega arith)
 kind (tree (the s) ps qs) pr c = is-no-chain (λ A xs ys e. let z : _≡_ {A = ℕ} 0 1 = cc in omega arith)
@@ -42,7 +43,7 @@ kind (tree (anyArgument s) ps qs) pr c = is-no-chain (λ A xs ys e. let z : _≡
 kind (tree (nonTerminal B) ps qs) pr c =
     is-chain B (ap (λ (x : Forest Item). tree (nonTerminal B) x qs) (pr .1) ∙ ap (tree (nonTerminal B) none) (count-zero qs (omega arith)))
 
-low-proper : (B : ℕ) → Proper 16 (tree (nonTerminal B) none none) → B < 16
+low-proper : (B : ℕ) → Proper mostNonTerminals (tree (nonTerminal B) none none) → B < mostNonTerminals
 unfolding Proper
 low-proper B p = p .0
 
@@ -131,20 +132,20 @@ module _ {rules forms body masks : List ℕ} {i : ℕ} (q : Asks rules forms bod
 
   -- every member of s has its choices
   abbrev pub Chosen : List ℕ → ℕ → Type 0
-  Chosen chosen s = (A : ℕ) → A < 16 → has s A ≡ true → (k : ℕ) × Chain G T s chosen A k × (k ≤ cnt (has s) 16)
+  Chosen chosen s = (A : ℕ) → A < mostNonTerminals → has s A ≡ true → (k : ℕ) × Chain G T s chosen A k × (k ≤ cnt (has s) mostNonTerminals)
 
-  pub grows : (s r s' : ℕ) → r < length (G .rules) → has s (headOf (G .rules) r) ≡ false → Puts s (headOf (G .rules) r) s' → cnt (has s) 16 < cnt (has s') 16
+  pub grows : (s r s' : ℕ) → r < length (G .rules) → has s (headOf (G .rules) r) ≡ false → Puts s (headOf (G .rules) r) s' → cnt (has s) mostNonTerminals < cnt (has s') mostNonTerminals
   grows s r s' h f p =
-      cnt-grow (has s) (has s') 16 (headOf (G .rules) r) (λ j l t. p .off j (λ e. true≢false (path.sym t ∙ ap (has s) e ∙ f)) ∙ t)
+      cnt-grow (has s) (has s') mostNonTerminals (headOf (G .rules) r) (λ j l t. p .off j (λ e. true≢false (path.sym t ∙ ap (has s) e ∙ f)) ∙ t)
       (q .given .admitted .low r h) f (p .on)
 
   -- the rule that was set is the one chosen
-  now-chosen : (chosen : List ℕ) (r : ℕ) → length chosen ≡ 16 → r < length (G .rules) → getD (set chosen (headOf (G .rules) r) r) (headOf (G .rules) r) 0 ≡ r
+  now-chosen : (chosen : List ℕ) (r : ℕ) → length chosen ≡ mostNonTerminals → r < length (G .rules) → getD (set chosen (headOf (G .rules) r) r) (headOf (G .rules) r) 0 ≡ r
   now-chosen chosen r lc h = getD-set-same chosen (headOf (G .rules) r) r 0 (omega (arith, q .given .admitted .low r h))
 
-  new-chain : (chosen : List ℕ) (s r s' : ℕ) → length chosen ≡ 16 → r < length (G .rules) → Chosen chosen s → has s (headOf (G .rules) r) ≡ false
+  new-chain : (chosen : List ℕ) (s r s' : ℕ) → length chosen ≡ mostNonTerminals → r < length (G .rules) → Chosen chosen s → has s (headOf (G .rules) r) ≡ false
       → Puts s (headOf (G .rules) r) s' → Applies G T s r
-      → (k : ℕ) × Chain G T s' (set chosen (headOf (G .rules) r) r) (headOf (G .rules) r) k × (k ≤ cnt (has s') 16)
+      → (k : ℕ) × Chain G T s' (set chosen (headOf (G .rules) r) r) (headOf (G .rules) r) k × (k ≤ cnt (has s') mostNonTerminals)
   new-chain chosen s r s' lc h c f p (chain B is y!) =
       let g = now-chosen chosen r lc h in
       let b = c B (low-of B is) y! in (
@@ -153,17 +154,17 @@ module _ {rules forms body masks : List ℕ} {i : ℕ} (q : Asks rules forms bod
         omega (arith, b .2, grows s r s' h f p),
       )
     where
-      low-of : (B : ℕ) → formOf (G .rules) r ≡ tree (nonTerminal B) none none → B < 16
-      low-of B is = low-proper B (subst (Proper 16) is (q .given .admitted .proper r h))
+      low-of : (B : ℕ) → formOf (G .rules) r ≡ tree (nonTerminal B) none none → B < mostNonTerminals
+      low-of B is = low-proper B (subst (Proper mostNonTerminals) is (q .given .admitted .proper r h))
   new-chain chosen s r s' lc h c f p (no-chain np fi) =
       let g = now-chosen chosen r lc h in
       (1, stop (p .on) (rw g h) (ap (headOf (G .rules)) g) (rw g np) (rw g fi), omega (arith, grows s r s' h f p))
 
-  pub chosen-step : (chosen : List ℕ) (s r s' : ℕ) → length chosen ≡ 16 → r < length (G .rules) → Chosen chosen s → has s (headOf (G .rules) r) ≡ false
+  pub chosen-step : (chosen : List ℕ) (s r s' : ℕ) → length chosen ≡ mostNonTerminals → r < length (G .rules) → Chosen chosen s → has s (headOf (G .rules) r) ≡ false
       → Puts s (headOf (G .rules) r) s' → Applies G T s r → Chosen (set chosen (headOf (G .rules) r) r) s'
   chosen-step chosen s r s' lc h c f p ap! A l t = go (ℕ-discrete A (headOf (G .rules) r))
     where
-      go : Dec (A ≡ headOf (G .rules) r) → (k : ℕ) × Chain G T s' (set chosen (headOf (G .rules) r) r) A k × (k ≤ cnt (has s') 16)
+      go : Dec (A ≡ headOf (G .rules) r) → (k : ℕ) × Chain G T s' (set chosen (headOf (G .rules) r) r) A k × (k ≤ cnt (has s') mostNonTerminals)
       go (yes e) = rw e (new-chain chosen s r s' lc h c f p ap!)
       go (no e) =
           let o = c A l (path.sym (p .off A e) ∙ t) in

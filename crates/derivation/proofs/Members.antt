@@ -1,4 +1,5 @@
 -- The loop that finds the non-terminals of a node.
+use Rattle.forest.specs.Limits.{mostNonTerminals}
 use mathlib.Core.Path.{_≡_, sym, _∙_, subst}
 use Prim.Native.Nat.{ℕ, _-_, _/_, _<_}
 use native.Mathlib.Omega.{arith}
@@ -19,11 +20,11 @@ use Rattle.derivation.proofs.Uses.{rules-count, head-low, head-is}
 pub record State (rules forms body masks : List ℕ) (i count : ℕ) (chosen : List ℕ) (s : ℕ) : Type 0 where
   pub asks : Asks rules forms body masks i
   pub all : (q : Asks rules forms body masks i) → count ≡ length (q .given .G .rules)
-  pub sixteen : length chosen ≡ 16
+  pub sixteen : length chosen ≡ mostNonTerminals
   pub members : (q : Asks rules forms body masks i) → Chosen q chosen s
 
 module _ {rules forms body masks : List ℕ} {i : ℕ} where
-  pub state-start : (chosen : List ℕ) → Asks rules forms body masks i × (length chosen ≡ 16) → {count : ℕ} → count ≡ length rules / 2
+  pub state-start : (chosen : List ℕ) → Asks rules forms body masks i × (length chosen ≡ mostNonTerminals) → {count : ℕ} → count ≡ length rules / 2
       → State rules forms body masks i count chosen 0
   state-start chosen p e = record {
     asks = p .0;
@@ -40,14 +41,14 @@ module _ {rules forms body masks : List ℕ} {i : ℕ} where
         sound = λ A l t. chain-derives a (v .members a A l t .1);
         complete = λ A l d. complete a s (f .none-left a (e ∙ v .all a)) A d;
       };
-      chains = λ a A l t. let o = v .members a A l t in (o .0, o .1, omega (arith, o .2, cnt-le (has s) 16));
+      chains = λ a A l t. let o = v .members a A l t in (o .0, o .1, omega (arith, o .2, cnt-le (has s) mostNonTerminals));
     }
 
     module _ (ne : r ≡ count → ⊥) {x : ℕ} (ex : x ≡ nonTerminalAt rules r) where
       is-rule : (a : Asks rules forms body masks i) → r < length (a .given .G .rules)
       is-rule a = lt-of-le-ne (f .bound a) (λ e. ne (e ∙ sym (v .all a)))
 
-      pub member-low : x < 16
+      pub member-low : x < mostNonTerminals
       member-low = omega (arith, ex, head-low (v .asks) r (is-rule (v .asks)))
 
       head : (a : Asks rules forms body masks i) → headOf (a .given .G .rules) r ≡ x
@@ -57,8 +58,8 @@ module _ {rules forms body masks : List ℕ} {i : ℕ} where
         put : (a : Asks rules forms body masks i) → Puts s (headOf (a .given .G .rules) r) s'
         put a = rw (head a) p
 
-        pub more-members : 16 - cnt (has s') 16 < 16 - cnt (has s) 16
-        more-members = let a = v .asks in omega (arith, grows a s r s' (is-rule a) (f .found a (is-rule a) .1) (put a), cnt-le (has s') 16)
+        pub more-members : mostNonTerminals - cnt (has s') mostNonTerminals < mostNonTerminals - cnt (has s) mostNonTerminals
+        more-members = let a = v .asks in omega (arith, grows a s r s' (is-rule a) (f .found a (is-rule a) .1) (put a), cnt-le (has s') mostNonTerminals)
 
         pub state-step : State rules forms body masks i count (set chosen x r) s'
         state-step = record {

@@ -1,4 +1,5 @@
 -- The walk of a rule over the body: what holds at each pair of places, and how a step keeps it.
+use Rattle.forest.specs.Limits.{mostNonTerminals}
 use mathlib.Core.Path.{_≡_, refl, sym, ap, _∙_, subst}
 use Prim.Native.Nat.{ℕ, suc, _+_, _*_, _<_, _≤_}
 use native.Mathlib.Omega.{arith}
@@ -54,7 +55,7 @@ module _ {rules forms body masks : List ℕ} {i r : ℕ} (q : AsksNoChain rules 
     pub is : from (rightSides (G .rules)) p ≡ join left (where-rule .rest)
     pub ends : p + size left ≡ end
     pub enough : count left ≤ count (from F j)
-    pub prop : Proper 16 left
+    pub prop : Proper mostNonTerminals left
     pub past : i ≤ j
     pub late : (A : ℕ) (ps qs : Forest Item) → left ≡ tree (nonTerminal A) ps qs → i < j
     pub to : Fits G P (from F i) → Fits G left (from F j)
@@ -115,9 +116,9 @@ module _ {rules forms body masks : List ℕ} {i r : ℕ} (q : AsksNoChain rules 
       pub A : ℕ
       pub qs : Forest Item
       pub is : a .left ≡ tree (nonTerminal A) none qs
-      pub low : A < 16
+      pub low : A < mostNonTerminals
       pub value : valueAt forms p ≡ A
-      pub prop : Proper 16 qs
+      pub prop : Proper mostNonTerminals qs
 
     pub hole-view : codeAt forms p ≡ nonTerminalKind → HoleAt
     unfolding Proper
@@ -125,7 +126,7 @@ module _ {rules forms body masks : List ℕ} {i r : ℕ} (q : AsksNoChain rules 
         let t = rule-tree in
         let says = rule-says (t .l) (t .ops) (t .rest) (t .is) in
         let e = t .is ∙ ap (λ (x : Item). tree x (t .ops) (t .rest)) (hole-item (t .l) (sym (says .code) ∙ k)) in
-        let pr = subst (Proper 16) e (a .prop) in
+        let pr = subst (Proper mostNonTerminals) e (a .prop) in
         record {
           A = itemValue (t .l);
           qs = t .rest;
@@ -135,7 +136,7 @@ module _ {rules forms body masks : List ℕ} {i r : ℕ} (q : AsksNoChain rules 
           prop = pr .2;
         }
 
-    pub hole-low : codeAt forms p ≡ nonTerminalKind → valueAt forms p < 16
+    pub hole-low : codeAt forms p ≡ nonTerminalKind → valueAt forms p < mostNonTerminals
     hole-low k = let v = hole-view k in omega (arith, v .low, v .value)
 
     pub hole-late : codeAt forms p ≡ nonTerminalKind → i < j
@@ -177,7 +178,7 @@ module _ {rules forms body masks : List ℕ} {i r : ℕ} (q : AsksNoChain rules 
         → NotHole l → Alike (G .arguments) l m → count ts ≡ count ps → At (p + 1) (j + 1)
     step-alike l ps qs m ts us eP eF n al ec =
         let eF1 : from F (j + 1) ≡ join ts us = from-one F j m ts us eF in
-        let pr = subst (Proper 16) eP (a .prop) in
+        let pr = subst (Proper mostNonTerminals) eP (a .prop) in
         record {
           left = join ps qs;
           is = on l ps qs eP;
@@ -185,11 +186,11 @@ module _ {rules forms body masks : List ℕ} {i r : ℕ} (q : AsksNoChain rules 
           enough =
               omega
               (arith, a .enough, ap count eP, ap count eF, ap count eF1, count-join ps qs, count-join ts us, count-node l ps qs, count-node m ts us);
-          prop = proper-on 16 l ps qs pr;
+          prop = proper-on mostNonTerminals l ps qs pr;
           past = omega (arith, a .past);
           late = λ _ _ _ _. omega (arith, a .past);
           to = λ f. rw eF1 (fits-node-to G l ps qs m ts us n (rw (eP, eF) at (a .to f)) .2);
-          back = λ f. a .back (rw (eP, eF) (fits-node G l ps qs m ts us al (proper-bare 16 l ps qs pr) ec (rw eF1 at f)));
+          back = λ f. a .back (rw (eP, eF) (fits-node G l ps qs m ts us al (proper-bare mostNonTerminals l ps qs pr) ec (rw eF1 at f)));
         }
 
     pub step-node : (codeAt forms p ≡ nonTerminalKind → ⊥) → alike forms p body j ≡ true → At (p + 1) (j + 1)
@@ -198,7 +199,7 @@ module _ {rules forms body masks : List ℕ} {i r : ℕ} (q : AsksNoChain rules 
         let b = body-tree in
         let x = rule-says (l .l) (l .ops) (l .rest) (l .is) in
         let y = node-says (b .l) (b .ops) (b .rest) (b .is) in
-        let z = alike-sound x y plain-here fits-here 16 (l .rest) (not-hole k) (subst (Proper 16) (l .is) (a .prop)) w in
+        let z = alike-sound x y plain-here fits-here mostNonTerminals (l .rest) (not-hole k) (subst (Proper mostNonTerminals) (l .is) (a .prop)) w in
         step-alike (l .l) (l .ops) (l .rest) (b .l) (b .ops) (b .rest) (l .is) (b .is) (not-hole k) (z .0) (z .1)
 
     pub fail-node : (codeAt forms p ≡ nonTerminalKind → ⊥) → alike forms p body j ≡ false → Fits G P (from F i) → ⊥
@@ -293,7 +294,7 @@ module _ {rules forms body masks : List ℕ} {i r : ℕ} where
 
     module _ {code : ℕ} (ec : code ≡ codeAt forms p) where
       module _ (k : code ≡ nonTerminalKind) {x : ℕ} (ex : x ≡ valueAt forms p) where
-        pub turn-low : x < 16
+        pub turn-low : x < mostNonTerminals
         turn-low = omega (arith, ex, hole-low (v .pre) p j (v .known (v .pre)) (within (v .pre)) (sym ec ∙ k))
 
         module _ {m : ℕ} (em : m ≡ getD masks j 0) {b : Bool} (eb : b ≡ has m x) where

@@ -19,7 +19,7 @@ use Rattle.derivation.specs.code.Showing.{EmitPre, EmitPost, ShowPre, Sh
 use Rattle.derivation.specs.code.Filling.{AllExact}
 use Rattle.derivation.specs.Answer.{start, listOf, unused}
 use Rattle.derivation.specs.code.Derive.{DerivePre, DerivePost}
-use Rattle.forest.specs.Limits.{listSize}
+use Rattle.forest.specs.Limits.{listSize, mostNodes, mostNonTerminals}
 use Rattle.derivation.proofs.Sweep.{body-size}
 
 -- for one tree, to derive the first tree is to derive it
@@ -74,7 +74,7 @@ module _ {rules forms body masks₀ masks shown : List ℕ} (len : length masks 
             x .ds,
             subst (λ (F : Terms). Simple (p .given .G) [] start F (x .ds)) whole (x .derivation),
             x .wrote,
-            subst (λ (F : Terms). length (x .ds) ≤ 16 * size F) whole (x .few),
+            subst (λ (F : Terms). length (x .ds) ≤ mostNonTerminals * size F) whole (x .few),
           );
           no! = λ t. absurd (true≢false t);
         }
@@ -91,10 +91,10 @@ sets-unused ds n h =
     ∙ ap (λ (x : List ℕ). ds ++ x) (drop-replicate (length ds) n unused)
 
 module _ {rules forms body area : List ℕ} {k n : ℕ} (en : n ≡ length body / 4) where
-  pub masks-fit : DerivePre rules forms body k area → n ≤ 256
+  pub masks-fit : DerivePre rules forms body k area → n ≤ mostNodes
   masks-fit p = omega (arith, en, body-size (p .given), p .fits)
 
-  module _ (ms : List ℕ) (lm : length ms ≡ 256) {blank : List ℕ} (bl : blank ≡ replicate listSize unused) where
+  module _ (ms : List ℕ) (lm : length ms ≡ mostNodes) {blank : List ℕ} (bl : blank ≡ replicate listSize unused) where
     abbrev pub show-pre : DerivePre rules forms body k area → ShowPre rules forms body (take n ms) blank
     show-pre p = record {
       given = p .given;

@@ -1,4 +1,5 @@
 -- The writing of what the non-terminals of a rule derive: the walk of the rule over the body once more, with the list that is written.
+use Rattle.forest.specs.Limits.{mostNonTerminals}
 use mathlib.Core.Path.{_≡_, refl, sym, ap, _∙_, subst}
 use Prim.Native.Nat.{ℕ, suc, _+_, _-_, _*_, _<_, _≤_}
 use native.Mathlib.Nat.{add-zero}
@@ -58,7 +59,7 @@ module _ {rules forms body masks : List ℕ} {i r : ℕ} {shown₀ : List ℕ} {
     pub ws : List ℕ
     pub wrote : shown ≡ sets shown₀ at₀ ws
     pub next : w ≡ at₀ + length ws
-    pub few : length ws + 16 ≤ 16 * (j - i) + 16 * (1 - (j - i))
+    pub few : length ws + mostNonTerminals ≤ mostNonTerminals * (j - i) + mostNonTerminals * (1 - (j - i))
     pub span : j + size (first (count (here .left)) (from F j)) ≡ i + size (first 1 (from F i))
     pub back : (es : List ℕ) → D (here .left) (first (count (here .left)) (from F j)) es → D P (first 1 (from F i)) (ws ++ es)
 
@@ -176,7 +177,7 @@ module _ {rules forms body masks : List ℕ} {i r : ℕ} {shown₀ : List ℕ} {
         let s1 = size-first (t .here .left) (from F j) (l .is) (b .is) in
         let s2 : size (first (count (join (l .ops) (l .rest))) (join (b .ops) (b .rest))) ≡ size (b .ops) + size (first (count (l .rest)) (b .rest)) =
         rw (count-join, ← f .1, first-join) (size-join (b .ops) (first (count (l .rest)) (b .rest))) in
-        let bare = proper-bare 16 (l .l) (l .ops) (l .rest) (subst (Proper 16) (l .is) (t .here .prop)) in
+        let bare = proper-bare mostNonTerminals (l .l) (l .ops) (l .rest) (subst (Proper mostNonTerminals) (l .is) (t .here .prop)) in
         record {
           here = step-alike q p j (t .here) h (l .l) (l .ops) (l .rest) (b .l) (b .ops) (b .rest) (l .is) (b .is) n (f .0) (f .1);
           ws = t .ws;

@@ -1,4 +1,5 @@
 -- Following the choices at a place: what has been written, and what is left.
+use Rattle.forest.specs.Limits.{mostNonTerminals, mostRules}
 use mathlib.Core.Path.{_≡_, refl, ap, _∙_, subst}
 use mathlib.Core.Path as path
 use Prim.Native.Nat.{ℕ, suc, _+_, _-_, _<_, _≤_}
@@ -70,7 +71,7 @@ module _ {rules forms chosen : List ℕ} {a : ℕ} {shown₀ : List ℕ} {at : �
     pub k : ℕ
     pub wrote : shown ≡ sets shown₀ at ws
     pub next : w ≡ at + length ws
-    pub low : b < 16
+    pub low : b < mostNonTerminals
     pub chain : Follows b k
     pub left : length ws + k ≤ f .k
     pub seen : List ℕ
@@ -107,7 +108,7 @@ module _ {rules forms chosen : List ℕ} {a : ℕ} {shown₀ : List ℕ} {at : �
   pub trail-room : {shown : List ℕ} {b w : ℕ} → Trail shown b w → w < length shown
   trail-room t = omega (arith, f .room, t .left, t .next, ap length (t .wrote), length-sets shown₀ at (t .ws), chosen-pos (t .chain))
 
-  pub trail-few : {shown : List ℕ} {b w : ℕ} → Trail shown b w → getD chosen b 0 < 128
+  pub trail-few : {shown : List ℕ} {b w : ℕ} → Trail shown b w → getD chosen b 0 < mostRules
   trail-few t = omega (arith, chosen-rule (t .chain), f .asks .given .admitted .few)
 
   -- one rule more in front of what derives its right side
@@ -188,10 +189,10 @@ pub record Inv (rules forms chosen : List ℕ) (a : ℕ) (shown₀ : List ℕ) (
   pub pre : FollowPre rules forms chosen a shown₀ at
   pub trail : (f : FollowPre rules forms chosen a shown₀ at) → Trail f shown b w
   pub same-length : length shown ≡ length shown₀
-  pub sixteen : length chosen ≡ 16
-  pub low : b < 16
+  pub sixteen : length chosen ≡ mostNonTerminals
+  pub low : b < mostNonTerminals
   pub room : w < length shown
-  pub few : getD chosen b 0 < 128
+  pub few : getD chosen b 0 < mostRules
 
 module _ {rules forms chosen : List ℕ} {a : ℕ} {shown₀ : List ℕ} {at : ℕ} where
   inv-of : {shown : List ℕ} {b w : ℕ} → FollowPre rules forms chosen a shown₀ at

@@ -1,4 +1,5 @@
 -- Which rules can be used at a node: what the first node of a rule says, and the search for a rule.
+use Rattle.forest.specs.Limits.{mostNonTerminals}
 use mathlib.Core.Path.{_≡_, sym, ap, _∙_, subst}
 use Prim.Native.Nat.{ℕ, _+_, _*_, _/_, _<_, _≤_}
 use native.Mathlib.Omega.{arith}
@@ -34,7 +35,7 @@ module _ {rules forms body masks : List ℕ} {i : ℕ} where
     there : RuleAt rules (G .rules) r
     there = rule-at (G .rules) (q .given .holds .is-rules) r h
 
-    pub head-low : nonTerminalAt rules r < 16
+    pub head-low : nonTerminalAt rules r < mostNonTerminals
     head-low = omega (arith, there .head, q .given .admitted .low r h)
 
     pub head-is : nonTerminalAt rules r ≡ headOf (G .rules) r
@@ -50,7 +51,7 @@ module _ {rules forms body masks : List ℕ} {i : ℕ} where
     pub record ChainIs : Type 0 where
       pub B : ℕ
       pub is : formOf (G .rules) r ≡ tree (nonTerminal B) none none
-      pub low : B < 16
+      pub low : B < mostNonTerminals
       pub value : valueAt forms (startAt rules r) ≡ B
 
     pub chain-view : codeAt forms (startAt rules r) ≡ nonTerminalKind → ChainIs
@@ -60,7 +61,7 @@ module _ {rules forms body masks : List ℕ} {i : ℕ} where
         let says = first-says (t .l) (t .ops) (t .rest) (t .is) in
         let hole : Item = nonTerminal (itemValue (t .l)) in
         let e = t .is ∙ ap (λ (x : Item). tree x (t .ops) (t .rest)) (hole-item (t .l) (sym (says .code) ∙ k)) in
-        let pr = subst (Proper 16) e (q .given .admitted .proper r h) in
+        let pr = subst (Proper mostNonTerminals) e (q .given .admitted .proper r h) in
         let z : t .rest ≡ none = count-zero (t .rest) (omega (arith, q .given .admitted .single r h, ap count e, count-node hole (t .ops) (t .rest))) in
         record {
           B = itemValue (t .l);
@@ -110,7 +111,7 @@ module _ {rules forms body masks : List ℕ} {i : ℕ} where
         p a = no-chain-view a r (rule-of a) (λ e. k (code-is ∙ e))
 
     module _ (k : code ≡ nonTerminalKind) {x : ℕ} (ex : x ≡ valueAt forms start) where
-      pub chain-low : x < 16
+      pub chain-low : x < mostNonTerminals
       chain-low = let v = chain-view (q .asks) r (q .is-rule) (sym code-is ∙ k) in omega (arith, v .low, v .value, ex ∙ ap (valueAt forms) es)
 
       pub answers-chain : {s : ℕ} {b : Bool} → b ≡ has s x → Answers rules forms body masks i s r b
@@ -158,7 +159,7 @@ module _ {rules forms body masks : List ℕ} {i s : ℕ} where
           go a k l (no e) = v .none-yet a k (omega arith)
 
       module _ {x : ℕ} (ex : x ≡ nonTerminalAt rules r) where
-        pub known-low : x < 16
+        pub known-low : x < mostNonTerminals
         known-low = omega (arith, ex, head-low (v .asks) r (is-rule (v .asks)))
 
         module _ {b : Bool} (eb : b ≡ has s x) where

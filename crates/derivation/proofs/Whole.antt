@@ -1,4 +1,5 @@
 -- A derivation at a node: the choices, then the places of the plain rule.
+use Rattle.forest.specs.Limits.{mostNonTerminals}
 use mathlib.Core.Path.{_≡_, sym, ap, _∙_}
 use Prim.Native.Nat.{ℕ, _+_, _≤_}
 use native.Mathlib.Omega.{arith}
@@ -23,7 +24,7 @@ module _ {rules forms body masks : List ℕ} {i a : ℕ} {shown : List ℕ} {at 
   pub some-size : 1 ≤ size (first 1 (from (e .asks .given .F) i))
   some-size = let t = tree-at (e .asks .given .F) i (e .asks .inside) in omega (arith, size-one (from (e .asks .given .F) i) (t .is))
 
-  abbrev pub steps : (k : ℕ) × Chain (e .asks .given .G) (from (e .asks .given .F) i) s chosen a k × (k ≤ 16)
+  abbrev pub steps : (k : ℕ) × Chain (e .asks .given .G) (from (e .asks .given .F) i) s chosen a k × (k ≤ mostNonTerminals)
   steps = n .chains (e .asks) a (e .low) member
 
   abbrev pub follow-pre : FollowPre rules forms chosen a shown at

@@ -6,7 +6,7 @@ use mathlib.Core.Option.{Option, some}
 use lib.Dec.{eqb, ltb}
 use lib.ListN.{getD, length}
 use Rattle.forest.specs.Forest.{Forest, none, tree}
-use Rattle.operators.specs.Sorts.{when}
+use Rattle.operators.specs.Sorts.{sortWhere}
 use Rattle.terms.specs.Sorts.{Scope, labelSort, sortOver, withSort}
 use Rattle.derivation.specs.Derivation.{Item, anyArgument, anyLiteral, nonTerminal, the}
 
@@ -18,9 +18,9 @@ pub record FormScope : Type 0 where
 -- The sort of a node of a form over operands of the sorts ss; a non-terminal, `(Constant σ)` and `(Variable σ)` have no operands.
 unfoldable pub itemSort : FormScope → Item → (ss : List ℕ) → Option ℕ
 itemSort scope (the l) ss = labelSort (scope .terms) l ss
-itemSort scope (nonTerminal A) ss = when (ltb A (length (scope .nonTerminals)) && eqb (length ss) 0) (getD (scope .nonTerminals) A 0)
-itemSort scope (anyLiteral s) ss = when (eqb (length ss) 0) s
-itemSort scope (anyArgument s) ss = when (eqb (length ss) 0) s
+itemSort scope (nonTerminal A) ss = sortWhere (ltb A (length (scope .nonTerminals)) && eqb (length ss) 0) (getD (scope .nonTerminals) A 0)
+itemSort scope (anyLiteral s) ss = sortWhere (eqb (length ss) 0) s
+itemSort scope (anyArgument s) ss = sortWhere (eqb (length ss) 0) s
 
 -- The sort of the tree of a node.
 abbrev pub treeSort : FormScope → Item → Option (List ℕ) → Option ℕ

@@ -1,6 +1,7 @@
 //! Which non-terminals derive the tree at each node of the body: its mask.
 ghost use mathlib.Core.Path.{_≡_};
 ghost use lib.ListN.{length};
+ghost use Rattle.forest.specs.Limits.{mostNonTerminals};
 ghost use Rattle.derivation.specs.code.Search.{Asks};
 ghost use Rattle.derivation.specs.code.Filling.{AllExact, Finds, MasksPre, NodeIs};
 use crate::masks::has;
@@ -8,6 +9,7 @@ use crate::masks::put;
 use crate::matching::applies;
 use crate::rules::non_terminal_at;
 use crate::rules::rules_in;
+use forest::limits::NON_TERMINALS;
 use terms::ROW;
 
 // The first rule that can be used at a node and whose non-terminal is not known yet; the number of rules if there is none.
@@ -37,9 +39,9 @@ pub fn derivers(
     body: &[u64],
     masks: &[u64],
     node: usize,
-    chosen: &mut [u64; 16],
+    chosen: &mut [u64; NON_TERMINALS],
 ) -> u64
-    requires { ⌜ Asks (now rules) (now forms) (now body) (now masks) node × (length (now chosen) ≡ 16) ⌝ }
+    requires { ⌜ Asks (now rules) (now forms) (now body) (now masks) node × (length (now chosen) ≡ mostNonTerminals) ⌝ }
     ensures { λ s. ⌜ NodeIs (now (rules .entry)) (now (forms .entry)) (now (body .entry)) (now (masks .entry)) node (now (chosen .exit)) s ⌝ }
 {
     let count = rules_in(rules);
@@ -63,7 +65,7 @@ pub fn fill_masks(rules: &[u64], forms: &[u64], body: &[u64], masks: &mut [u64])
     let mut node = body.len() / ROW;
     while 0 < node {
         node -= 1;
-        let mut chosen = [0u64; 16];
+        let mut chosen = [0u64; NON_TERMINALS];
         let mask = derivers(rules, forms, body, masks, node, &mut chosen);
         masks[node] = mask;
     }

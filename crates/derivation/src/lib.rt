@@ -8,33 +8,35 @@ ghost use lib.ListN.{length, replicate};
 ghost use lib.Seq.{sets};
 ghost use Rattle.derivation.specs.Answer.{unused};
 ghost use Rattle.derivation.specs.code.Derive.{Decides, DerivePre};
-ghost use Rattle.forest.specs.Limits.{listSize};
+ghost use Rattle.forest.specs.Limits.{listSize, mostNodes};
+use forest::limits::LIST;
+use forest::limits::NODES;
 use terms::ROW;
 
 mod filling;
 mod masks;
 mod matching;
-pub mod rules;
+mod rules;
 mod showing;
 
-// How many rule numbers the list of one function has room for.
-const LIST: usize = 4096;
+// How many numbers a rule has in the table of rules.
+pub const RULE: usize = 2;
 
 // An entry that no list uses.
-const UNUSED: u16 = 65535;
+pub const UNUSED: u16 = 65535;
 
 // A mask for each node of a body.
-fn no_masks() -> [u64; 256]
-    ensures { λ r. ⌜ length r ≡ 256 ⌝ }
+fn no_masks() -> [u64; NODES]
+    ensures { λ r. ⌜ length r ≡ mostNodes ⌝ }
 {
-    [0u64; 256]
+    [0u64; NODES]
 }
 
 // A list of one function with every entry unused.
-fn blank() -> [u16; 4096]
+fn blank() -> [u16; LIST]
     ensures { λ r. ⌜ r ≡ replicate listSize unused ⌝ }
 {
-    [UNUSED; 4096]
+    [UNUSED; LIST]
 }
 
 // Copies a list into the area, from `at` on.

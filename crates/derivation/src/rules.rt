@@ -1,12 +1,10 @@
 //! The table of rules: two numbers for each rule.
+use crate::RULE;
 use forest::numbers::number_at;
 ghost use mathlib.Core.Path.{_≡_};
 ghost use Prim.Native.Nat.{_/_};
 ghost use lib.ListN.{length};
 ghost use Rattle.derivation.specs.code.Rules.{nonTerminalAt, ruleWidth, startAt};
-
-// How many numbers a rule has.
-pub const RULE: usize = 2;
 
 // The node where a rule starts.
 pub fn start_at(rules: &[u64], rule: usize) -> usize

@@ -5,6 +5,7 @@ use crate::filling::fill_masks;
 use crate::masks::has;
 use crate::masks::mask_at;
 use crate::rules::start_at;
+use forest::limits::NON_TERMINALS;
 use terms::code_at;
 use terms::codes::NON_TERMINAL;
 use terms::size_at;
@@ -64,7 +65,7 @@ fn emit(
     ensures { λ x. ⌜ Emits (now (rules .entry)) (now (forms .entry)) (now (body .entry)) (now (masks .entry)) node
         nonterminal (now (shown .entry)) at (now (shown .exit)) x ⌝ }
 {
-    let mut chosen = [0u64; 16];
+    let mut chosen = [0u64; NON_TERMINALS];
     derivers(rules, forms, body, masks, node, &mut chosen);
     let end = follow(rules, forms, &chosen, nonterminal, shown, at);
     spread(rules, forms, body, masks, node, end.rule, shown, end.at)

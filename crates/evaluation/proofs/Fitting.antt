@@ -12,7 +12,7 @@ use Rattle.forest.specs.Forest.{none, tree}
 use Rattle.operators.proofs.Closed.{closed}
 use Rattle.operators.specs.Operators.{operatorSort, operatorValue}
 use Rattle.operators.specs.Sorts.{Fit}
-use Rattle.operators.specs.Sorts.AllFit.{nothing as no-more, also}
+use Rattle.operators.specs.Sorts.AllFit.{no-more, also}
 use Rattle.terms.proofs.Sound.{Fits, fit-at, literal-fits, name-fits}
 use Rattle.terms.specs.Labels.{Label, Terms, defined, function, literal, name, operator}
 use Rattle.terms.specs.Sorts.{Definition, sameSorts}

@@ -10,7 +10,7 @@ use lib.Dec.{eqb, ltb}
 use lib.ListN.{drop, getD, length}
 use lib.Seq.{getD-drop}
 use Rattle.operators.specs.Sorts.{AllFit, Fit, valuesOf}
-use Rattle.operators.specs.Sorts.AllFit.{nothing, also}
+use Rattle.operators.specs.Sorts.AllFit.{no-more, also}
 use Rattle.terms.specs.Values.{numbersIn}
 use Rattle.evaluation.specs.Points.{cutShort, firstOutside, pointAt, pointCount, pointsOf, valuesBy}
 use Rattle.evaluation.specs.code.Points.{SortsSmall}
@@ -66,7 +66,7 @@ number-fits sorts (x ∷ more) i h j l = by-case (ltb x (valuesOf (getD sorts (i
 -- Values of variables, each of its sort.
 all-fit : (sorts numbers : List ℕ) → ((j : ℕ) → j < length sorts → Fit (getD sorts j 0) (getD numbers j 0)) → AllFit sorts (numbersIn (valuesBy sorts numbers))
 unfolding valuesBy
-all-fit [] numbers each = nothing
+all-fit [] numbers each = no-more
 all-fit (s ∷ sorts) numbers each =
     also (each 0 (omega arith))
     (all-fit sorts (drop 1 numbers) (λ j h. let next : 1 + j ≡ suc j = omega arith in rw (getD-drop, next) (each (suc j) (omega arith))))

@@ -4,12 +4,12 @@ ghost use mathlib.Core.Path.{_≡_};
 ghost use Prim.Native.Nat.{_≤_};
 ghost use lib.Dec.{ltb};
 ghost use Rattle.evaluation.specs.code.Points.{SortsSmall, VariableSorts};
-ghost use Rattle.operators.specs.Sorts.{valuesOf};
+ghost use Rattle.operators.specs.Sorts.{maxWidth, valuesOf};
 ghost use Rattle.evaluation.specs.Points.{cutShort, firstOutside, pointCount, pointsOf};
 
 // Whether a number is a value of a sort.
 fn fits(sort: u64, number: u64) -> bool
-    requires { ⌜ sort ≤ 64 ⌝ }
+    requires { ⌜ sort ≤ maxWidth ⌝ }
     ensures { λ r. ⌜ r ≡ ltb number (valuesOf sort) ⌝ }
 {
     if sort == 0 {

@@ -5,7 +5,7 @@ use native.Mathlib.Omega.{arith}
 use mathlib.Core.Path.{_≡_, refl, sym, ap, _∙_}
 use mathlib.Core.Bool.{Bool, true, false, cond, _||_, or-assoc, or-comm, or-false}
 use mathlib.Core.List.{List, [], _∷_, _++_}
-use mathlib.Core.Option.{Option, none, some}
+use mathlib.Core.Option.{Option, none as nothing, some}
 use lib.Dec.{ltb}
 use lib.ListN.{getD, length}
 use borrow.Author.Tests.{le-ltb, lt-ltb}
@@ -102,7 +102,7 @@ seenMeans view n =
     cond (isNamed (namesOf (view .names)) n) (some (the (name (getD (namedSorts (view .names)) k 0) k)))
     (cond (isNamed (definedNames (view .defined)) n) (some (the (defined (placeIn (inOrder (definedNames (view .defined))) 0 n))))
     (cond (isNamed (functionNames (view .functions)) n) (some (the (function (placeIn (inOrder (functionNames (view .functions))) 0 n))))
-    (cond (isNamed (namesOf (view .nonTerminals)) n) (some (nonTerminal (placeIn (namesOf (view .nonTerminals)) 0 n))) none)))
+    (cond (isNamed (namesOf (view .nonTerminals)) n) (some (nonTerminal (placeIn (namesOf (view .nonTerminals)) 0 n))) nothing)))
 
 module _ {names : List ℕ} {seen : Seen} {n : List ℕ} (given : Seeing names seen) (o : Ordinary n)
     {a : ℕ} (at-name : Found names (seen .first) (seen .names) n a) where
@@ -152,7 +152,7 @@ module _ {names : List ℕ} {seen : Seen} {n : List ℕ} (given : Seeing names s
 
         -- only non-terminals are left
         means-last : symbolMeans (given .view) n
-            ≡ cond (isNamed (namesOf (given .view .nonTerminals)) n) (some (nonTerminal (placeIn (namesOf (given .view .nonTerminals)) 0 n))) none
+            ≡ cond (isNamed (namesOf (given .view .nonTerminals)) n) (some (nonTerminal (placeIn (namesOf (given .view .nonTerminals)) 0 n))) nothing
         means-last = means-seen ∙ rw (gone a-name no-name, gone a-defined no-defined, gone a-function no-function)
 
         known-last : isKnown (given .view) n ≡ isNamed (namesOf (given .view .nonTerminals)) n
@@ -166,5 +166,5 @@ module _ {names : List ℕ} {seen : Seen} {n : List ℕ} (given : Seeing names s
         -- the symbol is not known
         pub is-unknown : seen .«non_terminals» ≤ k → SymbolMeans (given .view) n (record { known = false; code = nothingCode; value = 0 })
         is-unknown h =
-            let nothing : symbolMeans (given .view) n ≡ none = means-last ∙ rw (gone a-non-terminal h) in
+            let nothing : symbolMeans (given .view) n ≡ nothing = means-last ∙ rw (gone a-non-terminal h) in
             record { known-is = sym (known-last ∙ gone a-non-terminal h); stated = record { code-is = rw nothing; value-is = rw nothing } }

@@ -10,13 +10,13 @@ use lib.ListN.{getD, length}
 use borrow.Author.Tests.{eqb-true, leb-true, lt-ltb, ltb-true}
 use Rattle.forest.proofs.Bools.{and-left, and-right, apart}
 use Rattle.forest.proofs.Options.{never}
-use Rattle.operators.specs.Sorts.{AllFit, Fit, SortRule, allAre, bool, choice, cutting, equality, joining, logic, maxWidth, order, sortBy, vector, when}
+use Rattle.operators.specs.Sorts.{AllFit, Fit, SortRule, allAre, bool, choice, cutting, equality, joining, logic, maxWidth, order, sortBy, vector, sortWhere}
 use Rattle.operators.specs.Sorts.{width}
-use Rattle.operators.specs.Sorts.AllFit.{nothing, also}
+use Rattle.operators.specs.Sorts.AllFit.{no-more, also}
 use Rattle.operators.specs.code.Vectors.{Joined, Width, Word}
 
 -- A rule that gives a sort has passed its test, and the sort is the one it gives.
-pub ruled : (test : Bool) {s r : ℕ} → when test s ≡ some r → (test ≡ true) × (s ≡ r)
+pub ruled : (test : Bool) {s r : ℕ} → sortWhere test s ≡ some r → (test ≡ true) × (s ≡ r)
 ruled true h = (refl, cc)
 ruled false h = never h
 
@@ -38,7 +38,7 @@ word-fits {s} {v} w h = record { sort = w .most; value = subst⁻¹ (λ (t : Boo
 
 -- An operand whose sort is among sorts that are all s is a value of s.
 alike : (s : ℕ) {ss vs : List ℕ} → AllFit ss vs → allAre s ss ≡ true → (k : ℕ) → k < length ss → Fit s (getD vs k 0)
-alike s nothing h k l = absurd (omega arith)
+alike s no-more h k l = absurd (omega arith)
 alike s (also {s = t} {ss = ss} f more) h zero l = rw (eqb-true t s (both (eqb t s) (allAre s ss) h .0)) at f
 alike s (also {s = t} {ss = ss} f more) h (suc k) l = alike s more (both (eqb t s) (allAre s ss) h .1) k (omega arith)
 
@@ -73,7 +73,7 @@ pub record Vectors (ss vs : List ℕ) (r : ℕ) : Type 0 where
 
 pub vectors : (i j : ℕ) {ss vs : List ℕ} {r : ℕ} → AllFit ss vs → sortBy width i j ss ≡ some r → Vectors ss vs r
 unfolding sortBy
-vectors i j nothing h = never h
+vectors i j no-more h = never h
 vectors i j (also {s = s} {ss = ss} f more) h =
     let p = ruled (vector s && allAre s ss) h in
     let q = both (vector s) (allAre s ss) (p .0) in
@@ -86,8 +86,8 @@ pub record Choice (vs : List ℕ) (r : ℕ) : Type 0 where
 
 pub chosen : (i j : ℕ) {ss vs : List ℕ} {r : ℕ} → AllFit ss vs → length ss ≡ 3 → sortBy choice i j ss ≡ some r → Choice vs r
 unfolding sortBy
-chosen i j nothing l h = never h
-chosen i j (also f nothing) l h = never h
+chosen i j no-more l h = never h
+chosen i j (also f no-more) l h = never h
 chosen i j (also {s = c} d (also {s = s} {ss = ss} f more)) l h =
     let p = ruled (eqb c bool && allAre s ss) h in
     let q = both (eqb c bool) (allAre s ss) (p .0) in
@@ -103,8 +103,8 @@ pub record Pair (ss vs : List ℕ) (r : ℕ) : Type 0 where
 
 pub pair : (i j : ℕ) {ss vs : List ℕ} {r : ℕ} → AllFit ss vs → sortBy joining i j ss ≡ some r → Pair ss vs r
 unfolding sortBy
-pair i j nothing h = never h
-pair i j (also f nothing) h = never h
+pair i j no-more h = never h
+pair i j (also f no-more) h = never h
 pair i j (also {s = s} f (also {s = t} g more)) h =
     let p = ruled (vector s && vector t && leb (s + t) maxWidth) h in
     let q = both (vector s && vector t) (leb (s + t) maxWidth) (p .0) in
@@ -123,7 +123,7 @@ pub record Cut (i j r : ℕ) : Type 0 where
 
 pub cut : (i j : ℕ) {ss vs : List ℕ} {r : ℕ} → AllFit ss vs → sortBy cutting i j ss ≡ some r → Cut i j r
 unfolding sortBy
-cut i j nothing h = never h
+cut i j no-more h = never h
 cut i j (also {s = s} f more) h =
     let p = ruled (leb j i && ltb i s) h in
     let q = both (leb j i) (ltb i s) (p .0) in

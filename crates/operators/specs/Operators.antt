@@ -3,7 +3,7 @@ use Prim.Native.Nat.{ℕ, _+_}
 use Prim.Native.String.{String}
 use mathlib.Core.Bool.{cond, _&&_}
 use mathlib.Core.List.{List, [], _∷_}
-use mathlib.Core.Option.{Option, none}
+use mathlib.Core.Option.{Option, none as nothing}
 use lib.Dec.{eqb, ltb}
 use lib.ListN.{getD, length}
 use Rattle.forest.specs.Lists.{sameBytes, spelling}
@@ -105,7 +105,7 @@ operatorOf word = named operators 0 word
 
 -- The sort of operator o over operands of the sorts ss; none where there is no such operator, or their number or a sort is wrong.
 unfoldable pub operatorSort : (o i j : ℕ) → (ss : List ℕ) → Option ℕ
-operatorSort o i j ss = cond (ltb o operatorCount && eqb (length ss) (operatorAt o .operands)) (sortBy (operatorAt o .rule) i j ss) none
+operatorSort o i j ss = cond (ltb o operatorCount && eqb (length ss) (operatorAt o .operands)) (sortBy (operatorAt o .rule) i j ss) nothing
 
 -- The value of operator o over operands of the sorts ss and the values vs.
 unfoldable pub operatorValue : (o i j : ℕ) → (ss vs : List ℕ) → ℕ

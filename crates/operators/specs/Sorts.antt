@@ -2,7 +2,7 @@
 use Prim.Native.Nat.{ℕ, _+_, _-_, _^_, _<_, _≤_}
 use mathlib.Core.Bool.{Bool, true, cond, _&&_}
 use mathlib.Core.List.{List, [], _∷_}
-use mathlib.Core.Option.{Option, none, some}
+use mathlib.Core.Option.{Option, none as nothing, some}
 use lib.Dec.{eqb, leb, ltb}
 
 -- `Bool`
@@ -28,7 +28,7 @@ pub record Fit (s v : ℕ) : Type 0 where
 
 -- Sorts, and for each a value of it.
 pub data AllFit : (ss vs : List ℕ) → Type 0 where
-  nothing : AllFit [] []
+  no-more : AllFit [] []
   also : {s v : ℕ} {ss vs : List ℕ} → Fit s v → AllFit ss vs → AllFit (s ∷ ss) (v ∷ vs)
 
 -- Whether each of the sorts is s.
@@ -37,8 +37,8 @@ allAre s [] = true
 allAre s (t ∷ more) = eqb t s && allAre s more
 
 -- The sort where the test passes, none where it fails.
-abbrev pub when : Bool → ℕ → Option ℕ
-when test s = cond test (some s) none
+abbrev pub sortWhere : Bool → ℕ → Option ℕ
+sortWhere test s = cond test (some s) nothing
 
 -- The sort rules of the operators.
 pub data SortRule : Type 0 where
@@ -60,18 +60,18 @@ pub data SortRule : Type 0 where
 -- The sort of the result, where the operands have the sorts ss and i and j are the numbers of `(_ extract i j)`; none for operands that do not fit.
 -- "`(_ extract i j)`(1), where j ≤ i < n (else 8) and the width is i - j + 1. A `concat` wider than 64 is answer 8."
 unfoldable pub sortBy : SortRule → (i j : ℕ) → (ss : List ℕ) → Option ℕ
-sortBy logic i j ss = when (allAre bool ss) bool
-sortBy equality i j (s ∷ more) = when (allAre s more) bool
-sortBy equality i j [] = none
-sortBy choice i j (c ∷ s ∷ more) = when (eqb c bool && allAre s more) s
-sortBy choice i j (c ∷ []) = none
-sortBy choice i j [] = none
-sortBy width i j (s ∷ more) = when (vector s && allAre s more) s
-sortBy width i j [] = none
-sortBy order i j (s ∷ more) = when (vector s && allAre s more) bool
-sortBy order i j [] = none
-sortBy joining i j (s ∷ t ∷ more) = when (vector s && vector t && leb (s + t) maxWidth) (s + t)
-sortBy joining i j (s ∷ []) = none
-sortBy joining i j [] = none
-sortBy cutting i j (s ∷ more) = when (leb j i && ltb i s) (i - j + 1)
-sortBy cutting i j [] = none
+sortBy logic i j ss = sortWhere (allAre bool ss) bool
+sortBy equality i j (s ∷ more) = sortWhere (allAre s more) bool
+sortBy equality i j [] = nothing
+sortBy choice i j (c ∷ s ∷ more) = sortWhere (eqb c bool && allAre s more) s
+sortBy choice i j (c ∷ []) = nothing
+sortBy choice i j [] = nothing
+sortBy width i j (s ∷ more) = sortWhere (vector s && allAre s more) s
+sortBy width i j [] = nothing
+sortBy order i j (s ∷ more) = sortWhere (vector s && allAre s more) bool
+sortBy order i j [] = nothing
+sortBy joining i j (s ∷ t ∷ more) = sortWhere (vector s && vector t && leb (s + t) maxWidth) (s + t)
+sortBy joining i j (s ∷ []) = nothing
+sortBy joining i j [] = nothing
+sortBy cutting i j (s ∷ more) = sortWhere (leb j i && ltb i s) (i - j + 1)
+sortBy cutting i j [] = nothing

@@ -31,19 +31,19 @@ use Rattle.outcome.proofs.Sorted.{derived-sorted, rules-derive}
 use Rattle.script.specs.Response.{Body, inScriptOrder}
 use Rattle.script.specs.Outcome.{said, scriptOutcome}
 use Rattle.outcome.proofs.Promised.{script-sorted}
-use Rattle.outcome.specs.Checked.{Checked, Passing, Judgement, evaluated, points-refused, underived}
-use Rattle.outcome.specs.Demands.{Affords, Decided, InOrder, OneTruth, RightSorts, Showing, UnitsStated, accepted, all-true, budget-ended}
-use Rattle.outcome.specs.Demands.{constraint-false, is-false, is-true, named-false, valuesOn}
+use Rattle.outcome.specs.Checked.{Checked, Passing}
+use Rattle.outcome.specs.Demands.{Affords, Decided, InOrder, OneTruth, RightSorts, Showing, Truthful, UnitsStated, accepted, all-true, budget-ended}
+use Rattle.outcome.specs.Demands.{constraint-false, is-false, is-true, named-false, showing, valuesOn}
 use Rattle.outcome.specs.Derived.{Derived, termsOf}
 use Rattle.outcome.specs.Derived.Derived.{also, no-more}
-use Rattle.outcome.specs.Evaluated.{functionsWith, ranWith}
+use Rattle.outcome.specs.Evaluated.{functionsWith}
 use Rattle.outcome.specs.Units.{summed}
 use Rattle.outcome.specs.declared.Outcome.{Outcome}
-use Rattle.outcome.proofs.Deriving.{not-derived}
+use Rattle.outcome.proofs.Exact.{split, verdict-derived, verdict-showing}
 use Rattle.evaluation.proofs.GoodPoints.{good-list, point-fits}
 use Rattle.evaluation.proofs.PointRuns.{sorts-by}
 use Rattle.outcome.proofs.Sorts.{TermsSorted, also-sorted, none-sorted, terms-functions-sorted, terms-point-scope}
-use Rattle.outcome.proofs.Stages.{of-passing, ran-showing}
+use Rattle.outcome.proofs.Stages.{of-passing}
 use Rattle.outcome.proofs.Units.{in-order, units}
 use Rattle.outcome.proofs.Variables.{variables-small}
 
@@ -150,13 +150,31 @@ never-ends k ts points {n} {budget} {o} good enough spent order e =
     let most = mul-le-mul-right {m = o .place + 1} {n = n} whole (omega (arith, at .point)) in
     omega (arith, spent .exceeds e, front-most defs funs (k .constraints) (o .second + 1), add-mul (o .place) 1 whole, one-mul whole)
 
--- Of derived bodies and points that pass the answer is 0, 14 or 15.
-verdict-showing : {response : List ℕ} {k : Known} {bs : List Body} {points : List ℕ} {budget n : ℕ} {o : Outcome} {a : List ℕ}
-    → Derived (inScriptOrder (k .functions)) (termsOf bs) → pointsOf (namedSorts (k .variables)) points ≡ Good n
-    → Judgement response k bs points budget o a → Showing (o .number)
-verdict-showing d good (underived u) = absurd (not-derived u d)
-verdict-showing d good (points-refused s e) = let z : _≡_ {A = ℕ} 0 1 = cc in absurd (omega arith)
-verdict-showing {k = k} {bs} {points} {budget} d good (evaluated {n = n} s e) = ran-showing n budget (ranWith k (termsOf bs) points n budget)
+-- 0 says that every constraint is true at every point, and 14 names a constraint that is false at the point named, whatever the budget is.
+pub truthful : {script response points : List ℕ} {budget : ℕ} {area : List ℕ} {k : Known} {bs : List Body} {o : Outcome} {a : List ℕ}
+    → Passing script response points area k bs → Checked script response points budget area o a → Truthful k (termsOf bs) points o
+truthful {script} {points = points} {k = k} {bs} {o} passing c =
+    let order = in-order passing c in
+    record {
+      accepted = λ e.
+          let h = order .accepted e in
+          (h .0, λ p d at known. true-value (valuesOn k (termsOf bs) points p d) (h .1 .points-before p d at known));
+      constraint-false = λ e.
+          let h = order .constraint-false e in
+          let at = h .0 in
+          let shows : Showing (o .number) = subst Showing (sym e) constraint-false in
+          let derived = verdict-derived (split (of-passing passing c)) (showing shows) in
+          let right = points-right script (passing .says) points (at .whole) (o .place) (at .point) in
+          let truth = valued script (passing .says) derived right (member-at (k .constraints) (o .second) (at .constraint)) in
+          (at, false-value truth (h .2));
+    }
+
+-- A budget that is at least the summed cost of all the evaluations does not end.
+pub enough : {script response points : List ℕ} {budget : ℕ} {area : List ℕ} {k : Known} {bs : List Body} {n : ℕ} {o : Outcome} {a : List ℕ}
+    → Passing script response points area k bs → pointsOf (namedSorts (k .variables)) points ≡ Good n → Affords k (termsOf bs) n budget
+    → Checked script response points budget area o a → o .number ≡ 15 → ⊥
+enough {points = points} {k = k} {bs} passing good affords c =
+    never-ends k (termsOf bs) points good affords (units passing c) (in-order passing c)
 
 -- "So once bodies are derived and points have passed, and the budget is at least the summed cost of all the evaluations, the answer can only be accepted or a
 -- named false constraint."
@@ -164,23 +182,10 @@ pub decided : {script response points : List ℕ} {budget : ℕ} {area : List �
     → Passing script response points area k bs → Derived (inScriptOrder (k .functions)) (termsOf bs)
     → pointsOf (namedSorts (k .variables)) points ≡ Good n → Affords k (termsOf bs) n budget
     → Checked script response points budget area o a → Decided k (termsOf bs) points o
-decided {script} {points = points} {k = k} {bs} {n} {o} passing derived good enough c =
+decided {points = points} {k = k} {bs} {o = o} passing derived good affords c =
     go (o .number) refl (verdict-showing derived good (of-passing passing c))
   where
-    ts : List Terms
-    ts = termsOf bs
-
-    order : InOrder k ts points o
-    order = in-order passing c
-
-    go : (number : ℕ) → o .number ≡ number → Showing number → Decided k ts points o
-    go number e accepted =
-        let h = order .accepted e in
-        all-true e (h .0) (λ p d at known. true-value (valuesOn k ts points p d) (h .1 .points-before p d at known))
-    go number e constraint-false =
-        let h = order .constraint-false e in
-        let at = h .0 in
-        let right = points-right script (passing .says) points (at .whole) (o .place) (at .point) in
-        let truth = valued script (passing .says) derived right (member-at (k .constraints) (o .second) (at .constraint)) in
-        named-false e at (false-value truth (h .2))
-    go number e budget-ended = absurd (never-ends k ts points good enough (units passing c) order e)
+    go : (number : ℕ) → o .number ≡ number → Showing number → Decided k (termsOf bs) points o
+    go number e accepted = let h = truthful passing c .accepted e in all-true e (h .0) (h .1)
+    go number e constraint-false = let h = truthful passing c .constraint-false e in named-false e (h .0) (h .1)
+    go number e budget-ended = absurd (enough passing good affords c e)

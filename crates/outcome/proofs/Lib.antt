@@ -7,13 +7,15 @@ pub mod AfterCommand
 pub mod Sorted
 pub mod Areas
 pub mod Stages
-pub mod Small
 pub mod Sorts
 pub mod Deriving
+pub mod Elsewhere
 pub mod Exact
 pub mod Unique
 pub mod Runs
 pub mod Units
+pub mod Table
+pub mod Small
 pub mod Variables
 pub mod Demands
 pub mod Proper

@@ -14,7 +14,7 @@ use Rattle.written_sorts.specs.Written.{grammarSorts, groupPlace, leastIn, pair
 use Rattle.written_sorts.specs.declared.Fault.the-variants.{TooWide}
 use Rattle.names.specs.Scopes.{Defined, Function, Named}
 use Rattle.headers.specs.Heads.{headerPast}
-use Rattle.forest.specs.Limits.{allowed}
+use Rattle.forest.specs.Limits.{allowed, mostNonTerminals, mostRules}
 use Rattle.grammars.specs.Grammars.{grammarPast}
 use Rattle.script.specs.Script.{Known, knownAfter, limitPlace, viewOf}
 use Rattle.script.proofs.WordsBelow.{Below, inside-below}
@@ -34,8 +34,8 @@ use Rattle.outcome.proofs.Limited.{groups-bounded, rules-few, said-boun
 
 -- The grammar of a function is within its limits.
 record Limited (f : Function) : Type 0 where
-  rules : length (f .grammar .rules) ≤ 128
-  nonTerminals : length (f .nonTerminals) ≤ 16
+  rules : length (f .grammar .rules) ≤ mostRules
+  nonTerminals : length (f .nonTerminals) ≤ mostNonTerminals
   sides : (r : ℕ) → r < length (f .grammar .rules) → AllBounded (formOf (f .grammar .rules) r)
 
 -- The same of every function.
@@ -51,11 +51,11 @@ record Within (k : Known) : Type 0 where
 limited-admitted : {defs : List Defined} {f : Function} → RulesSorted defs f → Limited f → Admitted (f .grammar)
 limited-admitted {defs} {f} s l =
     let scope = grammarScope defs f in
-    let few : length (scope .nonTerminals) ≤ 16 = omega (arith, length-map (f .nonTerminals) (λ (n : Named). n .sort), l .nonTerminals) in
+    let few : length (scope .nonTerminals) ≤ mostNonTerminals = omega (arith, length-map (f .nonTerminals) (λ (n : Named). n .sort), l .nonTerminals) in
     record {
       few = l .rules;
       low = λ r h. omega (arith, s .heads r h, l .nonTerminals);
-      proper = λ r h. sorted-proper scope 16 few (formOf (f .grammar .rules) r) (s .rules r h) (l .sides r h);
+      proper = λ r h. sorted-proper scope mostNonTerminals few (formOf (f .grammar .rules) r) (s .rules r h) (l .sides r h);
       single = λ r h. sorts-counted scope (formOf (f .grammar .rules) r) (s .rules r h);
     }
 
@@ -77,16 +77,16 @@ module _ {nowhere : ℕ} (k : Known) (at : ℕ) (c : Items) (some-word : 0 < now
       let groups = inside 5 c in
       let in-groups = inside-below nowhere 5 c below in
       let past = past-none _ (headerPast allowed nowhere c) (grammarPast allowed nowhere c) fits .2 in
-      let parts = past-none (itemPast nowhere 16 pairs) (grammarSorts TooWide nowhere c) _ past in
+      let parts = past-none (itemPast nowhere mostNonTerminals pairs) (grammarSorts TooWide nowhere c) _ past in
       let sorts = past-neither (leastIn nowhere (pairPlace TooWide nowhere) pairs) (leastIn nowhere (groupPlace TooWide nowhere) groups) (parts .1) in
-      let listed = past-neither (rulePast nowhere 128 (rulesIn 0 groups)) _ (parts .2) in
-      let few = items-few nowhere 16 pairs some-word (inside-below nowhere 4 c below) (parts .0) in
+      let listed = past-neither (rulePast nowhere mostRules (rulesIn 0 groups)) _ (parts .2) in
+      let few = items-few nowhere mostNonTerminals pairs some-word (inside-below nowhere 4 c below) (parts .0) in
       let placed = groups-placed {most = count groups} 0 groups (omega arith) in-groups in
       rw (t .declares, t .defines, t .synthesizes, t .constrains)
       (record {
         functions = (
           record {
-            rules = rw length-map (rules-few 128 placed (listed .0));
+            rules = rw length-map (rules-few mostRules placed (listed .0));
             nonTerminals = omega (arith, named-long pairs);
             sides = said-bounded (viewOf k c) (groups-bounded (viewOf k c) some-word 0 groups in-groups (sorts .1));
           },

@@ -2,33 +2,33 @@
 use Prim.Native.Nat.{ℕ, _≤_}
 use native.Mathlib.Omega.{arith}
 use mathlib.Core.List.{List}
-use Rattle.evaluation.specs.declared.Ran.{Ran}
-use Rattle.evaluation.specs.declared.Ran.the-variants.{Passed, False, Ended}
-use Rattle.script.specs.Script.{Known}
-use Rattle.script.specs.Response.{Body}
-use Rattle.outcome.specs.Checked.{Checked, Judgement, evaluated, judged, missized, points-refused, response-refused, script-refused, underived}
-use Rattle.outcome.specs.Derived.{termsOf}
-use Rattle.outcome.specs.Evaluated.{ranOutcome, ranWith}
+use Rattle.script.proofs.Numbers.{response-row-number, script-row-number}
+use Rattle.outcome.specs.Checked.{Checked}
+use Rattle.outcome.specs.Table.{AnswerRow, LengthOf, accepted, bad-points, budget-ended, constraint-false, no-derivation, of-response, of-script}
+use Rattle.outcome.specs.Table.{of-the-area, of-the-points, of-the-response, of-the-script, too-long}
 use Rattle.outcome.specs.declared.Outcome.{Outcome}
-use Rattle.outcome.proofs.Stages.{missized-one, response-number, script-number}
+use Rattle.outcome.proofs.Table.{table}
 
--- What a run finds.
-ran-small : (n budget : ℕ) (ran : Ran) → (ranOutcome n budget ran .number ≤ 16) × (ranOutcome n budget ran .text ≤ 3)
-ran-small n budget (Passed left) = omega arith
-ran-small n budget (False point constraint left) = omega arith
-ran-small n budget (Ended point constraint left) = omega arith
+module _ {script response points area : List ℕ} where
+  -- A length is that of one of the four.
+  four : {text place : ℕ} → LengthOf script response points area text place → text ≤ 3
+  four of-the-script = omega arith
+  four of-the-response = omega arith
+  four of-the-points = omega arith
+  four of-the-area = omega arith
 
--- A verdict on texts that pass.
-verdict-small : {response : List ℕ} {k : Known} {bs : List Body} {points : List ℕ} {budget : ℕ} {o : Outcome} {a : List ℕ}
-    → Judgement response k bs points budget o a → (o .number ≤ 16) × (o .text ≤ 3)
-verdict-small (underived u) = omega arith
-verdict-small (points-refused s e) = omega arith
-verdict-small {k = k} {bs} {points} {budget} (evaluated {n = n} s e) = ran-small n budget (ranWith k (termsOf bs) points n budget)
+  -- A row has a number to 16, and speaks of one of the four texts.
+  row-small : {o : Outcome} → AnswerRow script response points area o → (o .number ≤ 16) × (o .text ≤ 3)
+  row-small (accepted s e) = omega arith
+  row-small (too-long is) = omega (arith, four is)
+  row-small (of-script r) = let h = script-row-number r in omega arith
+  row-small (of-response r) = let h = response-row-number r in omega arith
+  row-small (no-derivation s a h) = omega arith
+  row-small (constraint-false s n) = omega arith
+  row-small (budget-ended s n) = omega arith
+  row-small (bad-points s e h) = omega arith
 
 -- "one answer from the table in document 01": a number to 16, of one of "0 script, 1 response, 2 points, 3 none or the area".
 pub numbers-small : {script response points : List ℕ} {budget : ℕ} {area : List ℕ} {o : Outcome} {a : List ℕ}
     → Checked script response points budget area o a → (o .number ≤ 16) × (o .text ≤ 3)
-numbers-small {script} {response} {points} {budget} {area} (missized e) = let h = missized-one script response points area e in omega arith
-numbers-small {script} (script-refused z e) = let h = script-number script e in omega arith
-numbers-small {response = response} (response-refused {k = k} z s e) = let h = response-number k response e in omega arith
-numbers-small (judged p v) = verdict-small v
+numbers-small c = row-small (table c)

@@ -20,37 +20,41 @@ use Rattle.outcome.specs.Checked.{Checked, Passing, Judgement, judged, m
 use Rattle.outcome.specs.Demands.{Showing, accepted, budget-ended, constraint-false}
 use Rattle.outcome.specs.Derived.{blankArea}
 use Rattle.outcome.specs.Evaluated.{ranOutcome}
+use Rattle.outcome.specs.Table.{AnswerRow, LengthOf, of-the-area, of-the-points, of-the-response, of-the-script, too-long}
 use Rattle.outcome.specs.declared.Outcome.{Outcome}
 
--- An answer 1: it names one of the four, and has no units.
-pub record TooLong (o : Outcome) : Type 0 where
+-- An answer 1: it names one of the four and its length, and has no units.
+pub record TooLong (script response points area : List ℕ) (o : Outcome) : Type 0 where
   pub number : o .number ≡ 1
   pub text : o .text ≤ 3
   pub units : o .units ≡ 0
+  pub row : AnswerRow script response points area o
 
 -- The same, where there is an answer.
-data Sized : Option Outcome → Type 0 where
-  right : Sized nothing
-  wrong : {o : Outcome} → TooLong o → Sized (some o)
+data Sized (script response points area : List ℕ) : Option Outcome → Type 0 where
+  right : Sized script response points area nothing
+  wrong : {o : Outcome} → TooLong script response points area o → Sized script response points area (some o)
 
 -- An answer of sizes is such.
-answered : {o : Outcome} → Sized (some o) → TooLong o
+answered : {script response points area : List ℕ} {o : Outcome} → Sized script response points area (some o) → TooLong script response points area o
 answered (wrong h) = h
 
 -- A size that is not right is answer 1.
-pub missized-one : (script response points area : List ℕ) {o : Outcome} → sizeAnswer script response points area ≡ some o → TooLong o
+pub missized-one : (script response points area : List ℕ) {o : Outcome} → sizeAnswer script response points area ≡ some o
+    → TooLong script response points area o
 unfolding sizeAnswer
 missized-one script response points area e =
-    answered (subst Sized e
-    (either (ltb (scriptLimits .bytes) (length script)) (one 0 (length script) (omega arith))
-    (either (ltb (responseLimits .bytes) (length response)) (one 1 (length response) (omega arith))
-    (either (ltb mostNumbers (length points)) (one 2 (length points) (omega arith))
-    (either (eqb (length area) areaSize) right (one 3 (length area) (omega arith)))))))
+    answered (subst (Sized script response points area) e
+    (either (ltb (scriptLimits .bytes) (length script)) (one of-the-script (omega arith))
+    (either (ltb (responseLimits .bytes) (length response)) (one of-the-response (omega arith))
+    (either (ltb mostNumbers (length points)) (one of-the-points (omega arith))
+    (either (eqb (length area) areaSize) right (one of-the-area (omega arith)))))))
   where
-    one : (text place : ℕ) → text ≤ 3 → Sized (some (refusal 1 text place))
-    one text place h = wrong (record { number = refl; text = h; units = refl })
+    one : {text place : ℕ} → LengthOf script response points area text place → text ≤ 3 → Sized script response points area (some (refusal 1 text place))
+    one is h = wrong (record { number = refl; text = h; units = refl; row = too-long is })
 
-    either : {a b : Option Outcome} (t : Bool) → Sized a → Sized b → Sized (cond t a b)
+    either : {a b : Option Outcome} (t : Bool) → Sized script response points area a → Sized script response points area b
+        → Sized script response points area (cond t a b)
     either true p q = p
     either false p q = q
 
@@ -98,6 +102,14 @@ of-known : (script response : List ℕ) {k other : Known} {r : ResponseOutcome} 
     → responseOutcome k response ≡ r → responseOutcome other response ≡ r
 of-known script response {r = r} e h x = subst (λ (k : Known). responseOutcome k response ≡ r) (one-known script e h) x
 
+-- Texts that pass say one thing.
+pub one-passing : {script response points area : List ℕ} {k other : Known} {bs cs : List Body} → Passing script response points area k bs
+    → Passing script response points area other cs → (k ≡ other) × (bs ≡ cs)
+one-passing {script} {response} p q =
+    let x = of-known script response (p .says) (q .says) (p .gives) in
+    let y = q .gives in
+    (one-known script (p .says) (q .says), cc)
+
 module _ {script response points : List ℕ} {budget : ℕ} {area : List ℕ} where
   -- Where a size is not right, that is answered.
   pub of-missized : {answer o : Outcome} {a : List ℕ} → sizeAnswer script response points area ≡ some answer
@@ -130,10 +142,9 @@ module _ {script response points : List ℕ} {budget : ℕ} {area : List ℕ} wh
   of-passing p (missized h) = never (sym (p .sized) ∙ h)
   of-passing p (script-refused z h) = not-said (sym h ∙ p .says)
   of-passing p (response-refused z s h) = not-given (sym (of-known script response s (p .says) h) ∙ p .gives)
-  of-passing {bs = bs} {o} {a} p (judged {bs = cs} q v) =
-      let x = of-known script response (q .says) (p .says) (q .gives) in
-      let same : cs ≡ bs = cc (p .gives) in
-      subst₂ (λ (k : Known) (bs : List Body). Judgement response k bs points budget o a) (one-known script (q .says) (p .says)) same v
+  of-passing {o = o} {a} p (judged q v) =
+      let same = one-passing q p in
+      subst₂ (λ (k : Known) (bs : List Body). Judgement response k bs points budget o a) (same .0) (same .1) v
 
 -- A number that is none of the three shows nothing.
 pub not-showing : {n : ℕ} → (n ≡ 0 → ⊥) × (n ≡ 14 → ⊥) × (n ≡ 15 → ⊥) → Showing n → ⊥

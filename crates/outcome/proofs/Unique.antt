@@ -12,6 +12,7 @@ use Rattle.outcome.specs.Derived.{termsOf}
 use Rattle.outcome.specs.Evaluated.{ranOutcome, ranWith}
 use Rattle.outcome.specs.declared.Outcome.{Outcome}
 use Rattle.outcome.proofs.Deriving.{first-only, not-derived, shown-derived}
+use Rattle.outcome.proofs.Elsewhere.{lists-of, same-elsewhere}
 use Rattle.outcome.proofs.Exact.{shown-derives}
 use Rattle.outcome.proofs.Stages.{of-missized, of-passing, of-response, of-script}
 
@@ -45,7 +46,7 @@ one-answer (judged p v) d = one-verdict v (of-passing p d)
 -- Two areas after it.
 alike : {script response points area : List ℕ} {o : Outcome} {a b : List ℕ} → AreaStated script response points area o a
     → AreaStated script response points area o b → Alike script response points area o a b
-alike (shows n d) (shows m e) = both-show n d e
+alike (shows n d) (shows m e) = both-show n d e (λ k bs p. same-elsewhere (lists-of p d) (lists-of p e))
 alike (shows n d) (shows-none no-show e) = absurd (no-show n)
 alike (shows-none no-show e) (shows n d) = absurd (no-show n)
 alike (shows-none no-show e) (shows-none m h) = the-same no-show (e ∙ sym h)

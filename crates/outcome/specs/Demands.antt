@@ -1,19 +1,22 @@
 -- What follows from the checker's contract, `Checked`: the words in which proofs/ states it (Unique, Exact, Units, Demands).
-use Prim.Native.Nat.{ℕ, _+_, _*_, _≤_, _<_}
+use Prim.Native.Nat.{ℕ, zero, suc, _+_, _*_, _≤_, _<_}
 use mathlib.Core.Bool.{true, false}
 use mathlib.Core.List.{List, [], _∷_}
 use mathlib.Core.Option.{Option, some}
 use mathlib.Core.Path.{_≡_}
-use lib.ListN.{getD, length}
+use lib.ListN.{drop, getD, length, take}
 use Rattle.forest.specs.Forest.{none}
+use Rattle.forest.specs.Limits.{listSize}
 use Rattle.operators.specs.Sorts.{AllFit, bool}
 use Rattle.terms.specs.Labels.{Terms}
 use Rattle.terms.specs.Values.{numbersIn, sortsIn, value, valuesAt}
 use Rattle.terms.specs.declared.Value.{Value}
+use Rattle.derivation.specs.Answer.{start}
+use Rattle.derivation.specs.Derivation.{Simple}
 use Rattle.evaluation.specs.Points.{pointAt, pointsOf}
 use Rattle.evaluation.specs.Running.{isTrue}
 use Rattle.evaluation.specs.declared.PointList.the-variants.{Good}
-use Rattle.names.specs.Scopes.{namedSorts}
+use Rattle.names.specs.Scopes.{namedSorts, Function}
 use Rattle.script.specs.Script.{Known, definitionsOf}
 use Rattle.script.specs.Response.{Body, inScriptOrder}
 use Rattle.script.specs.Outcome.{offsetOf}
@@ -43,9 +46,21 @@ pub data AreaStated (script response points area : List ℕ) (o : Outcome) (area
   shows : Showing (o .number) → DerivationsShown script response points area areaAfter → AreaStated script response points area o areaAfter
   shows-none : (Showing (o .number) → ⊥) → areaAfter ≡ unshown area → AreaStated script response points area o areaAfter
 
+-- Function j's body has one list of rules at the most that uses no non-terminal twice at one place.
+pub data OneListAt : List Function → List Terms → (j : ℕ) → Type 0 where
+  here : {f : Function} {t : Terms} {fs : List Function} {ts : List Terms}
+      → ((ds es : List ℕ) → Simple (f .grammar) [] start t ds → Simple (f .grammar) [] start t es → ds ≡ es) → OneListAt (f ∷ fs) (t ∷ ts) zero
+  later : {f : Function} {t : Terms} {fs : List Function} {ts : List Terms} {j : ℕ} → OneListAt fs ts j → OneListAt (f ∷ fs) (t ∷ ts) (suc j)
+
+-- Two areas that show derivations of the same bodies have the same entries for each function of which there are not several, and behind the lists.
+pub record SameElsewhere (fs : List Function) (ts : List Terms) (one other : List ℕ) : Type 0 where
+  pub lists : (j : ℕ) → OneListAt fs ts j → take listSize (drop (listSize * j) one) ≡ take listSize (drop (listSize * j) other)
+  pub behind : drop (listSize * length fs) one ≡ drop (listSize * length fs) other
+
 -- Two areas after one answer, which differ at most in "which derivation is shown where several exist".
 pub data Alike (script response points area : List ℕ) (o : Outcome) (one other : List ℕ) : Type 0 where
   both-show : Showing (o .number) → DerivationsShown script response points area one → DerivationsShown script response points area other
+      → ((k : Known) (bs : List Body) → Passing script response points area k bs → SameElsewhere (inScriptOrder (k .functions)) (termsOf bs) one other)
       → Alike script response points area o one other
   the-same : (Showing (o .number) → ⊥) → one ≡ other → Alike script response points area o one other
 
@@ -59,13 +74,25 @@ pub record NoDerivation (script response points area : List ℕ) (o : Outcome) :
   pub place : o .place ≡ offsetOf response (b .first)
   pub none-derived : Derived (inScriptOrder (k .functions)) (termsOf bs) → ⊥
 
--- "a well-sorted response passes the grammar check exactly when each body has a derivation from its function's grammar": 13 is answered exactly when, all else
--- passed, that is not so; and it names the first body that has none.
+-- The answers of a response that "passes the grammar check": the three that show derivations, and 16, which speaks of the points.
+pub data GrammarPassed : (number : ℕ) → Type 0 where
+  showing : {number : ℕ} → Showing number → GrammarPassed number
+  bad-points : GrammarPassed 16
+
+-- Texts that pass, each of whose bodies its function's grammar derives.
+pub record BodiesDerived (script response points area : List ℕ) : Type 0 where
+  pub k : Known
+  pub bs : List Body
+  pub passing : Passing script response points area k bs
+  pub derived : Derived (inScriptOrder (k .functions)) (termsOf bs)
+
+-- "a well-sorted response passes the grammar check exactly when each body has a derivation from its function's grammar": where the texts pass and each body is
+-- derived the answer is 0, 14, 15 or 16, and it is one of these only there; where a body is not derived it is 13, which names the first such body, and 13 is
+-- answered only there.
 pub record Exact (script response points area : List ℕ) (o : Outcome) : Type 0 where
   pub derived-passes : {k : Known} {bs : List Body} → Passing script response points area k bs → Derived (inScriptOrder (k .functions)) (termsOf bs)
-      → o .number ≡ 13 → ⊥
-  pub passed-derived : {k : Known} {bs : List Body} → Passing script response points area k bs → (o .number ≡ 13 → ⊥)
-      → Derived (inScriptOrder (k .functions)) (termsOf bs)
+      → GrammarPassed (o .number)
+  pub passed-derived : GrammarPassed (o .number) → BodiesDerived script response points area
   pub underived-refused : {k : Known} {bs : List Body} → Passing script response points area k bs
       → (Derived (inScriptOrder (k .functions)) (termsOf bs) → ⊥) → o .number ≡ 13
   pub refused-underived : o .number ≡ 13 → NoDerivation script response points area o
@@ -119,6 +146,14 @@ pub data OneTruth : Option (List Value) → Type 0 where
 -- "the budget is at least the summed cost of all the evaluations", n points' of all constraints.
 abbrev pub Affords : Known → List Terms → (n budget : ℕ) → Type 0
 Affords k ts n budget = n * summed (definitionsOf (k .defined)) (functionsWith k ts) (k .constraints) ≤ budget
+
+-- "accepted" and "constraint false", for every budget: with 0 every constraint is true at every point, and the constraint that 14 names is false at the point
+-- named.
+pub record Truthful (k : Known) (ts : List Terms) (points : List ℕ) (o : Outcome) : Type 0 where
+  pub accepted : o .number ≡ 0 → (pointsOf (namedSorts (k .variables)) points ≡ Good (o .second))
+      × ((p c : ℕ) → p < o .second → c < length (k .constraints) → valuesOn k ts points p c ≡ some (value bool 1 ∷ []))
+  pub constraint-false : o .number ≡ 14 → Named k points (o .place) (o .second)
+      × (valuesOn k ts points (o .place) (o .second) ≡ some (value bool 0 ∷ []))
 
 -- "the answer can only be accepted or a named false constraint": every constraint is true at every point; or the constraint named is false at the point named.
 pub data Decided (k : Known) (ts : List Terms) (points : List ℕ) (o : Outcome) : Type 0 where

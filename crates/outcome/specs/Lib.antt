@@ -4,4 +4,5 @@ pub mod Evaluated
 pub mod Checked
 pub mod Units
 pub mod Demands
+pub mod Table
 pub mod code

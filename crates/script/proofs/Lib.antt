@@ -12,5 +12,7 @@ pub mod TermsOfForms
 pub mod Headers
 pub mod Answered
 pub mod Within
+pub mod WordFaults
+pub mod Rows
 pub mod Numbers
 pub mod Keeping

@@ -30,7 +30,7 @@ const NUMBER_ROW: usize = 4;
 // Where their rules begin, and how many numbers the rules of each take.
 const RULES: usize = NUMBERS + NUMBER_ROW * limits::FUNCTIONS;
 
-pub const OWN_RULES: usize = derivation::rules::RULE * limits::RULES;
+pub const OWN_RULES: usize = derivation::RULE * limits::RULES;
 
 // Where the offsets of the first words of their bodies begin.
 const OFFSETS: usize = RULES + OWN_RULES * limits::FUNCTIONS;
@@ -124,7 +124,7 @@ pub fn rules_of<'a>(places: &'a [u64], function: usize) -> &'a [u64]
     ensures { λ r. ⌜ now r ≡ rulesOf (now (places .entry)) function ⌝ }
 {
     let first = rules_place(function);
-    let end = first + derivation::rules::RULE * rule_count_of(places, function);
+    let end = first + derivation::RULE * rule_count_of(places, function);
     &places[first..end]
 }
 

@@ -21,7 +21,7 @@ anyUncarried (tree l ops more) = isList l && uncarriedStart ops || anyUncarried 
 abbrev pub otherLogic : Items → Bool
 otherLogic c = is "set-logic" (item 0 c) && setLogicShape c && not (is "BV" (item 1 c))
 
--- "a `synth-fun` without grammar": with a name, arguments and a sort, and no more.
+-- "a `synth-fun` without grammar": three items follow its word, whatever they are, and no more.
 abbrev pub noGrammar : Items → Bool
 noGrammar c = is "synth-fun" (item 0 c) && eqb (count c) 4
 

@@ -1,6 +1,6 @@
 //! Rules that are not of their non-terminal's sort.
 use crate::roots::root_misfit;
-use derivation::rules::RULE;
+use derivation::RULE;
 use forest::limits;
 use forest::numbers::least;
 ghost use Rattle.term_faults.specs.code.Grammars.{FindsInRules, HeadSort, Heads, RulesFound, RulesSought};

@@ -2,7 +2,7 @@
 use crate::Gathered;
 use crate::gather::gather_rule;
 use crate::limits::node_past;
-use derivation::rules::RULE;
+use derivation::RULE;
 use forest::limits::NODES;
 use forest::limits::RULES;
 use forest::numbers::least;

@@ -5,7 +5,7 @@ use mathlib.Core.Path.{_≡_, refl, sym, ap, _∙_}
 use mathlib.Core.List.{List, _∷_}
 use borrow.Author.Tests.{eq-eqb, ne-eqb}
 use lib.ListN.{getD, length}
-use Rattle.operators.specs.Sorts.{allAre, when}
+use Rattle.operators.specs.Sorts.{allAre, sortWhere}
 use Rattle.terms.specs.code.Nodes.{sizeAt}
 use Rattle.term_sorts.specs.code.Operands.{Common, SomeTrees, commonSort}
 use Rattle.term_sorts.proofs.TreeWalk.{Left, all-left, none-left, rest-left, turn}
@@ -14,7 +14,7 @@ use Rattle.term_sorts.proofs.TreeWalk.{Left, all-left, none-left, rest-
 pub record Agrees (sort : ℕ) (all rest : List ℕ) : Type 0 where
   pub s : ℕ
   pub sort-is : sort ≡ s + 1
-  pub agrees : commonSort all ≡ when (allAre s rest) s
+  pub agrees : commonSort all ≡ sortWhere (allAre s rest) s
 
 -- So many trees are left from node `here` on, of which the sort in common depends.
 pub record Agreeing (forms column : List ℕ) (place count sort here left : ℕ) : Type 0 where

@@ -10,7 +10,7 @@ use lib.Dec.{eqb, leb, lit<}
 use lib.ListN.{getD, length}
 use Rattle.forest.proofs.Bools.{and-left, and-right, apart}
 use Rattle.operators.specs.Operators.{operatorSort}
-use Rattle.operators.specs.Sorts.{maxWidth, valuesOf, when}
+use Rattle.operators.specs.Sorts.{maxWidth, valuesOf, sortWhere}
 use Rattle.derivation.specs.Derivation.{Item, anyArgument, anyLiteral, nonTerminal, the}
 use Rattle.derivation.specs.code.Tables.{itemCode, itemValue}
 use Rattle.terms.specs.Labels.{defined, function, literal, name, operator}
@@ -49,7 +49,7 @@ isCalled kind = leb definedKind kind && leb kind nonTerminalKind
 
 -- The sort of an item that is no operator, no function and no non-terminal.
 pub leaf-item : (scope : FormScope) (i : Item) → Real scope i → (kindOf (itemCode i) ≡ operatorKind → ⊥) → isCalled (kindOf (itemCode i)) ≡ false
-    → (ss : List ℕ) → itemSort scope i ss ≡ when (eqb (length ss) 0) (leafSort (itemCode i))
+    → (ss : List ℕ) → itemSort scope i ss ≡ sortWhere (eqb (length ss) 0) (leafSort (itemCode i))
 unfolding itemSort labelSort
 leaf-item scope (the (literal s v w)) r n h ss =
     let narrow : s < sortCount = omega (arith, r .sort) in
@@ -68,7 +68,7 @@ leaf-item scope (anyArgument s) r n h ss = rw (kind-with anyArgumentKind s (lit<
 pub record Known (signatures : List ℕ) (fs : List Signature) (k row : ℕ) : Type 0 where
   pub by : Signature
   pub row-is : RowIs signatures row by
-  pub called : (ss : List ℕ) → calledSort fs k ss ≡ when (sameSorts ss (by .arguments)) (by .result)
+  pub called : (ss : List ℕ) → calledSort fs k ss ≡ sortWhere (sameSorts ss (by .arguments)) (by .result)
 
 -- Each of the functions has one.
 known : (signatures : List ℕ) (base : ℕ) (fs : List Signature) (k : ℕ) → RowsAre signatures base fs → k < length fs → Known signatures fs k (base + k)
@@ -105,7 +105,7 @@ pub record Callable (signatures : List ℕ) (scope : FormScope) (i : Item) (row 
   pub by : Signature
   pub row-is : RowIs signatures row by
   pub low : row < allRows
-  pub gives : (ss : List ℕ) → itemSort scope i ss ≡ when (sameSorts ss (by .arguments)) (by .result)
+  pub gives : (ss : List ℕ) → itemSort scope i ss ≡ sortWhere (sameSorts ss (by .arguments)) (by .result)
 
 -- The kinds of functions and non-terminals.
 called-kind : (kind : ℕ) → isCalled kind ≡ true → (definedKind ≤ kind) × (kind ≤ nonTerminalKind)

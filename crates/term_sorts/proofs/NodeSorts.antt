@@ -22,7 +22,7 @@ use Rattle.terms.specs.Labels.{defined, function, literal, name, operator}
 use Rattle.terms.specs.code.Codes.{headOf, kindOf, literalKind, literalSort, operatorKind}
 use Rattle.terms.specs.code.Nodes.{codeAt, operandsAt, rowWidth, valueAt}
 use Rattle.terms.specs.Sorts.{sortOver}
-use Rattle.operators.specs.Sorts.{when}
+use Rattle.operators.specs.Sorts.{sortWhere}
 use Rattle.term_sorts.specs.Forms.{FormScope, formSorts, itemSort, sorted, treeSort}
 use Rattle.term_sorts.specs.code.Signatures.{AllReal, Real, allRows}
 use Rattle.term_sorts.proofs.Items.{Callable, Told, callable, isCalled, leaf-item, operator-item}
@@ -86,7 +86,7 @@ sorts-count scope none = refl
 sorts-count scope (tree i ops rest) = ap suc (sorts-count scope rest)
 
 -- The number of a leaf's sort, which has so many operands.
-leaf-number : {n m sort s : ℕ} → n ≡ m → sort ≡ s → cond (eqb n 0) (sort + 1) 0 ≡ sortNumber (when (eqb m 0) s)
+leaf-number : {n m sort s : ℕ} → n ≡ m → sort ≡ s → cond (eqb n 0) (sort + 1) 0 ≡ sortNumber (sortWhere (eqb m 0) s)
 leaf-number {m = m} {s = s} p q = rw (p, q) (number-of (eqb m 0) s)
 
 -- A node whose operands have no sorts.

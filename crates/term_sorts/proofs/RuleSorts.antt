@@ -7,7 +7,7 @@ use mathlib.Core.List.{List, _∷_}
 use borrow.Author.Tests.{le-leb, lt-leb, lt-ltb, ne-eqb}
 use lib.Dec.{eqb, leb, ltb}
 use lib.ListN.{getD, length}
-use Rattle.operators.specs.Sorts.{SortRule, allAre, bool, choice, cutting, equality, joining, logic, maxWidth, order, sortBy, vector, when, width}
+use Rattle.operators.specs.Sorts.{SortRule, allAre, bool, choice, cutting, equality, joining, logic, maxWidth, order, sortBy, vector, sortWhere, width}
 use Rattle.operators.specs.code.RuleNumbers.{ruleNumber}
 use Rattle.operators.proofs.Results.{rule-told}
 use Rattle.terms.specs.code.Codes.{highIn, lowIn}
@@ -18,22 +18,22 @@ use Rattle.term_sorts.specs.code.Operands.{Common, SomeTrees, commonSort
 use Rattle.term_sorts.proofs.TreeWalk.{Turn, all-left, turn}
 
 -- The number of a sort that a test gives.
-pub number-of : (test : Bool) (s : ℕ) → cond test (s + 1) 0 ≡ sortNumber (when test s)
+pub number-of : (test : Bool) (s : ℕ) → cond test (s + 1) 0 ≡ sortNumber (sortWhere test s)
 number-of true s = refl
 number-of false s = refl
 
 -- The same of two tests, one after the other.
-number-both : (a b : Bool) (s : ℕ) → cond a (sortNumber (when b s)) 0 ≡ sortNumber (when (a && b) s)
+number-both : (a b : Bool) (s : ℕ) → cond a (sortNumber (sortWhere b s)) 0 ≡ sortNumber (sortWhere (a && b) s)
 number-both true b s = refl
 number-both false b s = refl
 
 -- Two vectors that are narrow enough together have a sort.
 pub joined-fits : (a b : ℕ) {r : ℕ} → a + b ≤ maxWidth → r ≡ cond (vector a && vector b) (a + b + 1) 0
-    → r ≡ sortNumber (when (vector a && vector b && leb (a + b) maxWidth) (a + b))
+    → r ≡ sortNumber (sortWhere (vector a && vector b && leb (a + b) maxWidth) (a + b))
 joined-fits a b h e = rw (le-leb (a + b) maxWidth h, and-true) (e ∙ number-of (vector a && vector b) (a + b))
 
 -- Two vectors that are too wide together have none.
-pub joined-wide : (a b : ℕ) → maxWidth < a + b → 0 ≡ sortNumber (when (vector a && vector b && leb (a + b) maxWidth) (a + b))
+pub joined-wide : (a b : ℕ) → maxWidth < a + b → 0 ≡ sortNumber (sortWhere (vector a && vector b && leb (a + b) maxWidth) (a + b))
 joined-wide a b h = rw (lt-leb (a + b) maxWidth h, and-false)
 
 -- Whether a sort is a vector's, by its number.
@@ -42,30 +42,30 @@ over-one zero = refl
 over-one (suc s) = lt-ltb 1 (suc s + 1) (omega arith) ∙ sym (lt-ltb 0 (suc s) (omega arith))
 
 -- The rule `logic` over operands that are all of one sort, by the number of that sort.
-logic-number : (s : ℕ) (more : List ℕ) → cond (eqb (sortNumber (when (allAre s more) s)) 1) 1 0 ≡ sortNumber (when (allAre bool (s ∷ more)) bool)
+logic-number : (s : ℕ) (more : List ℕ) → cond (eqb (sortNumber (sortWhere (allAre s more) s)) 1) 1 0 ≡ sortNumber (sortWhere (allAre bool (s ∷ more)) bool)
 logic-number zero more = go (allAre 0 more)
   where
-    go : (b : Bool) → cond (eqb (sortNumber (when b 0)) 1) 1 0 ≡ sortNumber (when b 0)
+    go : (b : Bool) → cond (eqb (sortNumber (sortWhere b 0)) 1) 1 0 ≡ sortNumber (sortWhere b 0)
     go true = refl
     go false = refl
 logic-number (suc s) more = rw (ne-eqb (suc s) 0 (λ e. omega arith)) (go (allAre (suc s) more))
   where
-    go : (b : Bool) → _≡_ {A = ℕ} (cond (eqb (sortNumber (when b (suc s))) 1) 1 0) 0
+    go : (b : Bool) → _≡_ {A = ℕ} (cond (eqb (sortNumber (sortWhere b (suc s))) 1) 1 0) 0
     go true = rw (ne-eqb (suc s + 1) 1 (λ e. omega arith))
     go false = refl
 
 -- The rule `equality`.
-equality-number : (b : Bool) (s : ℕ) → cond (leb 1 (sortNumber (when b s))) 1 0 ≡ sortNumber (when b bool)
+equality-number : (b : Bool) (s : ℕ) → cond (leb 1 (sortNumber (sortWhere b s))) 1 0 ≡ sortNumber (sortWhere b bool)
 equality-number true s = rw (le-leb 1 (s + 1) (omega arith))
 equality-number false s = refl
 
 -- The rule `width`.
-width-number : (b : Bool) (s : ℕ) → cond (ltb 1 (sortNumber (when b s))) (sortNumber (when b s)) 0 ≡ sortNumber (when (vector s && b) s)
+width-number : (b : Bool) (s : ℕ) → cond (ltb 1 (sortNumber (sortWhere b s))) (sortNumber (sortWhere b s)) 0 ≡ sortNumber (sortWhere (vector s && b) s)
 width-number true s = rw (over-one s, and-true) (number-of (vector s) s)
 width-number false s = rw and-false
 
 -- The rule `order`.
-order-number : (b : Bool) (s : ℕ) → cond (ltb 1 (sortNumber (when b s))) 1 0 ≡ sortNumber (when (vector s && b) bool)
+order-number : (b : Bool) (s : ℕ) → cond (ltb 1 (sortNumber (sortWhere b s))) 1 0 ≡ sortNumber (sortWhere (vector s && b) bool)
 order-number true s = rw (over-one s, and-true) (number-of (vector s) bool)
 order-number false s = rw and-false
 
@@ -139,7 +139,7 @@ module _ {forms column : List ℕ} {place count rule : ℕ} where
   module _ (value : ℕ) {found : ℕ} (found-is : found ≡ getD column place 0) where
     -- The sort of `(_ extract i j)`.
     pub cutting-gives : {high low r : ℕ} → rule ≡ ruleNumber cutting → high ≡ highIn value → low ≡ lowIn value
-        → r ≡ sortNumber (when (leb low high && ltb high (found - 1)) (high - low + 1)) → RuleGives forms column place count rule value r
+        → r ≡ sortNumber (sortWhere (leb low high && ltb high (found - 1)) (high - low + 1)) → RuleGives forms column place count rule value r
     unfolding sortBy
     cutting-gives {high} {low} {r} is is-high is-low w e =
         let t = first-operand e in
@@ -155,7 +155,7 @@ module _ {forms column : List ℕ} {place count rule : ℕ} where
 
       -- The sort of `concat`.
       pub joining-gives : {second r : ℕ} → rule ≡ ruleNumber joining → second ≡ getD column (place + size) 0
-          → r ≡ sortNumber (when (vector (found - 1) && vector (second - 1) && leb (found - 1 + (second - 1)) maxWidth) (found - 1 + (second - 1)))
+          → r ≡ sortNumber (sortWhere (vector (found - 1) && vector (second - 1) && leb (found - 1 + (second - 1)) maxWidth) (found - 1 + (second - 1)))
           → RuleGives forms column place count rule value r
       unfolding sortBy
       joining-gives {second} is q w e =

@@ -18,7 +18,7 @@ ghost use mathlib.Core.Path.{_≡_};
 ghost use Prim.Native.Nat.{_+_, _-_, _^_, _<_};
 ghost use mathlib.Core.Bool.{_&&_, cond};
 ghost use lib.Dec.{leb, ltb};
-ghost use Rattle.operators.specs.Sorts.{maxWidth, vector, when};
+ghost use Rattle.operators.specs.Sorts.{maxWidth, vector, sortWhere};
 ghost use Rattle.term_sorts.specs.code.Forms.{sortNumber};
 ghost use Rattle.term_sorts.specs.code.Rules.{OperatorGives, RuleGives, Ruled};
 ghost use Rattle.term_sorts.specs.code.Operands.{SortedTrees};
@@ -35,7 +35,7 @@ pub fn number_when(test: bool, number: u64) -> u64
 
 // The sort of `concat` over operands of the sorts `first` and `second`.
 fn joined_sort(first: u64, second: u64) -> u64
-    ensures { λ r. ⌜ r ≡ sortNumber (when (vector first && vector second && leb (first + second) maxWidth) (first + second)) ⌝ }
+    ensures { λ r. ⌜ r ≡ sortNumber (sortWhere (vector first && vector second && leb (first + second) maxWidth) (first + second)) ⌝ }
 {
     if MAX_WIDTH < first {
         return 0;
@@ -49,7 +49,7 @@ fn joined_sort(first: u64, second: u64) -> u64
 // The sort of `(_ extract high low)` over an operand of the sort `sort`.
 fn cut_sort(sort: u64, high: u64, low: u64) -> u64
     requires { ⌜ sort + 1 < 2 ^ 64 ⌝ }
-    ensures { λ r. ⌜ r ≡ sortNumber (when (leb low high && ltb high sort) (high - low + 1)) ⌝ }
+    ensures { λ r. ⌜ r ≡ sortNumber (sortWhere (leb low high && ltb high sort) (high - low + 1)) ⌝ }
 {
     if high < low {
         return 0;

@@ -15,7 +15,7 @@ use Rattle.forest.specs.Forest.{count, join, nodesOf, none, tree}
 use Rattle.forest.specs.code.Cursors.{from, size}
 use Rattle.forest.specs.code.Rows.{numberAt}
 use Rattle.forest.specs.Tables.{rows}
-use Rattle.operators.specs.Sorts.{when}
+use Rattle.operators.specs.Sorts.{sortWhere}
 use Rattle.terms.specs.Labels.{Label, Terms, defined, function, literal, name, operator}
 use Rattle.terms.specs.code.Codes.{definedKind, headOf, highIn, kindOf, literalHead, literalKind, literalSort, lowIn, nameKind, operatorKind, writtenIn}
 use Rattle.terms.specs.code.Nodes.{AllPlain, Plain, codeAt, codeOf, nodeRow, nodeTable, operandsAt, rowWidth, sizeAt, valueAt, valueOf}
@@ -82,7 +82,7 @@ unfolding calledSort
 called-within [] k ss h = never h
 called-within (f ∷ earlier) k ss {s} h = by-case (eqb k (length earlier)) refl h (λ g. called-within earlier k ss {s = s} g)
   where
-    by-case : (here : Bool) → eqb k (length earlier) ≡ here → cond here (when (sameSorts ss (f .arguments)) (f .result)) (calledSort earlier k ss) ≡ some s
+    by-case : (here : Bool) → eqb k (length earlier) ≡ here → cond here (sortWhere (sameSorts ss (f .arguments)) (f .result)) (calledSort earlier k ss) ≡ some s
         → (calledSort earlier k ss ≡ some s → k < length earlier) → k < suc (length earlier)
     by-case true e h later = omega (arith, eqb-true k (length earlier) e)
     by-case false e h later = omega (arith, later h)

@@ -14,7 +14,7 @@ use Rattle.forest.specs.Forest.{none, tree}
 use Rattle.operators.proofs.Closed.{closed}
 use Rattle.operators.specs.Operators.{operatorValue}
 use Rattle.operators.specs.Sorts.{AllFit, Fit, maxWidth, valuesOf}
-use Rattle.operators.specs.Sorts.AllFit.{nothing as no-more, also}
+use Rattle.operators.specs.Sorts.AllFit.{no-more, also}
 use Rattle.terms.specs.Labels.{Label, Terms, defined, function, literal, name, operator}
 use Rattle.terms.specs.Sorts.{Definition, Scope, Signature, calledSort, labelSort, sameSorts, sortsOf}
 use Rattle.terms.specs.code.Sorted.{AllSorted, BodySorted, FunctionsSorted, signatures}

@@ -10,7 +10,7 @@ use lib.ListN.{getD, length, length-map}
 use Rattle.forest.proofs.Options.{never, passed}
 use Rattle.forest.specs.Forest.{none, tree}
 use Rattle.operators.specs.Operators.{operatorSort}
-use Rattle.operators.specs.Sorts.{maxWidth, valuesOf, when}
+use Rattle.operators.specs.Sorts.{maxWidth, valuesOf, sortWhere}
 use Rattle.terms.specs.Labels.{Label, Terms, defined, function, literal, name, operator}
 use Rattle.terms.specs.Sorts.{Definition, Scope, Signature, calledSort, labelSort, sameSorts, sortOver, sortsOf, withSort}
 use Rattle.terms.specs.code.Sorted.{signatures}
@@ -110,13 +110,13 @@ has-result result (some (v ∷ u ∷ more)) = no-value
 
 -- What a function gives has its result's sort, where its arguments have theirs.
 has-called : (give : ℕ → List Value → Option Value) (d : Definition) (vs : List Value)
-    → HasSort (called give d vs) (when (sameSorts (sortsIn vs) (d .signature .arguments)) (d .signature .result))
+    → HasSort (called give d vs) (sortWhere (sameSorts (sortsIn vs) (d .signature .arguments)) (d .signature .result))
 unfolding called
 has-called give d vs = has-cond (sameSorts (sortsIn vs) (d .signature .arguments)) (has-result (d .signature .result) _) no-value
 
 -- What functions give, of which the last gives this, and the others that.
 has-last : (f : Signature) (earlier : List Signature) {n : ℕ} → length earlier ≡ n → (k : ℕ) (ss : List ℕ) {this that : Option Value}
-    → HasSort this (when (sameSorts ss (f .arguments)) (f .result)) → HasSort that (calledSort earlier k ss)
+    → HasSort this (sortWhere (sameSorts ss (f .arguments)) (f .result)) → HasSort that (calledSort earlier k ss)
     → HasSort (cond (eqb k n) this that) (calledSort (f ∷ earlier) k ss)
 unfolding calledSort
 has-last f earlier e k ss h g = rw (← e) (has-cond (eqb k (length earlier)) h g)

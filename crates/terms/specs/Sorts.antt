@@ -7,7 +7,7 @@ use lib.Dec.{eqb, leb, ltb}
 use lib.ListN.{getD, length}
 use Rattle.forest.specs.Forest.{none, tree}
 use Rattle.operators.specs.Operators.{operatorSort}
-use Rattle.operators.specs.Sorts.{maxWidth, valuesOf, when}
+use Rattle.operators.specs.Sorts.{maxWidth, valuesOf, sortWhere}
 use Rattle.terms.specs.Labels.{Label, Terms, defined, function, literal, name, operator}
 
 -- The sorts of a function's arguments and of its result.
@@ -31,12 +31,12 @@ sameSorts (s ∷ ss) (t ∷ ts) = eqb s t && sameSorts ss ts
 -- The sort of function k over operands of the sorts ss: its result's, where they are those of its arguments; the functions stand the last first.
 unfoldable pub calledSort : List Signature → (k : ℕ) → (ss : List ℕ) → Option ℕ
 calledSort [] k ss = nothing
-calledSort (f ∷ earlier) k ss = cond (eqb k (length earlier)) (when (sameSorts ss (f .arguments)) (f .result)) (calledSort earlier k ss)
+calledSort (f ∷ earlier) k ss = cond (eqb k (length earlier)) (sortWhere (sameSorts ss (f .arguments)) (f .result)) (calledSort earlier k ss)
 
 -- The sort of a label over operands of the sorts ss: a literal's value and a name's sort are those they say, and neither has operands.
 unfoldable pub labelSort : Scope → Label → (ss : List ℕ) → Option ℕ
-labelSort scope (literal s v w) ss = when (leb s maxWidth && ltb v (valuesOf s) && eqb (length ss) 0) s
-labelSort scope (name s k) ss = when (ltb k (length (scope .names)) && eqb (getD (scope .names) k 0) s && eqb (length ss) 0) s
+labelSort scope (literal s v w) ss = sortWhere (leb s maxWidth && ltb v (valuesOf s) && eqb (length ss) 0) s
+labelSort scope (name s k) ss = sortWhere (ltb k (length (scope .names)) && eqb (getD (scope .names) k 0) s && eqb (length ss) 0) s
 labelSort scope (operator o i j) ss = operatorSort o i j ss
 labelSort scope (defined k) ss = calledSort (scope .defined) k ss
 labelSort scope (function k) ss = calledSort (scope .functions) k ss

@@ -4,10 +4,11 @@ use Prim.Native.String.{String}
 use mathlib.Core.List.{List, [], _∷_, map}
 use mathlib.Core.Path.{_≡_, refl}
 use lib.ListN.{length}
-use Rattle.forest.specs.Lists.{spelling, sameBytes}
+use Rattle.forest.specs.Lists.{spelling}
 use Rattle.derivation.specs.Sorts.{formSorts, itemSort}
 use Rattle.forest.specs.Forest.{count, join, nodesOf}
 use Rattle.forest.specs.Limits.{allowed}
+use Rattle.forest.specs.Lists.{sameBytes}
 use Rattle.forest.specs.Search.{placeIn}
 use Rattle.grammars.specs.Listing.{listingMisfit}
 use Rattle.headers.specs.Tokens.{argumentTokens, differing, wordsIn}
@@ -19,8 +20,7 @@ use Rattle.names.specs.Unknown.{unknownIn}
 use Rattle.operators.specs.Operators.{named, operatorAt, operatorOf, operators, operatorSort}
 use Rattle.operators.specs.Sorts.{sortBy}
 use Rattle.script.specs.Response.{Answered, answered, bodies, inScriptOrder, judgedAll, judgedBody, judgedExtra, refused as refusedBody}
-use Rattle.script.specs.Script.{grammarPlace, judged, knownAfter, limitPlace, namePlace, nothingKnown, passed, Read, readAll, refused, sortingPlace, termsIn}
-use Rattle.script.specs.Script.{tested}
+use Rattle.script.specs.Script.{grammarPlace, judged, Known, knownAfter, limitPlace, namePlace, nothingKnown, passed, Read, readAll, refused, sortingPlace, termsIn, tested}
 use Rattle.shapes.specs.Carried.{anyUncarried, notCarried}
 use Rattle.shapes.specs.Shapes.{all, commandShape, termShapes}
 use Rattle.term_faults.specs.Faults.{ruleMisfit, termFault}
@@ -40,26 +40,26 @@ pub record Reading : Type 0 where
   pub answer : List ℕ
 
 -- One row of the table.
-abbrev row : (script response : String) → List ℕ → Reading
+abbrev pub row : (script response : String) → List ℕ → Reading
 row s r a = record { script = s; response = r; answer = a }
 
 -- The answer to a response.
-abbrev bodiesAnswer : Answered → List ℕ
+abbrev pub bodiesAnswer : Answered → List ℕ
 bodiesAnswer (refusedBody number place) = number ∷ place ∷ []
 bodiesAnswer (bodies ts) = []
 
 -- The answer to a script, and where it passes to the response, a text.
-abbrev bothAnswer : (response : List ℕ) → Read → List ℕ
+abbrev pub bothAnswer : (response : List ℕ) → Read → List ℕ
 bothAnswer response (refused number place) = number ∷ place ∷ []
 bothAnswer response (passed k) =
     bodiesAnswer (answered allowed (length (wordsOf response)) (k .defined) (inScriptOrder (k .functions)) (itemsOf response))
 
 -- What the definitions answer to two texts.
-abbrev textsAnswer : (script response : List ℕ) → List ℕ
+abbrev pub textsAnswer : (script response : List ℕ) → List ℕ
 textsAnswer script response = bothAnswer response (readAll allowed (length (wordsOf script)) nothingKnown (itemsOf script))
 
 -- What they answer to a reading.
-abbrev defined : Reading → List ℕ
+abbrev pub defined : Reading → List ℕ
 defined reading = textsAnswer (spelling (reading .script)) (spelling (reading .response))
 
 -- The readings.

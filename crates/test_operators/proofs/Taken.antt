@@ -14,7 +14,7 @@ use Rattle.operators.specs.Operators.{Operator, operatorAt, operatorCount, oper
 use Rattle.operators.specs.Sorts.{AllFit, Fit, SortRule, allAre, bool, choice, cutting, equality, joining, logic, order, sortBy, width}
 use Rattle.operators.specs.code.RuleNumbers.{ruleNumber}
 use Rattle.operators.specs.code.Operators.{Operable}
-use Rattle.operators.specs.Sorts.AllFit.{nothing, also}
+use Rattle.operators.specs.Sorts.AllFit.{no-more, also}
 use Rattle.operators.specs.code.Vectors.{Width, Word}
 use Rattle.operators.proofs.Results.{rule-at, ruleAt}
 use Rattle.operators.proofs.RuledOperands.{givesBool, word-fits}
@@ -79,10 +79,10 @@ module _ {operator : ℕ} (known : operator < operatorCount) (p : ℕ) {s a b : 
       go : (t : Bool) → eqb (operatorAt operator .operands) 1 ≡ t → (t || eqb (operatorAt operator .operands) 2) ≡ true → Taken
       go true q e =
           let one : operatorAt operator .operands ≡ 1 = eqb-true _ _ q in
-          rw one (operable known p (s ∷ []) (a ∷ []) (sym one) (h [] refl) (also f nothing))
+          rw one (operable known p (s ∷ []) (a ∷ []) (sym one) (h [] refl) (also f no-more))
       go false q e =
           let two : operatorAt operator .operands ≡ 2 = eqb-true _ _ e in
-          rw two (operable known p (s ∷ s ∷ []) (a ∷ b ∷ []) (sym two) (h (s ∷ []) (rw (eq-eqb s s refl))) (also f (also g nothing)))
+          rw two (operable known p (s ∷ s ∷ []) (a ∷ b ∷ []) (sym two) (h (s ∷ []) (rw (eq-eqb s s refl))) (also f (also g no-more)))
 
 -- The rule of an operator, by its number.
 pub rule-is : (operator : ℕ) {k l : ℕ} → k ≡ ruleNumber (operatorAt operator .rule) → k ≡ l → operatorAt operator .rule ≡ ruleAt l
@@ -113,7 +113,7 @@ unfolding sortBy usual
 choice-taken {operator} {n = n} {c} {a} {b} l e q u v w =
     let r = rule-is operator e q in
     operable l n (0 ∷ n ∷ n ∷ []) (c ∷ a ∷ b ∷ []) (sym (eqb-true _ _ (counted l r))) (rw (r, eq-eqb n n refl))
-    (also (bit-fits u) (also (word-fits (v .width) (v .below)) (also (word-fits (w .width) (w .below)) nothing)))
+    (also (bit-fits u) (also (word-fits (v .width) (v .below)) (also (word-fits (w .width) (w .below)) no-more)))
 
 -- What y chooses of the bits that n leaves of 64 is no more than these.
 within : (y : ℕ) {n a : ℕ} → Word n a → (n ≡ 64 → ⊥) → n + (1 + y % (64 - n)) ≤ 64
@@ -131,7 +131,7 @@ joined-taken y {operator} {n} {a} {b} l r v h w =
     let m : ℕ = 1 + y % (64 - n) in
     operable l (n + m) (n ∷ m ∷ []) (a ∷ b ∷ []) (sym (eqb-true _ _ (counted l r)))
     (rw (r, lt-ltb 0 n (v .width .least), lt-ltb 0 m (w .width .least), le-leb (n + m) 64 (within y v h)))
-    (also (word-fits (v .width) (v .below)) (also (word-fits (w .width) (w .below)) nothing))
+    (also (word-fits (v .width) (v .below)) (also (word-fits (w .width) (w .below)) no-more))
 
 -- The operand of `(_ extract i j)`.
 pub cut-taken : {operator high low n a : ℕ} → operator < operatorCount → operatorAt operator .rule ≡ cutting → Word n a → low ≤ high → high < n
@@ -139,7 +139,7 @@ pub cut-taken : {operator high low n a : ℕ} → operator < operatorCount → o
 unfolding sortBy usual
 cut-taken {operator} {high} {low} {n} {a} l r v h g =
     operable l (high - low + 1) (n ∷ []) (a ∷ []) (sym (eqb-true _ _ (counted l r))) (rw (r, le-leb low high h, lt-ltb high n g))
-    (also (word-fits (v .width) (v .below)) nothing)
+    (also (word-fits (v .width) (v .below)) no-more)
 
 -- A number of none of the rules `logic`, `choice`, `joining` and `cutting`.
 abbrev pub Plain : ℕ → Type 0

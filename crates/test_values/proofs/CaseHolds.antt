@@ -10,7 +10,7 @@ use Rattle.forest.specs.Forest.{join}
 use Rattle.forest.specs.code.Cursors.{from}
 use Rattle.operators.specs.Operators.{operatorAt, operatorSort, operatorValue, operators}
 use Rattle.operators.specs.Sorts.{AllFit, sortBy}
-use Rattle.operators.specs.Sorts.AllFit.{nothing, also}
+use Rattle.operators.specs.Sorts.AllFit.{no-more, also}
 use Rattle.terms.specs.Costs.{costOf, costs, definedCost, functionCost}
 use Rattle.terms.specs.code.Nodes.{AllPlain, nodeTable}
 use Rattle.terms.specs.Sorts.{sameSorts}
@@ -118,8 +118,8 @@ shifted-cost = lit≤ tt
 -- Both points are values of their sorts.
 pub points-fit : (p : ℕ) → p < 2 → AllFit sorts (numbersIn (pointAt sorts numbers p))
 unfolding valuesBy
-points-fit zero h = also (record { sort = lit≤ tt; value = lit< tt }) nothing
-points-fit (suc zero) h = also (record { sort = lit≤ tt; value = lit< tt }) nothing
+points-fit zero h = also (record { sort = lit≤ tt; value = lit< tt }) no-more
+points-fit (suc zero) h = also (record { sort = lit≤ tt; value = lit< tt }) no-more
 points-fit (suc (suc p)) h = absurd (omega arith)
 
 -- Both constraints have a value at them.
@@ -183,7 +183,7 @@ module _ {nodes bodies : List ℕ} (nodes-are : nodes ≡ nodeTable all) (bodies
         holds = holds;
         point = value 8 33 ∷ [];
         names = refl;
-        fits = also (record { sort = lit≤ tt; value = lit< tt }) nothing;
+        fits = also (record { sort = lit≤ tt; value = lit< tt }) no-more;
         t = shifted;
         stands = shifted-stands;
         v = value 0 1;

@@ -4,3 +4,4 @@ pub mod Gathering
 pub mod Offsets
 pub mod ScanTurns
 pub mod WholeText
+pub mod Unique

@@ -7,14 +7,12 @@ use lexemes::code_at;
 use lexemes::codes::BOOL;
 use lexemes::next_at;
 use lexemes::value_at;
+use operators::rules::MAX_WIDTH;
 ghost use mathlib.Core.Bool.{cond};
 ghost use mathlib.Core.Path.{_≡_};
 ghost use Rattle.shapes.specs.Shapes.{pairShape};
 ghost use Rattle.written_sorts.specs.code.Places.{AllBetween, SortAt};
 ghost use Rattle.written_sorts.specs.Written.{leastIn, pairPlace, sortOf, sortPlace};
-
-// How wide a sort may be.
-const MAX_WIDTH: u64 = 64;
 
 // The word where a test passes, else `nowhere`.
 fn word_if(test: bool, word: usize, nowhere: usize) -> usize

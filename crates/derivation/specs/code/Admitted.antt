@@ -1,4 +1,5 @@
 -- What rules and terms keep to where they stand in tables.
+use Rattle.forest.specs.Limits.{mostNonTerminals, mostRules}
 use mathlib.Core.Path.{_≡_}
 use Prim.Native.Nat.{ℕ, _<_, _≤_}
 use mathlib.Core.List.{List}
@@ -34,7 +35,7 @@ LeavesFit arguments (tree l ops rest) = LeafFits arguments l × LeavesFit argume
 
 -- The rules that document 01 admits: "16 non-terminals and 128 rules a grammar", each right side one term.
 pub record Admitted (G : Grammar) : Type 0 where
-  pub few : length (G .rules) ≤ 128
-  pub low : (r : ℕ) → r < length (G .rules) → headOf (G .rules) r < 16
-  pub proper : (r : ℕ) → r < length (G .rules) → Proper 16 (formOf (G .rules) r)
+  pub few : length (G .rules) ≤ mostRules
+  pub low : (r : ℕ) → r < length (G .rules) → headOf (G .rules) r < mostNonTerminals
+  pub proper : (r : ℕ) → r < length (G .rules) → Proper mostNonTerminals (formOf (G .rules) r)
   pub single : (r : ℕ) → r < length (G .rules) → count (formOf (G .rules) r) ≡ 1

@@ -10,16 +10,16 @@ use Rattle.forest.specs.code.Cursors.{size}
 use Rattle.terms.specs.Labels.{Terms}
 use Rattle.derivation.specs.Derivation.{Derives, Grammar, Simple}
 use Rattle.derivation.specs.code.Tables.{Given}
-use Rattle.forest.specs.Limits.{areaSize, listSize}
+use Rattle.forest.specs.Limits.{areaSize, listSize, mostFunctions, mostNodes}
 use Rattle.derivation.specs.Answer.{start, listOf}
 
 -- The tables hold rules and one body of at most 256 nodes; the area has its size, and the function is one of eight.
 pub record DerivePre (rules forms body : List ℕ) (k : ℕ) (area : List ℕ) : Type 0 where
   pub given : Given rules forms body
   pub one : count (given .F) ≡ 1
-  pub fits : size (given .F) ≤ 256
+  pub fits : size (given .F) ≤ mostNodes
   pub sized : length area ≡ areaSize
-  pub function : k < 8
+  pub function : k < mostFunctions
 
 -- The rules ds derive the body, with no non-terminal twice at one place, and function k's list in the area shows them.
 pub record Shown (G : Grammar) (F : Terms) (k : ℕ) (area areaAfter : List ℕ) : Type 0 where

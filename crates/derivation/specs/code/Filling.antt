@@ -1,4 +1,5 @@
 -- What filling the masks of the nodes asks and gives.
+use Rattle.forest.specs.Limits.{mostNonTerminals}
 use mathlib.Core.Path.{_≡_}
 use mathlib.Core.Bool.{true, false}
 use Prim.Native.Nat.{ℕ, _<_, _≤_}
@@ -20,10 +21,10 @@ pub record Finds (rules forms body masks : List ℕ) (i s r : ℕ) : Type 0 wher
 
 -- s is the exact set at node i, and the choices lead from each of its members to a derivation.
 pub record NodeIs (rules forms body masks : List ℕ) (i : ℕ) (chosen : List ℕ) (s : ℕ) : Type 0 where
-  pub sixteen : length chosen ≡ 16
+  pub sixteen : length chosen ≡ mostNonTerminals
   pub exact : (q : Asks rules forms body masks i) → ExactAt (q .given .G) (from (q .given .F) i) s
-  pub chains : (q : Asks rules forms body masks i) (A : ℕ) → A < 16 → has s A ≡ true
-      → (k : ℕ) × Chain (q .given .G) (from (q .given .F) i) s chosen A k × (k ≤ 16)
+  pub chains : (q : Asks rules forms body masks i) (A : ℕ) → A < mostNonTerminals → has s A ≡ true
+      → (k : ℕ) × Chain (q .given .G) (from (q .given .F) i) s chosen A k × (k ≤ mostNonTerminals)
 
 -- There is a mask for each node.
 pub record MasksPre (rules forms body masks : List ℕ) : Type 0 where

@@ -1,4 +1,5 @@
 -- What the parts of the search have in common: which non-terminals derive a node, and masks that are exact.
+use Rattle.forest.specs.Limits.{mostNonTerminals}
 use mathlib.Core.Path.{_≡_}
 use mathlib.Core.Bool.{true}
 use Prim.Native.Nat.{ℕ, suc, _<_}
@@ -26,8 +27,8 @@ NoChain P = (A : ℕ) (ps qs : Forest Item) → P ≡ tree (nonTerminal A) ps qs
 
 -- The mask m is the set of the non-terminals that derive the first tree of F.
 pub record ExactAt (G : Grammar) (F : Terms) (m : ℕ) : Type 0 where
-  pub sound : (A : ℕ) → A < 16 → has m A ≡ true → DerivesAt G A F
-  pub complete : (A : ℕ) → A < 16 → DerivesAt G A F → has m A ≡ true
+  pub sound : (A : ℕ) → A < mostNonTerminals → has m A ≡ true → DerivesAt G A F
+  pub complete : (A : ℕ) → A < mostNonTerminals → DerivesAt G A F → has m A ≡ true
 
 -- The masks past node i are exact.
 pub record Asks (rules forms body masks : List ℕ) (i : ℕ) : Type 0 where

@@ -1,4 +1,5 @@
 -- What writing the rules of a derivation asks and gives.
+use Rattle.forest.specs.Limits.{mostNonTerminals}
 use mathlib.Core.Path.{_≡_}
 use mathlib.Core.Bool.{Bool, true, false}
 use Prim.Native.Nat.{ℕ, _+_, _*_, _<_, _≤_}
@@ -19,8 +20,8 @@ pub record FollowPre (rules forms chosen : List ℕ) (a : ℕ) (shown : List ℕ
   pub masks : List ℕ
   pub i : ℕ
   pub asks : Asks rules forms body masks i
-  pub low : a < 16
-  pub sixteen : length chosen ≡ 16
+  pub low : a < mostNonTerminals
+  pub sixteen : length chosen ≡ mostNonTerminals
   pub s : ℕ
   pub k : ℕ
   pub chain : Chain (asks .given .G) (from (asks .given .F) i) s chosen a k
@@ -46,9 +47,9 @@ Follows rules forms chosen a shown at shown' at' r = (f : FollowPre rules forms 
 -- The non-terminal a derives the tree at node i, and the list has room.
 pub record EmitPre (rules forms body masks : List ℕ) (i a : ℕ) (shown : List ℕ) (at : ℕ) : Type 0 where
   pub asks : Asks rules forms body masks i
-  pub low : a < 16
+  pub low : a < mostNonTerminals
   pub derives : DerivesAt (asks .given .G) a (from (asks .given .F) i)
-  pub room : at + 16 * size (first 1 (from (asks .given .F) i)) ≤ length shown
+  pub room : at + mostNonTerminals * size (first 1 (from (asks .given .F) i)) ≤ length shown
 
 -- A derivation of that tree was written.
 pub record EmitPost (rules forms body masks : List ℕ) (i a : ℕ) (shown : List ℕ) (at : ℕ) (e : EmitPre rules forms body masks i a shown at)
@@ -57,7 +58,7 @@ pub record EmitPost (rules forms body masks : List ℕ) (i a : ℕ) (shown : Lis
   pub derivation : Simple (e .asks .given .G) [] (tree (nonTerminal a) none none) (first 1 (from (e .asks .given .F) i)) ds
   pub wrote : shown' ≡ sets shown at ds
   pub next : at' ≡ at + length ds
-  pub few : length ds ≤ 16 * size (first 1 (from (e .asks .given .F) i))
+  pub few : length ds ≤ mostNonTerminals * size (first 1 (from (e .asks .given .F) i))
 
 -- The same, for whatever the tables hold.
 abbrev pub Emits : (rules forms body masks : List ℕ) (i a : ℕ) (shown : List ℕ) (at : ℕ) (shown' : List ℕ) (at' : ℕ) → Type 0
@@ -68,7 +69,7 @@ Emits rules forms body masks i a shown at shown' at' =
 pub record SpreadPre (rules forms body masks : List ℕ) (i r : ℕ) (shown : List ℕ) (at : ℕ) : Type 0 where
   pub rule-asks : AsksNoChain rules forms body masks i r
   pub fits : Fits (rule-asks .asks .given .G) (formOf (rule-asks .asks .given .G .rules) r) (from (rule-asks .asks .given .F) i)
-  pub room : at + 16 * size (first 1 (from (rule-asks .asks .given .F) i)) ≤ length shown + 16
+  pub room : at + mostNonTerminals * size (first 1 (from (rule-asks .asks .given .F) i)) ≤ length shown + mostNonTerminals
 
 -- Derivations for the places of the rule were written.
 pub record SpreadPost (rules forms body masks : List ℕ) (i r : ℕ) (shown : List ℕ) (at : ℕ) (e : SpreadPre rules forms body masks i r shown at)
@@ -78,7 +79,7 @@ pub record SpreadPost (rules forms body masks : List ℕ) (i r : ℕ) (shown : L
       (first 1 (from (e .rule-asks .asks .given .F) i)) ds
   pub wrote : shown' ≡ sets shown at ds
   pub next : at' ≡ at + length ds
-  pub few : length ds + 16 ≤ 16 * size (first 1 (from (e .rule-asks .asks .given .F) i))
+  pub few : length ds + mostNonTerminals ≤ mostNonTerminals * size (first 1 (from (e .rule-asks .asks .given .F) i))
 
 -- The same, for whatever the tables hold.
 abbrev pub Spreads : (rules forms body masks : List ℕ) (i r : ℕ) (shown : List ℕ) (at : ℕ) (shown' : List ℕ) (at' : ℕ) → Type 0
@@ -90,11 +91,11 @@ pub record ShowPre (rules forms body masks shown : List ℕ) : Type 0 where
   pub given : Given rules forms body
   pub one : count (given .F) ≡ 1
   pub long : length masks ≡ size (given .F)
-  pub room : 16 * size (given .F) ≤ length shown
+  pub room : mostNonTerminals * size (given .F) ≤ length shown
 
 -- Whether the start derives the body, and the derivation that was written.
 pub record ShowPost (rules forms body masks shown : List ℕ) (p : ShowPre rules forms body masks shown) (shown' : List ℕ) (r : Bool) : Type 0 where
-  pub yes! : r ≡ true → (ds : List ℕ) × Simple (p .given .G) [] start (p .given .F) ds × (shown' ≡ sets shown 0 ds) × (length ds ≤ 16 * size (p .given .F))
+  pub yes! : r ≡ true → (ds : List ℕ) × Simple (p .given .G) [] start (p .given .F) ds × (shown' ≡ sets shown 0 ds) × (length ds ≤ mostNonTerminals * size (p .given .F))
   pub no! : r ≡ false → ((ds : List ℕ) → Derives (p .given .G) start (p .given .F) ds → ⊥) × (shown' ≡ shown)
 
 -- The same, for whatever the tables hold.

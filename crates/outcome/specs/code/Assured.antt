@@ -1,4 +1,5 @@
 -- What a script and a response that pass keep to, besides the sorts of rules, bodies and constraints.
+use Rattle.forest.specs.Limits.{mostNodes}
 use Prim.Native.Nat.{_≤_}
 use mathlib.Core.List.{List, [], _∷_}
 use mathlib.Core.Option.{some}
@@ -30,4 +31,4 @@ BodiesFit defs [] [] = Unit {0}
 BodiesFit defs [] (b ∷ bs) = ⊥
 BodiesFit defs (f ∷ fs) [] = ⊥
 BodiesFit defs (f ∷ fs) (b ∷ bs) =
-    (termSorts (scopeOf (responseView defs f) .terms) (b .term) ≡ some (f .result ∷ [])) × (size (b .term) ≤ 256) × BodiesFit defs fs bs
+    (termSorts (scopeOf (responseView defs f) .terms) (b .term) ≡ some (f .result ∷ [])) × (size (b .term) ≤ mostNodes) × BodiesFit defs fs bs

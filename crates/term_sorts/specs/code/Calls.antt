@@ -4,7 +4,7 @@ use mathlib.Core.Bool.{Bool}
 use mathlib.Core.List.{List}
 use mathlib.Core.Path.{_≡_}
 use lib.ListN.{length}
-use Rattle.operators.specs.Sorts.{when}
+use Rattle.operators.specs.Sorts.{sortWhere}
 use Rattle.terms.specs.Sorts.{Signature, sameSorts}
 use Rattle.term_sorts.specs.code.Forms.{sortNumber}
 use Rattle.term_sorts.specs.code.Signatures.{RowIs, allRows}
@@ -20,7 +20,7 @@ pub record Called (forms signatures column : List ℕ) (place count row : ℕ) :
 -- The sort that the function has over them.
 abbrev pub CalledGives : (forms signatures column : List ℕ) (place count row r : ℕ) → Type 0
 CalledGives forms signatures column place count row r =
-    (e : Called forms signatures column place count row) → r ≡ sortNumber (when (sameSorts (e .trees .sorts) (e .by .arguments)) (e .by .result))
+    (e : Called forms signatures column place count row) → r ≡ sortNumber (sortWhere (sameSorts (e .trees .sorts) (e .by .arguments)) (e .by .result))
 
 -- As many operands as the function has arguments.
 pub record CalledFully (forms signatures column : List ℕ) (place count row : ℕ) : Type 0 where

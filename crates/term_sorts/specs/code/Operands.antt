@@ -5,7 +5,7 @@ use mathlib.Core.List.{List, [], _∷_}
 use mathlib.Core.Option.{Option, none as nothing, some}
 use mathlib.Core.Path.{_≡_}
 use lib.ListN.{getD, length}
-use Rattle.operators.specs.Sorts.{allAre, when}
+use Rattle.operators.specs.Sorts.{allAre, sortWhere}
 use Rattle.terms.specs.code.Nodes.{sizeAt}
 use Rattle.terms.specs.Sorts.{withSort}
 use Rattle.term_sorts.specs.Forms.{sorted}
@@ -45,7 +45,7 @@ pub record SomeTrees (forms column : List ℕ) (place count : ℕ) : Type 0 wher
 -- The sort that all have; none where they differ, or where there is none of them.
 unfoldable pub commonSort : List ℕ → Option ℕ
 commonSort [] = nothing
-commonSort (s ∷ more) = when (allAre s more) s
+commonSort (s ∷ more) = sortWhere (allAre s more) s
 
 -- The sort that the trees have in common.
 abbrev pub Common : (forms column : List ℕ) (place count r : ℕ) → Type 0

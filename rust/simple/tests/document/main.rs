@@ -1,14 +1,16 @@
-//! Document 01 run: the readings, the bench, every limit and every row of the table of answers.
+//! Document 01 run: the readings, the vectors, the bench, every limit and every row of the table of answers.
 
 mod answers;
 mod bench;
+mod cases;
 mod generated;
 mod judge;
 mod limits;
 mod readings;
+mod vectors;
 mod words;
 
-use simple::{check, replay, AREA_LENGTH, UNUSED};
+use simple::{check, replay, AREA_LENGTH, LIST_LENGTH, UNUSED};
 
 /// Answer number, text, place, second number and units.
 type Five = (u8, u8, u64, u64, u64);
@@ -37,8 +39,9 @@ fn answer(script: &str, response: &str, points: &[u64], budget: u64) -> Five {
 
 /// The list shown for a function.
 fn shown(area: &[u16], function: usize) -> Vec<u16> {
-    let list = area[4_096 * function..].iter().copied();
-    list.take_while(|&entry| entry != UNUSED).collect()
+    let list = area[LIST_LENGTH * function..].iter().take(LIST_LENGTH);
+    let list = list.copied().take_while(|&entry| entry != UNUSED);
+    list.collect()
 }
 
 /// A fault of the script.

@@ -1,4 +1,5 @@
 use Prim.Native.Nat.{_-_}
+use Rattle.forest.specs.Limits.{mostNonTerminals}
 use native.Mathlib.Omega.{arith}
 use borrow.Author.Needs.{needs}
 use Rattle.derivation.specs.code.Masks.{has}
@@ -11,7 +12,7 @@ abbrev Inv-loop : tie.InvT-loop
 Inv-loop rules forms body masks node chosen₀ count known₀ chosen known = State rules forms body masks node count chosen known
 
 abbrev μ-loop : tie.MeasureT-loop
-μ-loop rules forms body masks node chosen₀ count known₀ chosen known = 16 - cnt (has known) 16
+μ-loop rules forms body masks node chosen₀ count known₀ chosen known = mostNonTerminals - cnt (has known) mostNonTerminals
 
 rules-in-requires : tie.Need-rules-in-requires Inv-loop μ-loop
 rules-in-requires c κs = search needs
