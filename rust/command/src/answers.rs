@@ -1,13 +1,18 @@
 //! Answers in words.
 
 use crate::facts::Facts;
-use crate::points::MOST_NUMBERS;
-use crate::script::{Sort, Sorted};
+use crate::points::{bits, Origin, MOST_NUMBERS};
+use simple::grammar::Sorted;
 
 /// "Script 32,768 bytes".
 pub const MOST_SCRIPT_BYTES: usize = 32_768;
 /// "response 8,192".
 pub const MOST_RESPONSE_BYTES: usize = 8_192;
+
+/// The exit status where `--strict` finds an acceptance wanting.
+const NOT_THOROUGH: u8 = 4;
+/// A number of points is written out up to 2 to this.
+const MOST_WRITTEN_OUT: u32 = 22;
 
 /// The meaning of each number, by document 01's table.
 const MEANINGS: [&str; 17] = [
@@ -87,6 +92,19 @@ pub fn text_name(text: u8) -> &'static str {
     }
 }
 
+/// A number with a comma before every three digits.
+pub fn grouped(number: u64) -> String {
+    let digits = number.to_string();
+    let mut grouped = String::new();
+    for (index, digit) in digits.chars().enumerate() {
+        if index > 0 && (digits.len() - index) % 3 == 0 {
+            grouped.push(',');
+        }
+        grouped.push(digit);
+    }
+    grouped
+}
+
 /// A number of things, the word in its form for one or for many.
 pub fn counted(count: u64, thing: &str) -> String {
     match count {
@@ -146,8 +164,13 @@ fn refusal(number: u8, text: &str, word: &str) -> String {
 /// The limit that a word is past, where the word itself says which one it is.
 fn limit(word: &str) -> &'static str {
     let numeral = word.bytes().all(|digit| digit.is_ascii_digit());
-    match Sort::of_literal(word) {
-        Some(Sort::BitVec(65..)) => "a literal has at most 64 bits",
+    let bits = match word.get(..2) {
+        Some("#x") => 4 * (word.len() - 2),
+        Some("#b") => word.len() - 2,
+        _ => 0,
+    };
+    match bits {
+        65.. => "a literal has at most 64 bits",
         _ if numeral && word.len() > 9 => "a numeral has at most 9 digits",
         _ if numeral => "a width is at most 64",
         _ if word.len() > 64 => "a symbol has at most 64 bytes",
@@ -158,20 +181,58 @@ fn limit(word: &str) -> &'static str {
 /// Answer 0 in words.
 fn accepted(facts: &Facts) -> String {
     let script = &facts.given.read;
-    let derived = match script.functions.len() {
+    let derived = match script.synthesized.len() {
         1 => "the body is derived".to_string(),
         count => format!("all {count} bodies are derived"),
     };
-    let points = facts.answer.second;
     let at = match script.variables.len() {
         0 => String::new(),
-        _ => format!(" at {}", counted(points, "point")),
+        _ => format!(" at {}", of_all_points(facts)),
     };
-    match (script.constraints.len(), points) {
-        (0, _) => format!("{derived}; there is no constraint"),
-        (_, 0) => format!("{derived}; no constraint was evaluated, for there is no point"),
-        (1, _) => format!("{derived}; the constraint holds{at}"),
-        (count, _) => format!("{derived}; all {count} constraints hold{at}"),
+    let never = facts.guards.iter().filter(|guard| guard.held == 0).count();
+    let never = match never {
+        0 => String::new(),
+        count => format!("; {} of => never held", counted(count as u64, "left side")),
+    };
+    match (script.constraints.len(), facts.answer.second) {
+        (0, _) => format!("{derived}; there is no constraint: nothing was evaluated"),
+        (_, 0) => format!("{derived}; constraints are checked at no point: nothing was evaluated"),
+        (1, _) => format!("{derived}; the constraint holds{at}{never}"),
+        (count, _) => format!("{derived}; all {count} constraints hold{at}{never}"),
+    }
+}
+
+/// How many points were done of how many.
+fn of_all_points(facts: &Facts) -> String {
+    let bits = bits(&facts.given.read.variables);
+    let all = match bits {
+        0..=MOST_WRITTEN_OUT => grouped(1 << bits),
+        _ => format!("2^{bits}"),
+    };
+    let done = match facts.given.points.origin {
+        Origin::File(_) => facts
+            .given
+            .points
+            .distinct(facts.given.read.variables.len()),
+        _ => facts.answer.second,
+    };
+    match bits < 64 && done == 1 << bits {
+        true => format!("all {all} points"),
+        false => format!("{} of {all} points", grouped(done)),
+    }
+}
+
+/// Whether some constraint was evaluated, and the left side of each `=>` held at some point.
+pub fn thorough(facts: &Facts) -> bool {
+    let evaluated = facts.answer.second > 0 && !facts.given.read.constraints.is_empty();
+    evaluated && facts.guards.iter().all(|guard| guard.held > 0)
+}
+
+/// The exit status of the command.
+pub fn status(facts: &Facts) -> u8 {
+    match verdict(facts.answer.number) {
+        Verdict::Accepted if facts.strict && !thorough(facts) => NOT_THOROUGH,
+        verdict => verdict.status(),
     }
 }
 
@@ -187,7 +248,7 @@ fn too_long(facts: &Facts) -> String {
 
 /// Answer 16 in words.
 fn bad_points(facts: &Facts) -> String {
-    let numbers = &facts.given.points.numbers;
+    let numbers = &facts.given.points.listed;
     let variables = &facts.given.read.variables;
     let index = facts.answer.place as usize;
     let length = counted(index as u64, "number");

@@ -1,5 +1,6 @@
 //! What the command is asked, by its arguments.
 
+use crate::answers::grouped;
 use crate::failure::Failure;
 use crate::points::{number, Wanted, SEED};
 use crate::source::Source;
@@ -7,8 +8,10 @@ use std::ffi::{OsStr, OsString};
 
 /// The budget where none is given: enough for any script whose functions do not call one another many times over, and spent in a short time.
 pub const BUDGET: u64 = 1_000_000_000;
+/// The word that asks for the question for an SMT solver.
+const QUESTION: &str = "smt2";
 /// At most so many points are made at random.
-const MOST_RANDOM: u64 = 1_024;
+const MOST_RANDOM: u64 = 1 << 22;
 
 /// What the command is to do.
 #[derive(Clone, Debug, PartialEq, Eq)]
@@ -20,7 +23,16 @@ pub enum Asked {
     /// To check the shipped example.
     Example,
     Check(Request),
+    /// To write the question that points cannot settle for an SMT solver.
+    Question {
+        script: Source,
+        response: Source,
+    },
 }
+
+/// The SMT solver to ask: by the command that is given, or else one that is installed.
+#[derive(Clone, Debug, PartialEq, Eq)]
+pub struct Solver(pub Option<String>);
 
 /// How the outcome is said.
 #[derive(Clone, Copy, Debug, Default, PartialEq, Eq)]
@@ -39,16 +51,22 @@ pub struct Request {
     pub points: Wanted,
     pub budget: u64,
     pub form: Form,
+    /// Whether it counts as a failing that nothing was evaluated, or a left side of `=>` never held.
+    pub strict: bool,
+    /// The solver that is asked for a point at which a constraint is false.
+    pub refute: Option<Solver>,
 }
 
 /// What the arguments have given so far.
-#[derive(Default)]
+#[derive(Default, PartialEq)]
 struct Given {
     files: Vec<Source>,
     points: Option<Wanted>,
     budget: Option<u64>,
     json: bool,
     quiet: bool,
+    strict: bool,
+    refute: Option<Solver>,
 }
 
 /// What the arguments ask for.
@@ -75,7 +93,7 @@ pub fn parse(arguments: Vec<OsString>) -> Result<Asked, Failure> {
             _ => given.files.push(Source::named(&argument)),
         }
     }
-    given.request().map(Asked::Check)
+    given.asked()
 }
 
 impl Given {
@@ -98,8 +116,33 @@ impl Given {
                 self.quiet = true;
                 Ok(())
             }
+            "--strict" if name == text => {
+                self.strict = true;
+                Ok(())
+            }
+            "--refute" => once(&mut self.refute, name, solver(&text)?),
             _ => Err(usage(format!("unknown option {text}"))),
         }
+    }
+
+    /// What the arguments ask for: the question for a solver where a third file, named first, is `smt2`.
+    fn asked(mut self) -> Result<Asked, Failure> {
+        if self.files.len() != 3 || self.files[0] != Source::named(OsStr::new(QUESTION)) {
+            return self.request().map(Asked::Check);
+        }
+        if self
+            != (Given {
+                files: self.files.clone(),
+                ..Given::default()
+            })
+        {
+            return Err(usage(format!("{QUESTION} has no options")));
+        }
+        self.files.remove(0);
+        let Request {
+            script, response, ..
+        } = self.request()?;
+        Ok(Asked::Question { script, response })
     }
 
     /// The request that the arguments make.
@@ -131,6 +174,8 @@ impl Given {
                 (false, true) => Form::Quiet,
                 (false, false) => Form::Full,
             },
+            strict: self.strict,
+            refute: self.refute,
         })
     }
 }
@@ -160,7 +205,7 @@ fn explained(value: &OsStr) -> Result<u64, Failure> {
 
 /// A failure by wrong use.
 fn usage(why: String) -> Failure {
-    Failure(format!("{why}\nusage: ./sverdhyll SCRIPT RESPONSE [--points FILE] [--budget N] [--json] [--quiet], or --help"))
+    Failure(format!("{why}\nusage: ./sverdhyll SCRIPT RESPONSE [--points FILE] [--budget N] [--strict] [--refute[=COMMAND]] [--json] [--quiet], or --help"))
 }
 
 /// Sets what may be given once.
@@ -182,13 +227,20 @@ fn points(value: &OsStr) -> Result<Wanted, Failure> {
         None => (number(asked.as_bytes()), Some(SEED)),
     };
     match (count.filter(|count| *count <= MOST_RANDOM), seed) {
-        (Some(count), Some(seed)) => Ok(Wanted::Random {
-            count: count as usize,
-            seed,
-        }),
+        (Some(count), Some(seed)) => Ok(Wanted::Random { count, seed }),
         _ => Err(usage(format!(
-            "{text} is not random:N or random:N:SEED with N at most {MOST_RANDOM}"
+            "{text} is not random:N or random:N:SEED with N at most {}",
+            grouped(MOST_RANDOM)
         ))),
+    }
+}
+
+/// The solver that `--refute=COMMAND` names; without a command, one that is installed.
+fn solver(option: &str) -> Result<Solver, Failure> {
+    let command = option.split_once('=').map(|(_, command)| command);
+    match command.is_some_and(|command| command.trim().is_empty()) {
+        true => Err(usage("--refute= names no command".to_string())),
+        false => Ok(Solver(command.map(str::to_string))),
     }
 }
 
@@ -245,6 +297,12 @@ mod tests {
         );
         assert_eq!(request("a - --json --quiet").form, Form::Json);
         assert_eq!(request("a -").response, Source::StandardInput);
+        assert_eq!(request("a b").refute, None);
+        assert_eq!(request("a --refute b").refute, Some(Solver(None)));
+        let solver = Solver(Some("z3 -T:9".to_string()));
+        let words = ["a", "b", "--refute=z3 -T:9", "--strict"].map(OsString::from);
+        let asked = parse(words.to_vec());
+        assert!(matches!(asked, Ok(Asked::Check(one)) if one.strict && one.refute == Some(solver)));
     }
 
     #[test]
@@ -254,6 +312,12 @@ mod tests {
         assert_eq!(asked("--version"), Ok(Asked::Version));
         assert_eq!(asked("--explain 14"), Ok(Asked::Explain(14)));
         assert_eq!(asked("a --explain=3"), Ok(Asked::Explain(3)));
+        let question = Asked::Question {
+            script: Source::named(OsStr::new("a")),
+            response: Source::StandardInput,
+        };
+        assert_eq!(asked("smt2 a -"), Ok(question));
+        assert_eq!(request("smt2 b").script, Source::named(OsStr::new("smt2")));
     }
 
     #[test]
@@ -290,16 +354,19 @@ mod tests {
             ("a b --points p --points q", "--points is given twice"),
             (
                 "a b --points random:",
-                "random: is not random:N or random:N:SEED with N at most 1024",
+                "random: is not random:N or random:N:SEED with N at most 4,194,304",
             ),
             (
-                "a b --points random:1025",
-                "random:1025 is not random:N or random:N:SEED with N at most 1024",
+                "a b --points random:4194305",
+                "random:4194305 is not random:N or random:N:SEED with N at most 4,194,304",
             ),
             (
                 "a b --points random:1:x",
-                "random:1:x is not random:N or random:N:SEED with N at most 1024",
+                "random:1:x is not random:N or random:N:SEED with N at most 4,194,304",
             ),
+            ("a b --refute=", "--refute= names no command"),
+            ("a b --refute --refute", "--refute is given twice"),
+            ("smt2 a b --strict", "smt2 has no options"),
             ("- b --points -", "standard input can be read only once"),
         ] {
             let failure = asked(words).expect_err(words);

@@ -1,7 +1,9 @@
 //! Derivations, step by step: the rule numbers that the checker shows, replayed on the words of the body.
 
-use crate::script::{sort_of, Function, Sort};
-use crate::tree::{joined, Tree};
+use simple::grammar::Form;
+use simple::replay::{is_argument, is_literal};
+use simple::script::Synthesized;
+use simple::tree::{joined, Tree};
 
 /// One step: a rule replaces the leftmost non-terminal.
 #[derive(Clone, Debug, PartialEq, Eq)]
@@ -18,7 +20,7 @@ pub struct Step {
 
 /// The words of a term while it is derived.
 struct Replay<'a> {
-    function: &'a Function,
+    function: &'a Synthesized,
     body: Vec<&'a str>,
     /// How many words of the body are reached.
     done: usize,
@@ -27,13 +29,13 @@ struct Replay<'a> {
 }
 
 /// The steps by which a function's grammar derives a body; an error says where the rule numbers do not lead to it.
-pub fn steps(function: &Function, body: &Tree, shown: &[u16]) -> Result<Vec<Step>, String> {
-    let start = function.nonterminals.first();
+pub fn steps(function: &Synthesized, body: &Tree, shown: &[u16]) -> Result<Vec<Step>, String> {
+    let start = function.grammar.nonterminals.first();
     let mut replay = Replay {
         function,
-        body: body.words(),
+        body: words(body),
         done: 0,
-        pending: start.iter().map(|name| name.as_str()).collect(),
+        pending: start.iter().map(|one| one.name.as_str()).collect(),
     };
     let steps = shown.iter().map(|&number| replay.step(number));
     let steps = steps.collect::<Result<Vec<Step>, String>>()?;
@@ -44,11 +46,13 @@ pub fn steps(function: &Function, body: &Tree, shown: &[u16]) -> Result<Vec<Step
 }
 
 impl<'a> Replay<'a> {
-    /// Passes the words up to the leftmost non-terminal, each of which must be the body's, and gives it.
-    fn nonterminal(&mut self) -> Result<Option<&'a str>, String> {
+    /// Passes the words up to the leftmost non-terminal, each of which must be the body's, and gives its index.
+    fn nonterminal(&mut self) -> Result<Option<usize>, String> {
         while let Some(word) = self.pending.pop() {
-            if self.function.nonterminals.iter().any(|one| one == word) {
-                return Ok(Some(word));
+            let mut nonterminals = self.function.grammar.nonterminals.iter();
+            let found = nonterminals.position(|one| one.name == word);
+            if found.is_some() {
+                return Ok(found);
             }
             if self.body.get(self.done) != Some(&word) {
                 return Err(format!("{word} is not word {} of the body", self.done));
@@ -61,28 +65,27 @@ impl<'a> Replay<'a> {
     /// Replaces the leftmost non-terminal by a rule.
     fn step(&mut self, number: u16) -> Result<Step, String> {
         let nonterminal = self.nonterminal()?.ok_or("there is no non-terminal left")?;
-        let rule = self.function.rules.get(usize::from(number));
+        let grammar = &self.function.grammar;
+        let name = &grammar.nonterminals[nonterminal].name;
+        let rule = grammar.rules.get(usize::from(number));
         let rule = rule.filter(|rule| rule.nonterminal == nonterminal);
-        let rule = rule.ok_or(format!("{number} is no rule of {nonterminal}"))?;
-        let given = match form(&rule.term) {
-            Form::Term => None,
-            any => {
-                let word = self.body.get(self.done).copied().unwrap_or_default();
-                let fits = any.derives(word, self.function);
-                Some(
-                    fits.then_some(word)
-                        .ok_or(format!("rule {number} does not derive {word}"))?,
-                )
+        let rule = rule.ok_or(format!("{number} is no rule of {name}"))?;
+        let word = self.body.get(self.done).copied().unwrap_or_default();
+        let given = match &rule.form {
+            Form::Term(term) => {
+                self.pending.extend(words(term).into_iter().rev());
+                None
             }
+            any if derives(any, word, self.function) => {
+                self.pending.push(word);
+                Some(word)
+            }
+            _ => return Err(format!("rule {number} does not derive {word}")),
         };
-        match given {
-            Some(word) => self.pending.push(word),
-            None => self.pending.extend(rule.term.words().into_iter().rev()),
-        }
         Ok(Step {
             number,
-            nonterminal: nonterminal.to_string(),
-            rule: rule.term.to_string(),
+            nonterminal: name.clone(),
+            rule: rule.form.to_string(),
             given: given.map(str::to_string),
             term: self.term(),
         })
@@ -95,68 +98,51 @@ impl<'a> Replay<'a> {
     }
 }
 
-/// What a rule is.
-enum Form {
-    /// `(Constant σ)`
-    Constant(Sort),
-    /// `(Variable σ)`
-    Variable(Sort),
-    Term,
+/// All words of a tree with brackets, in the order of the text.
+fn words(tree: &Tree) -> Vec<&str> {
+    tree.words().into_iter().map(|(_, word)| word).collect()
 }
 
-/// The form of a rule.
-fn form(rule: &Tree) -> Form {
-    let [head, sort] = rule.items().unwrap_or_default() else {
-        return Form::Term;
-    };
-    match (head.word(), sort_of(sort)) {
-        (Some("Constant"), Some(sort)) => Form::Constant(sort),
-        (Some("Variable"), Some(sort)) => Form::Variable(sort),
-        _ => Form::Term,
-    }
-}
-
-impl Form {
-    /// Whether `(Constant σ)` or `(Variable σ)` derives a word.
-    fn derives(&self, word: &str, function: &Function) -> bool {
-        match self {
-            Form::Constant(sort) => Sort::of_literal(word) == Some(*sort),
-            Form::Variable(sort) => {
-                let mut arguments = function.arguments.iter();
-                arguments.any(|one| one.name == word && one.sort == *sort)
-            }
-            Form::Term => false,
-        }
+/// Whether `(Constant σ)` or `(Variable σ)` derives a word.
+fn derives(form: &Form, word: &str, function: &Synthesized) -> bool {
+    match form {
+        Form::Constant(sort) => is_literal(word, *sort),
+        Form::Variable(sort) => is_argument(word, *sort, &function.arguments),
+        Form::Term(_) => false,
     }
 }
 
 /// The first word of a body that no rule of the grammar can give, with its offset.
-pub fn stranger<'a>(function: &Function, body: &'a Tree) -> Option<(usize, &'a str)> {
+pub fn stranger<'a>(function: &Synthesized, body: &'a Tree) -> Option<(usize, &'a str)> {
     let given = |word: &str| {
-        let mut rules = function.rules.iter();
-        rules.any(|rule| match form(&rule.term) {
-            Form::Term => rule.term.words().contains(&word),
-            any => any.derives(word, function),
+        let mut rules = function.grammar.rules.iter();
+        rules.any(|rule| match &rule.form {
+            Form::Term(term) => words(term).contains(&word),
+            any => derives(any, word, function),
         })
     };
-    body.leaves().into_iter().find(|(_, word)| !given(word))
+    let mut words = body.words().into_iter();
+    words.find(|(_, word)| !["(", ")"].contains(word) && !given(word))
 }
 
 #[cfg(test)]
 mod tests {
     use super::*;
-    use crate::script::{bodies, read};
+    use simple::{response, script, tree, words};
 
-    /// The only function of a script and the only body of a response.
-    fn parts(script: &str, body: &str) -> (Function, Tree) {
-        let response = format!("((define-fun f () Bool {body}))");
-        let function = read(script.as_bytes()).functions.remove(0);
-        (function, bodies(response.as_bytes()).remove(0).body)
+    /// The only function of a script, and a body for it that need not be derived or even sorted.
+    fn parts(script: &str, body: &str) -> (Synthesized, Tree) {
+        let words = words::read(body.as_bytes(), response::MOST_WORDS);
+        let body = tree::trees(words.expect("sound words")).remove(0);
+        let script = script::read(script.as_bytes());
+        (script.expect("a sound script").synthesized.remove(0), body)
     }
 
     /// A grammar with every form of rule.
-    const SCRIPT: &str = "(synth-fun f ((a (_ BitVec 8)) (p Bool)) (_ BitVec 8) ((S (_ BitVec 8)) (T (_ BitVec 8)))
-        ((S (_ BitVec 8) (T (bvand S T))) (T (_ BitVec 8) ((Constant (_ BitVec 8)) (Variable (_ BitVec 8))))))";
+    const SCRIPT: &str = "(set-logic BV)
+        (synth-fun f ((a (_ BitVec 8)) (p Bool)) (_ BitVec 8) ((S (_ BitVec 8)) (T (_ BitVec 8)))
+        ((S (_ BitVec 8) (T (bvand S T))) (T (_ BitVec 8) ((Constant (_ BitVec 8)) (Variable (_ BitVec 8))))))
+        (check-synth)";
 
     #[test]
     fn steps_lead_to_the_body() {
@@ -200,9 +186,9 @@ mod tests {
     fn words_that_no_rule_gives() {
         for (body, expected) in [
             ("(bvand a #x0f)", None),
-            ("(bvand a #b0)", Some((32, "#b0"))),
-            ("(bvor a p)", Some((24, "bvor"))),
-            ("p", Some((23, "p"))),
+            ("(bvand a #b0)", Some((9, "#b0"))),
+            ("(bvor a p)", Some((1, "bvor"))),
+            ("p", Some((0, "p"))),
         ] {
             let (function, body) = parts(SCRIPT, body);
             assert_eq!(stranger(&function, &body), expected);
@@ -221,15 +207,16 @@ mod tests {
                 budget,
             } = &case;
             simple::check(script, response, points, *budget, &mut area);
-            let functions = read(script).functions;
+            let script = script::read(script).expect("a sound script");
+            let bodies = response::read(response, &script).expect("a sound response");
             let lists = area.chunks(simple::LIST_LENGTH);
-            for ((function, body), list) in functions.iter().zip(bodies(response)).zip(lists) {
+            for ((function, body), list) in script.synthesized.iter().zip(&bodies).zip(lists) {
                 let shown = list.split(|&entry| entry == simple::UNUSED).next();
-                let steps = steps(function, &body.body, shown.unwrap_or_default());
+                let steps = steps(function, body, shown.unwrap_or_default());
                 let steps = steps.expect("a derivation");
                 let last = steps.last().map(|step| step.term.as_str());
-                assert_eq!(last, Some(body.body.to_string().as_str()), "seed {seed}");
-                assert_eq!(stranger(function, &body.body), None, "seed {seed}");
+                assert_eq!(last, Some(body.to_string().as_str()), "seed {seed}");
+                assert_eq!(stranger(function, body), None, "seed {seed}");
             }
         }
     }

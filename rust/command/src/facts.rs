@@ -1,24 +1,17 @@
 //! What is known of a check once the checker has answered: the same facts for people and for programs.
 
 use crate::derivation::{steps, stranger, Step};
-use crate::evaluation::{point, value, Value};
+use crate::evaluation::value;
 use crate::failure::Failure;
-use crate::place::{place, Place};
+use crate::guards::Guard;
+use crate::place::{place, unclosed, Place};
 use crate::points::Points;
-use crate::script::{bodies, Definition, Script};
+use crate::refute::Claim;
+use crate::run::{Given, Run};
 use crate::source::Text;
-use crate::tree::unclosed;
-use sverdhyll::{Answer, Library, AREA_LENGTH, LIST_LENGTH, UNUSED};
-
-/// What the checker is given.
-pub struct Given {
-    pub script: Text,
-    pub response: Text,
-    pub points: Points,
-    pub budget: u64,
-    /// What the script says, as far as it could be read.
-    pub read: Script,
-}
+use simple::eval::Value;
+use simple::grammar::Sorted;
+use sverdhyll::{Answer, Library, LIST_LENGTH, UNUSED};
 
 /// A place with the name of its text.
 pub struct Located {
@@ -59,32 +52,33 @@ pub struct Facts {
     pub derived: Vec<Derived>,
     /// After 14 and 15.
     pub judged: Option<Judged>,
+    /// After 0: how often the left side of each `=>` held.
+    pub guards: Vec<Guard>,
+    /// What a solver that was asked says.
+    pub claim: Option<Claim>,
+    pub strict: bool,
 }
 
-/// Asks the checker, and gathers what there is to say.
-pub fn gather(library: &mut Library, given: Given) -> Result<Facts, Failure> {
-    let mut area = vec![0; AREA_LENGTH];
-    let (script, response) = (&given.script.bytes, &given.response.bytes);
-    let mut answer = library.check(
-        script,
-        response,
-        &given.points.numbers,
-        given.budget,
-        &mut area,
-    )?;
+/// Gathers what there is to say once the checker has answered.
+pub fn gather(
+    library: &mut Library,
+    given: Given,
+    run: Run,
+    strict: bool,
+) -> Result<Facts, Failure> {
+    let mut answer = run.answer;
     if answer.number == 1 {
         answer.place = whole_length(&given, answer);
     }
-    let bodies = match answer.number {
-        0 | 13..=15 => bodies(response),
-        _ => Vec::new(),
-    };
     Ok(Facts {
         located: located(library, &given, answer)?,
-        note: note(&given, answer, &bodies),
+        note: note(&given, answer),
         function: function_of(&given, answer),
-        derived: derived(&given, answer, &bodies, &area)?,
-        judged: judged(&given, answer, &bodies),
+        derived: derived(&given, answer, &run.area)?,
+        judged: judged(&given, answer, &run.point),
+        guards: run.guards,
+        claim: run.claim,
+        strict,
         answer,
         given,
     })
@@ -133,14 +127,14 @@ fn located_number(points: &Points, index: usize) -> Option<Located> {
 
 /// The name of the function that answer 13 names.
 fn function_of(given: &Given, answer: Answer) -> Option<String> {
-    let function = given.read.functions.get(answer.second as usize);
+    let function = given.read.synthesized.get(answer.second as usize);
     function
         .filter(|_| answer.number == 13)
         .map(|one| one.name.clone())
 }
 
 /// A second place: the first bracket that stays open (3), or the first word of a body that no rule gives (13).
-fn note(given: &Given, answer: Answer, bodies: &[Definition]) -> Option<(String, Located)> {
+fn note(given: &Given, answer: Answer) -> Option<(String, Located)> {
     let text = match answer.text {
         0 => &given.script,
         _ => &given.response,
@@ -155,8 +149,8 @@ fn note(given: &Given, answer: Answer, bodies: &[Definition]) -> Option<(String,
         }
         13 => {
             let index = answer.second as usize;
-            let function = given.read.functions.get(index)?;
-            let (at, word) = stranger(function, &bodies.get(index)?.body)?;
+            let function = given.read.synthesized.get(index)?;
+            let (at, word) = stranger(function, given.bodies.get(index)?)?;
             let what = format!("no rule of the grammar of {} gives `{word}`", function.name);
             Some((what, located_word(text, at, word.len())))
         }
@@ -165,23 +159,18 @@ fn note(given: &Given, answer: Answer, bodies: &[Definition]) -> Option<(String,
 }
 
 /// The derivation of each function, as the area shows it.
-fn derived(
-    given: &Given,
-    answer: Answer,
-    bodies: &[Definition],
-    area: &[u16],
-) -> Result<Vec<Derived>, Failure> {
+fn derived(given: &Given, answer: Answer, area: &[u16]) -> Result<Vec<Derived>, Failure> {
     if !matches!(answer.number, 0 | 14 | 15) {
         return Ok(Vec::new());
     }
     let lists = area.chunks(LIST_LENGTH);
-    let functions = given.read.functions.iter().zip(bodies).zip(lists);
+    let functions = given.read.synthesized.iter().zip(&given.bodies).zip(lists);
     let derived = functions.map(|((function, body), list)| {
         let shown = list
             .split(|&entry| entry == UNUSED)
             .next()
             .unwrap_or_default();
-        let steps = steps(function, &body.body, shown);
+        let steps = steps(function, body, shown);
         let failed = |why| {
             Failure(format!(
                 "the derivation of {} cannot be followed: {why}",
@@ -190,8 +179,8 @@ fn derived(
         };
         Ok(Derived {
             name: function.name.clone(),
-            start: function.nonterminals.first().cloned().unwrap_or_default(),
-            body: body.body.to_string(),
+            start: function.grammar.nonterminals[0].name.clone(),
+            body: body.to_string(),
             steps: steps.map_err(failed)?,
         })
     });
@@ -199,29 +188,35 @@ fn derived(
 }
 
 /// The constraint and the point that answers 14 and 15 name.
-fn judged(given: &Given, answer: Answer, bodies: &[Definition]) -> Option<Judged> {
+fn judged(given: &Given, answer: Answer, numbers: &[u64]) -> Option<Judged> {
     let named = matches!(answer.number, 14 | 15);
     let index = named.then_some(answer.second as usize)?;
     let constraint = given.read.constraints.get(index)?;
-    let count = given.read.variables.len();
-    let mut points = given.points.numbers.chunks(count.max(1));
-    let numbers = points.nth(answer.place as usize).unwrap_or_default();
-    let names = point(&given.read.variables, numbers);
-    let side = |term| Some((format!("{term}"), value(&given.read, bodies, term, &names)?));
+    let side = |term| {
+        Some((
+            format!("{term}"),
+            value(&given.read, &given.bodies, term, numbers)?,
+        ))
+    };
     let sides = match constraint.term.items() {
-        Some([head, left, right]) if answer.number == 14 && head.word() == Some("=") => {
+        Some([head, left, right]) if answer.number == 14 && head.symbol() == Some("=") => {
             let sides = side(left).zip(side(right));
             sides.map(|(left, right)| [left, right])
         }
         _ => None,
     };
     Some(Judged {
-        located: located_word(&given.script, constraint.start, 1),
+        located: located_word(&given.script, constraint.place, 1),
         text: constraint.term.to_string(),
-        point: names
-            .iter()
-            .map(|(name, value)| (name.to_string(), *value))
-            .collect(),
+        point: point(&given.read.variables, numbers),
         sides: sides.filter(|[left, right]| left.1 != right.1),
     })
+}
+
+/// The variables with their values at a point.
+fn point(variables: &[Sorted], numbers: &[u64]) -> Vec<(String, Value)> {
+    let value = |(variable, &number): (&Sorted, &u64)| {
+        (variable.name.clone(), Value::new(variable.sort, number))
+    };
+    variables.iter().zip(numbers).map(value).collect()
 }

@@ -1,12 +1,15 @@
 //! The outcome for programs: one JSON object on one line, whose keys are always the same. docs/answer.schema.json describes it.
 
-use crate::answers::{meaning, sentence, text_name, verdict};
+use crate::answers::{meaning, sentence, status, text_name, verdict};
 use crate::derivation::Step;
-use crate::evaluation::Value;
 use crate::facts::{Derived, Facts, Judged, Located};
 use crate::failure::{Failure, FAILED};
-use crate::script::Sorted;
+use crate::guards::Guard;
+use crate::place::place;
+use crate::refute::Claim;
 use crate::source::Text;
+use simple::eval::Value;
+use simple::grammar::Sorted;
 use std::fmt;
 use sverdhyll::digest::sha256;
 
@@ -58,7 +61,7 @@ pub fn object(facts: &Facts, library: &str) -> String {
         ("answer", Number(answer.number.into())),
         ("meaning", text(meaning(answer.number))),
         ("verdict", text(verdict.word())),
-        ("status", Number(verdict.status().into())),
+        ("status", Number(status(facts).into())),
         ("message", text(sentence(facts))),
         ("text", text(text_name(answer.text))),
         ("place", Number(answer.place)),
@@ -72,6 +75,11 @@ pub fn object(facts: &Facts, library: &str) -> String {
         ("location", or_null(facts.located.as_ref(), location)),
         ("note", or_null(facts.note.as_ref(), note)),
         ("constraint", or_null(facts.judged.as_ref(), constraint)),
+        (
+            "guards",
+            List(facts.guards.iter().map(|one| guard(facts, one)).collect()),
+        ),
+        ("refute", or_null(facts.claim.as_ref(), claim)),
         (
             "functions",
             List(facts.derived.iter().map(function).collect()),
@@ -99,13 +107,18 @@ fn points(facts: &Facts) -> Json {
             ("sort", text(one.sort.to_string())),
         ])
     };
+    let width = facts.given.read.variables.len() as u64;
+    let numbers = match &points.text {
+        Some(_) => points.listed.len() as u64,
+        None => points.count(&facts.given.read.variables) * width,
+    };
     Object(vec![
         ("origin", text(points.origin.kind())),
         (
             "name",
             or_null(points.origin.name().as_ref(), |name| text(name)),
         ),
-        ("numbers", Number(points.numbers.len() as u64)),
+        ("numbers", Number(numbers)),
         (
             "variables",
             List(facts.given.read.variables.iter().map(variable).collect()),
@@ -157,6 +170,26 @@ fn constraint(judged: &Judged) -> Json {
         ("point", List(judged.point.iter().map(value).collect())),
         ("left", side(0)),
         ("right", side(1)),
+    ])
+}
+
+/// The left side of a `=>`, and how often it held.
+fn guard(facts: &Facts, guard: &Guard) -> Json {
+    let place = place(&facts.given.script.bytes, guard.place, 0);
+    Object(vec![
+        ("constraint", Number(guard.constraint as u64)),
+        ("line", Number(place.line as u64)),
+        ("column", Number(place.column as u64)),
+        ("term", text(&guard.term)),
+        ("held", Number(guard.held)),
+    ])
+}
+
+/// What a solver says.
+fn claim(claim: &Claim) -> Json {
+    Object(vec![
+        ("solver", text(&claim.solver)),
+        ("claim", text(&claim.word)),
     ])
 }
 

@@ -6,23 +6,35 @@ mod answers;
 mod arguments;
 mod colour;
 mod derivation;
+#[cfg(test)]
+mod digits;
+mod edges;
 mod evaluation;
 mod explain;
 mod facts;
 mod failure;
+mod guards;
 mod json;
 mod place;
 mod points;
-mod script;
+mod program;
+mod progress;
+mod random;
+mod refute;
+mod run;
+mod search;
+mod slips;
+mod smt;
 mod source;
 mod text;
-mod tree;
+mod trials;
 
-use answers::{verdict, MOST_RESPONSE_BYTES, MOST_SCRIPT_BYTES};
+use answers::{status, MOST_RESPONSE_BYTES, MOST_SCRIPT_BYTES};
 use arguments::{Asked, Form, Request, BUDGET};
-use facts::{Facts, Given};
+use facts::Facts;
 use failure::{said, Failure, FAILED};
-use points::Wanted;
+use points::{Points, Wanted};
+use run::Given;
 use source::Source;
 use std::ffi::OsString;
 use std::io::{self, BufWriter, ErrorKind, Write};
@@ -73,6 +85,7 @@ fn run(asked: Asked) -> Result<u8, Failure> {
             print(0, |to| to.write_all(page.as_bytes()))
         }
         Asked::Check(request) => check(&request, ""),
+        Asked::Question { script, response } => question(&script, &response),
         Asked::Example => check(
             &Request {
                 script: EXAMPLE_SCRIPT,
@@ -80,6 +93,8 @@ fn run(asked: Asked) -> Result<u8, Failure> {
                 points: Wanted::Fitting,
                 budget: BUDGET,
                 form: Form::Full,
+                strict: false,
+                refute: None,
             },
             "Checking the shipped example: the script examples/swap.sy with the response examples/swap.response.\n",
         ),
@@ -102,25 +117,54 @@ fn version() -> String {
 
 /// Checks and says the outcome, after an opening.
 fn check(request: &Request, opening: &str) -> Result<u8, Failure> {
-    let script = request.script.read(MOST_SCRIPT_BYTES)?;
-    let response = request.response.read(MOST_RESPONSE_BYTES)?;
-    let read = script::read(&script.bytes);
-    let points = request.points.points(&read.variables)?;
-    let given = Given {
-        script,
-        response,
-        points,
-        budget: request.budget,
-        read,
-    };
-    let unready = |error| Failure(format!("the checker cannot be started: {}", said(&error)));
-    let mut library = Library::open().map_err(unready)?;
-    let facts = facts::gather(&mut library, given)?;
-    let status = verdict(facts.answer.number).status();
-    print(status, |to| {
+    let mut given = read(&request.script, &request.response)?;
+    given.points = request.points.given()?;
+    given.budget = request.budget;
+    let mut library = open()?;
+    let mut run = run::run(&mut library, &mut given, &request.points)?;
+    if let Some(solver) = &request.refute {
+        run.refute(&mut library, &given, solver)?;
+    }
+    let facts = facts::gather(&mut library, given, run, request.strict)?;
+    print(status(&facts), |to| {
         to.write_all(opening.as_bytes())?;
         write(&facts, library.digest(), request.form, to)
     })
+}
+
+/// Writes the question for an SMT solver; where the checker refuses the texts, that is said on standard error in its place.
+fn question(script: &Source, response: &Source) -> Result<u8, Failure> {
+    let given = read(script, response)?;
+    let mut library = open()?;
+    let run = run::texts(&mut library, &given)?;
+    if matches!(run.answer.number, 0 | 14 | 15) {
+        let question = smt::question(&given.read, &given.bodies);
+        return print(0, |to| to.write_all(question.as_bytes()));
+    }
+    let facts = facts::gather(&mut library, given, run, false)?;
+    text::write_line(&facts, &mut io::stderr())?;
+    Ok(status(&facts))
+}
+
+/// The two texts and what they say, without points.
+fn read(script: &Source, response: &Source) -> Result<Given, Failure> {
+    let script = script.read(MOST_SCRIPT_BYTES)?;
+    let response = response.read(MOST_RESPONSE_BYTES)?;
+    let read = simple::script::read(&script.bytes).unwrap_or_default();
+    Ok(Given {
+        bodies: simple::response::read(&response.bytes, &read).unwrap_or_default(),
+        points: Points::none(),
+        budget: BUDGET,
+        script,
+        response,
+        read,
+    })
+}
+
+/// The checker, ready for calls.
+fn open() -> Result<Library, Failure> {
+    let unready = |error| Failure(format!("the checker cannot be started: {}", said(&error)));
+    Library::open().map_err(unready)
 }
 
 /// Writes the outcome in a form; to a terminal in colour.

@@ -1,5 +1,7 @@
 //! Lines, columns, and the line of a text with carets under a word.
 
+use simple::words::cut;
+
 /// At most so many columns of a line are shown.
 const MOST_COLUMNS: usize = 100;
 /// At most so many columns are shown before the word.
@@ -49,6 +51,19 @@ pub fn place(text: &[u8], at: usize, length: usize) -> Place {
         source,
         carets,
     }
+}
+
+/// The offset of the first bracket of a text that is never closed.
+pub fn unclosed(text: &[u8]) -> Option<usize> {
+    let mut open = Vec::new();
+    for word in cut(text) {
+        match &text[word.clone()] {
+            b"(" => open.push(word.start),
+            b")" => drop(open.pop()),
+            _ => {}
+        }
+    }
+    open.first().copied()
 }
 
 /// Bytes as one line of ASCII: a tab is four spaces, and what is not printed is `\x` and two digits.
@@ -114,6 +129,12 @@ mod tests {
         assert_eq!(lines(text, 6, 1), ("cd e".to_string(), "   ^".to_string()));
         assert_eq!(lines(text, 9, 0), (String::new(), "^".to_string()));
         assert_eq!(lines(b"", 0, 0), (String::new(), "^".to_string()));
+    }
+
+    #[test]
+    fn the_first_bracket_that_stays_open() {
+        assert_eq!(unclosed(b"(a) ((b) ; )\n (c"), Some(4));
+        assert_eq!(unclosed(b"(a)"), None);
     }
 
     #[test]

@@ -1,27 +1,42 @@
-//! The point list: from a text, at random, or every point there is.
+//! The points: from a text, every point there is, or chosen ones and pseudo-random ones after them.
 
+use crate::edges::{edges, literals};
 use crate::failure::Failure;
 use crate::place::{place, shown};
-use crate::script::{Sort, Sorted};
+use crate::program::program;
+use crate::random::Random;
+use crate::search::search;
 use crate::source::{Source, Text};
+use simple::eval::{constraint_costs, Functions};
+use simple::grammar::Sorted;
+use simple::operators::Sort;
+use simple::script::Script;
+use simple::tree::Tree;
+use std::collections::HashSet;
 use std::fmt;
 
-/// "1,024 point numbers".
+/// "1,024 point numbers": what one call of the checker takes.
 pub const MOST_NUMBERS: usize = 1_024;
-/// "16 variables"; a script with more is refused.
-const MOST_VARIABLES: usize = 16;
 /// A text of points may have so many bytes.
-const MOST_BYTES: usize = 1 << 20;
+const MOST_BYTES: usize = 1 << 26;
+/// Every point is taken where there are at most 2 to this of them.
+const ALL_BITS: u32 = 22;
+/// So many points are taken where there are more.
+const CHOSEN: u64 = 4_096;
+/// Fewer of them are taken where they would cost more units, but always what one call takes.
+const CHOSEN_UNITS: u128 = 20_000_000;
+/// The search begins with so many points.
+const POOL: usize = 160;
 /// The seed where none is given.
 pub const SEED: u64 = 1;
 
 /// Where points come from.
 #[derive(Clone, Debug, PartialEq, Eq)]
 pub enum Wanted {
-    /// Every point where all of them fit in the list, else as many random ones as do.
+    /// Every point where there are not too many, else chosen ones.
     Fitting,
     Random {
-        count: usize,
+        count: u64,
         seed: u64,
     },
     Read(Source),
@@ -35,7 +50,7 @@ pub enum Origin {
     /// Every point that there is.
     All,
     Random {
-        count: usize,
+        count: u64,
         seed: u64,
     },
     /// Read from a text of this name.
@@ -69,12 +84,10 @@ impl fmt::Display for Origin {
         match self {
             Origin::None => to.write_str("none, the script has no variables"),
             Origin::All => to.write_str("all that there are"),
-            Origin::Random { count, seed } => {
-                write!(
-                    to,
-                    "random:{count}:{seed} (edge values, then pseudo-random numbers)"
-                )
-            }
+            Origin::Random { count, seed } => write!(
+                to,
+                "random:{count}:{seed} (points at which a slip would show, edge values, then pseudo-random numbers)"
+            ),
             Origin::File(name) => to.write_str(name),
         }
     }
@@ -83,131 +96,266 @@ impl fmt::Display for Origin {
 /// A point list, and what is known of where it comes from.
 #[derive(Clone, Debug)]
 pub struct Points {
-    pub numbers: Vec<u64>,
     pub origin: Origin,
+    /// The numbers of a text, or of the points that were chosen, with which the list begins.
+    pub listed: Vec<u64>,
     /// The text that the list was read from, with the offset and the length of each number.
     pub text: Option<(Text, Vec<(usize, usize)>)>,
+    /// The edge values of each variable.
+    edges: Vec<Vec<u64>>,
+}
+
+/// What points are chosen for: what the two texts say, and the texts.
+pub struct Subject<'a> {
+    pub script: &'a Script,
+    pub bodies: &'a [Tree],
+    pub texts: [&'a [u8]; 2],
+    pub budget: u64,
+}
+
+impl Points {
+    /// No points.
+    pub fn none() -> Points {
+        Points {
+            origin: Origin::None,
+            listed: Vec::new(),
+            text: None,
+            edges: Vec::new(),
+        }
+    }
+
+    /// How many different points a list of points of so many numbers has.
+    pub fn distinct(&self, numbers: usize) -> u64 {
+        let points = self.listed.chunks(numbers.max(1));
+        points.collect::<HashSet<&[u64]>>().len() as u64
+    }
+
+    /// How many points there are for so many variables.
+    pub fn count(&self, variables: &[Sorted]) -> u64 {
+        match self.origin {
+            Origin::None => 0,
+            Origin::All => 1 << bits(variables),
+            Origin::Random { count, .. } => count,
+            Origin::File(_) => (self.listed.len() / variables.len().max(1)) as u64,
+        }
+    }
 }
 
 impl Wanted {
-    /// The points for a script's variables.
-    pub fn points(&self, variables: &[Sorted]) -> Result<Points, Failure> {
-        let sorts: Vec<Sort> = variables.iter().map(|one| one.sort).collect();
-        if let Wanted::Read(source) = self {
-            return read(source.read(MOST_BYTES)?);
+    /// The points of a text; none where they are made for the script.
+    pub fn given(&self) -> Result<Points, Failure> {
+        match self {
+            Wanted::Read(source) => read(source.read(MOST_BYTES)?),
+            _ => Ok(Points::none()),
         }
-        let origin = self.origin(&sorts);
-        let numbers = match origin {
-            Origin::All => every_point(&sorts),
-            Origin::Random { count, seed } => random_points(&sorts, count, seed),
-            _ => Vec::new(),
+    }
+
+    /// The points that are made for a script and its bodies.
+    pub fn made(&self, subject: &Subject) -> Points {
+        let variables = &subject.script.variables;
+        let origin = self.origin(subject);
+        let Origin::Random { count, seed } = origin else {
+            return Points {
+                origin,
+                ..Points::none()
+            };
         };
-        Ok(Points {
-            numbers,
+        let literals = literals(&subject.texts);
+        let edges = variables.iter().map(|one| edges(one.sort, &literals));
+        let edges: Vec<Vec<u64>> = edges.collect();
+        Points {
+            listed: chosen(subject, &edges, count, seed).concat(),
             origin,
             text: None,
-        })
+            edges,
+        }
     }
 
-    /// What the list of points that are not read is.
-    fn origin(&self, sorts: &[Sort]) -> Origin {
+    /// What the list of points that are made is.
+    fn origin(&self, subject: &Subject) -> Origin {
+        let variables = &subject.script.variables;
+        let all = bits(variables);
+        let cost = cost(subject);
         match self {
-            _ if sorts.is_empty() || sorts.len() > MOST_VARIABLES => Origin::None,
-            Wanted::Random { count, seed } => Origin::Random {
-                count: *count,
-                seed: *seed,
+            _ if variables.is_empty() => Origin::None,
+            Wanted::Random { count, seed } => match all <= ALL_BITS && *count >= 1 << all {
+                true => Origin::All,
+                false => Origin::Random {
+                    count: *count,
+                    seed: *seed,
+                },
             },
-            _ if all_fit(sorts) => Origin::All,
-            _ => Origin::Random {
-                count: MOST_NUMBERS / sorts.len(),
-                seed: SEED,
-            },
+            _ if all <= ALL_BITS && cost << all <= u128::from(subject.budget) => Origin::All,
+            _ => {
+                let one_call = (MOST_NUMBERS / variables.len()) as u64;
+                let fitting = u64::try_from(CHOSEN_UNITS / cost.max(1)).unwrap_or(CHOSEN);
+                Origin::Random {
+                    count: CHOSEN.min(fitting).max(one_call),
+                    seed: SEED,
+                }
+            }
         }
     }
 }
 
-/// Whether a list has room for every point of the sorts.
-fn all_fit(sorts: &[Sort]) -> bool {
-    let mut numbers = sorts.len() as u128;
-    for sort in sorts {
-        numbers = numbers.saturating_mul(u128::from(sort.greatest()) + 1);
-    }
-    numbers <= MOST_NUMBERS as u128
+/// How many bits a point has.
+pub fn bits(variables: &[Sorted]) -> u32 {
+    let bits = |one: &Sorted| match one.sort {
+        Sort::Bool => 1,
+        Sort::BitVec(width) => width,
+    };
+    variables.iter().map(bits).sum()
 }
 
-/// Every point of sorts for which all fit, the last variable changing first.
-fn every_point(sorts: &[Sort]) -> Vec<u64> {
-    let mut points = vec![Vec::new()];
-    for sort in sorts {
-        let longer = |point: &Vec<u64>| {
-            let longer = |number| [&point[..], &[number]].concat();
-            (0..=sort.greatest()).map(longer).collect::<Vec<_>>()
-        };
-        points = points.iter().flat_map(longer).collect();
-    }
-    points.concat()
+/// What all constraints cost at one point, at most 2^64.
+fn cost(subject: &Subject) -> u128 {
+    let functions = Functions::new(subject.script, subject.bodies);
+    let costs = constraint_costs(subject.script, &functions).into_iter();
+    let cost = costs.fold(0, u128::saturating_add);
+    cost.min(1 << 64)
 }
 
-/// The edge values of a sort: 0, 1, all ones, the highest bit, its neighbours, and small numbers.
-fn edges(sort: Sort) -> Vec<u64> {
-    let greatest = sort.greatest();
-    let highest = greatest / 2 + 1;
-    let mut edges = Vec::new();
-    for number in [
-        0,
-        1,
-        greatest,
-        highest,
-        highest - 1,
-        greatest - 1,
-        2,
-        3,
-        4,
-        5,
-        7,
-        8,
-        15,
-        16,
-        255,
-        256,
-    ] {
-        if number <= greatest && !edges.contains(&number) {
-            edges.push(number);
-        }
-    }
-    edges
-}
-
-/// So many points: first those where every variable has the same edge value of its sort, then pseudo-random numbers, one in four of them an edge value.
-fn random_points(sorts: &[Sort], count: usize, seed: u64) -> Vec<u64> {
-    let edges: Vec<Vec<u64>> = sorts.iter().map(|&sort| edges(sort)).collect();
-    let rounds = edges.iter().map(Vec::len).max().unwrap_or(0);
+/// The points with which a list begins, at most so many: those that a search finds, then edge values.
+fn chosen(subject: &Subject, edges: &[Vec<u64>], count: u64, seed: u64) -> Vec<Vec<u64>> {
+    let most = usize::try_from(count).unwrap_or(usize::MAX);
     let mut random = Random(seed);
-    let mut numbers = Vec::new();
-    for point in 0..count {
-        for (sort, edges) in sorts.iter().zip(&edges) {
-            let drawn = random.next();
-            numbers.push(match point < rounds {
-                true => edges[point % edges.len()],
-                false if drawn % 4 == 0 => edges[(drawn >> 8) as usize % edges.len()],
-                false => random.next() & sort.greatest(),
-            });
-        }
-    }
-    numbers
+    let mut pool = edge_points(edges, POOL, &mut random);
+    pool.extend((0..POOL / 4).map(|_| random_point(&subject.script.variables, edges, &mut random)));
+    let program = program(subject.script, subject.bodies);
+    let program = program.filter(|program| !program.roots.is_empty());
+    let found = program.map(|program| search(&program, &pool, seed));
+    let mut known = HashSet::new();
+    let mut chosen = found.unwrap_or_default();
+    chosen.extend(edge_points(edges, most / 2, &mut random));
+    chosen.retain(|point| known.insert(key(point)));
+    chosen.truncate(most);
+    chosen
 }
 
-/// Pseudo-random numbers from a seed (splitmix64).
-struct Random(u64);
-
-impl Random {
-    /// The next number.
-    fn next(&mut self) -> u64 {
-        self.0 = self.0.wrapping_add(0x9e37_79b9_7f4a_7c15);
-        let mixed = (self.0 ^ (self.0 >> 30)).wrapping_mul(0xbf58_476d_1ce4_e5b9);
-        let mixed = (mixed ^ (mixed >> 27)).wrapping_mul(0x94d0_49bb_1331_11eb);
-        mixed ^ (mixed >> 31)
+/// At most so many points of edge values: those where every variable has its edge value of the same index, then those where two variables have any two.
+fn edge_points(edges: &[Vec<u64>], most: usize, random: &mut Random) -> Vec<Vec<u64>> {
+    let longest = edges.iter().map(Vec::len).max().unwrap_or(0);
+    let point = |index: &mut dyn FnMut(usize) -> usize| -> Vec<u64> {
+        let values = edges.iter().enumerate();
+        values
+            .map(|(variable, edges)| edges[index(variable) % edges.len()])
+            .collect()
+    };
+    let same = (0..longest.min(most.div_ceil(2))).map(|index| point(&mut |_| index));
+    let mut points: Vec<Vec<u64>> = same.collect();
+    let variables =
+        (0..edges.len()).flat_map(|first| (0..edges.len()).map(move |second| (first, second)));
+    let variables: Vec<(usize, usize)> = variables
+        .filter(|(first, second)| first != second)
+        .collect();
+    let indices =
+        (0..longest).flat_map(|greater| (0..=greater).map(move |lesser| (greater, lesser)));
+    let pairs = indices.flat_map(|two| variables.iter().map(move |&variables| (two, variables)));
+    for ((greater, lesser), (first, second)) in pairs.take(most - points.len()) {
+        points.push(point(&mut |variable| match variable {
+            _ if variable == first => greater,
+            _ if variable == second => lesser,
+            _ => random.below(longest),
+        }));
     }
+    points
+}
+
+/// A point of pseudo-random numbers, one in four of them an edge value and one in four of any length.
+fn random_point(variables: &[Sorted], edges: &[Vec<u64>], random: &mut Random) -> Vec<u64> {
+    let mut number = |(variable, edges): (&Sorted, &Vec<u64>)| match random.below(4) {
+        0 => edges[random.below(edges.len())],
+        1 => random.short() & variable.sort.greatest(),
+        _ => random.next() & variable.sort.greatest(),
+    };
+    variables.iter().zip(edges).map(&mut number).collect()
+}
+
+/// A number for a point, by which points are told apart.
+fn key(point: &[u64]) -> u128 {
+    point.iter().fold(0, |key, &number| {
+        let low = Random(key as u64 ^ number).next();
+        let high = Random((key >> 64) as u64 ^ number.rotate_left(32)).next();
+        u128::from(high) << 64 | u128::from(low)
+    })
+}
+
+/// The numbers of a point list, part after part.
+pub struct Parts<'a> {
+    points: &'a Points,
+    variables: &'a [Sorted],
+    /// How many points were taken.
+    taken: u64,
+    random: Random,
+    /// The points that were taken, where they are chosen and pseudo-random ones.
+    known: HashSet<u128>,
+}
+
+impl<'a> Parts<'a> {
+    /// The parts of a list for a script's variables.
+    pub fn new(points: &'a Points, variables: &'a [Sorted]) -> Parts<'a> {
+        let (known, seed) = match points.origin {
+            Origin::Random { seed, .. } => {
+                let listed = points.listed.chunks(variables.len().max(1));
+                (listed.map(key).collect(), !seed)
+            }
+            _ => (HashSet::new(), SEED),
+        };
+        Parts {
+            points,
+            variables,
+            taken: 0,
+            random: Random(seed),
+            known,
+        }
+    }
+
+    /// The numbers of the next points, at most as many as one call takes; none at the end.
+    pub fn next(&mut self) -> Vec<u64> {
+        let width = self.variables.len().max(1);
+        let count = self.points.count(self.variables);
+        let most = count.min(self.taken + (MOST_NUMBERS / width) as u64);
+        let mut numbers = Vec::new();
+        while self.taken < most {
+            let point = self.point();
+            numbers.extend(point);
+            self.taken += 1;
+        }
+        numbers
+    }
+
+    /// The next point.
+    fn point(&mut self) -> Vec<u64> {
+        if self.points.origin == Origin::All {
+            return nth_point(self.variables, self.taken);
+        }
+        let width = self.variables.len().max(1);
+        let at = usize::try_from(self.taken)
+            .unwrap_or(usize::MAX)
+            .saturating_mul(width);
+        if let Some(listed) = self.points.listed.get(at..at.saturating_add(width)) {
+            return listed.to_vec();
+        }
+        loop {
+            let point = random_point(self.variables, &self.points.edges, &mut self.random);
+            if self.known.insert(key(&point)) {
+                return point;
+            }
+        }
+    }
+}
+
+/// The point of an index among all, the last variable changing first.
+fn nth_point(variables: &[Sorted], index: u64) -> Vec<u64> {
+    let mut rest = index;
+    let mut point: Vec<u64> = Vec::new();
+    for variable in variables.iter().rev() {
+        let greatest = variable.sort.greatest();
+        point.push(rest & greatest);
+        rest >>= greatest.count_ones();
+    }
+    point.reverse();
+    point
 }
 
 /// The numbers of a text, separated by white space, with comments from `;` to the end of a line.
@@ -227,9 +375,10 @@ fn read(text: Text) -> Result<Points, Failure> {
         spans.push((at, length));
     }
     Ok(Points {
-        numbers,
         origin: Origin::File(text.name.clone()),
+        listed: numbers,
         text: Some((text, spans)),
+        edges: Vec::new(),
     })
 }
 
@@ -277,19 +426,45 @@ pub fn number(word: &[u8]) -> Option<u64> {
 mod tests {
     use super::*;
 
-    /// Variables of sorts.
-    fn variables(sorts: &[Sort]) -> Vec<Sorted> {
-        let named = |&sort| Sorted {
-            name: "x".to_string(),
-            sort,
-        };
-        sorts.iter().map(named).collect()
+    /// A sound script with one function and variables, and the body of the function.
+    fn subject(variables: &str, constraint: &str, body: &str) -> (String, String) {
+        let rules =
+            "((Variable (_ BitVec 32)) (Constant (_ BitVec 32)) (bvadd W W) (ite (= W W) W W))";
+        let function = "synth-fun f ((n (_ BitVec 32))) (_ BitVec 32) ((W (_ BitVec 32)))";
+        let script = format!("(set-logic BV)({function} ((W (_ BitVec 32) {rules}))){variables}(constraint {constraint})(check-synth)");
+        (
+            script,
+            format!("((define-fun f ((n (_ BitVec 32))) (_ BitVec 32) {body}))"),
+        )
+    }
+
+    /// The points that are wanted for a script and a response, all of them, and how many numbers one has.
+    fn made(wanted: &Wanted, (script, response): &(String, String)) -> (Points, Vec<u64>) {
+        let texts = [script.as_bytes(), response.as_bytes()];
+        let script = simple::script::read(texts[0]).expect("a sound script");
+        let bodies = simple::response::read(texts[1], &script).expect("a sound response");
+        let points = wanted.made(&Subject {
+            script: &script,
+            bodies: &bodies,
+            texts,
+            budget: 1_000_000_000,
+        });
+        let mut parts = Parts::new(&points, &script.variables);
+        let mut numbers = Vec::new();
+        loop {
+            let next = parts.next();
+            if next.is_empty() {
+                return (points, numbers);
+            }
+            assert!(next.len() <= MOST_NUMBERS);
+            numbers.extend(next);
+        }
     }
 
     /// The points of a shipped text.
     fn numbers(text: &'static str) -> Result<Vec<u64>, Failure> {
         let wanted = Wanted::Read(Source::Shipped("p", text));
-        wanted.points(&[]).map(|points| points.numbers)
+        wanted.given().map(|points| points.listed)
     }
 
     #[test]
@@ -323,53 +498,91 @@ mod tests {
     }
 
     #[test]
-    fn every_point_where_all_fit() {
-        let wanted = Wanted::Fitting;
-        let points = wanted
-            .points(&variables(&[Sort::Bool, Sort::BitVec(2)]))
-            .expect("points");
-        assert_eq!(
-            points.numbers,
-            [0, 0, 0, 1, 0, 2, 0, 3, 1, 0, 1, 1, 1, 2, 1, 3]
+    fn every_point_where_there_are_not_too_many() {
+        let two = subject(
+            "(declare-var p Bool)(declare-var x (_ BitVec 2))",
+            "(or p true)",
+            "n",
         );
+        let (points, numbers) = made(&Wanted::Fitting, &two);
+        assert_eq!(numbers, [0, 0, 0, 1, 0, 2, 0, 3, 1, 0, 1, 1, 1, 2, 1, 3]);
         assert_eq!(points.origin, Origin::All);
-        let points = wanted
-            .points(&variables(&[Sort::BitVec(10)]))
-            .expect("points");
-        assert_eq!(points.numbers, (0..1024).collect::<Vec<u64>>());
-        let points = wanted.points(&[]).expect("points");
-        assert!(points.numbers.is_empty());
+        let many = Wanted::Random { count: 8, seed: 3 };
+        assert_eq!(made(&many, &two).0.origin, Origin::All);
+        let wide = subject("(declare-var x (_ BitVec 16))", "(= x x)", "n");
+        assert_eq!(
+            made(&Wanted::Fitting, &wide).1,
+            (0..1 << 16).collect::<Vec<u64>>()
+        );
+        let none = subject("", "true", "n");
+        assert_eq!(made(&Wanted::Fitting, &none).0.origin, Origin::None);
     }
 
     #[test]
-    fn random_points_begin_with_edge_values() {
-        let points = Wanted::Fitting
-            .points(&variables(&[Sort::BitVec(64), Sort::Bool]))
-            .expect("points");
-        assert_eq!(points.numbers.len(), 1024);
-        assert_eq!(points.origin.name().as_deref(), Some("random:512:1"));
-        assert_eq!(points.numbers[..8], [0, 0, 1, 1, u64::MAX, 0, 1 << 63, 1]);
-        let points = Wanted::Fitting
-            .points(&variables(&[Sort::BitVec(11)]))
-            .expect("points");
-        assert_eq!(points.origin.name().as_deref(), Some("random:1024:1"));
+    fn chosen_points_are_different_and_of_their_seed() {
+        let three = subject(
+            "(declare-var p Bool)(declare-var x (_ BitVec 64))(declare-var y (_ BitVec 3))",
+            "(=> p (= x x))",
+            "n",
+        );
+        let wanted = |seed| Wanted::Random { count: 2_000, seed };
+        let (points, numbers) = made(&wanted(7), &three);
+        assert_eq!(
+            (points.origin.name().as_deref(), numbers.len()),
+            (Some("random:2000:7"), 6_000)
+        );
+        assert!(numbers
+            .chunks(3)
+            .all(|point| point[0] <= 1 && point[2] <= 7));
+        let different: HashSet<&[u64]> = numbers.chunks(3).collect();
+        assert_eq!(different.len(), 2_000);
+        assert_eq!(made(&wanted(7), &three).1, numbers);
+        assert_ne!(made(&wanted(8), &three).1, numbers);
+        assert!(made(&Wanted::Random { count: 0, seed: 1 }, &three)
+            .1
+            .is_empty());
+        assert_eq!(
+            made(&Wanted::Fitting, &three).0.origin.name().as_deref(),
+            Some("random:4096:1")
+        );
     }
 
     #[test]
-    fn random_points_are_of_their_sorts_and_of_their_seed() {
-        let sorts = [
-            Sort::BitVec(3),
-            Sort::Bool,
-            Sort::BitVec(64),
-            Sort::BitVec(1),
-        ];
-        let numbers = random_points(&sorts, 200, 7);
-        assert_eq!(numbers.len(), 800);
-        for (number, sort) in numbers.iter().zip(sorts.iter().cycle()) {
-            assert!(*number <= sort.greatest());
+    fn a_constraint_that_is_false_at_one_point_is_false_at_the_first() {
+        let constraint = "(=> (= x #x12345678) (= (f (bvmul x #x00000003)) #x00000007))";
+        let one = subject(
+            "(declare-var x (_ BitVec 32))",
+            constraint,
+            "(bvadd n #x00000007)",
+        );
+        for seed in 1..=20 {
+            let (_, numbers) = made(&Wanted::Random { count: 9, seed }, &one);
+            assert_eq!(numbers[0], 0x1234_5678, "seed {seed}");
         }
-        assert_eq!(random_points(&sorts, 200, 7), numbers);
-        assert_ne!(random_points(&sorts, 200, 8), numbers);
-        assert!(random_points(&sorts, 0, 8).is_empty());
+    }
+
+    #[test]
+    fn constants_that_seldom_matter_are_reached() {
+        let constraint =
+            "(= (f (bvxor x #x0badcafe)) (ite (= x #x0badf00d) #x00000001 (bvxor x #x0badcafe)))";
+        let body = "(ite (= n #x00003af3) #x00000001 n)";
+        let one = subject("(declare-var x (_ BitVec 32))", constraint, body);
+        let (_, numbers) = made(
+            &Wanted::Random {
+                count: 200,
+                seed: 1,
+            },
+            &one,
+        );
+        assert!(numbers.contains(&0x0bad_f00d));
+        for wrong in ["#x00003af2", "#x40003af3", "#x000030f3"] {
+            let response = one.1.replace("#x00003af3", wrong);
+            let point = made(&Wanted::Fitting, &(one.0.clone(), response)).1[0];
+            let wrong = u64::from_str_radix(&wrong[2..], 16).expect("a number");
+            assert!(
+                [0x0bad_f00d, 0x0bad_cafe ^ wrong].contains(&point),
+                "{wrong:x}"
+            );
+        }
     }
 }

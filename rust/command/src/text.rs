@@ -1,8 +1,10 @@
 //! The outcome for people.
 
-use crate::answers::{counted, sentence, verdict};
+use crate::answers::{counted, grouped, sentence, verdict};
 use crate::derivation::Step;
 use crate::facts::{Derived, Facts, Judged, Located};
+use crate::place::place;
+use crate::refute::Claim;
 use std::io::{self, Write};
 
 /// Writes the one line that says the answer.
@@ -39,6 +41,8 @@ pub fn write(facts: &Facts, to: &mut impl Write) -> io::Result<()> {
     }
     if matches!(facts.answer.number, 0 | 14 | 15) {
         writeln!(to, "points: {}", facts.given.points.origin)?;
+        write_guards(facts, to)?;
+        write_claim(facts, to)?;
     }
     for derived in &facts.derived {
         match facts.answer.number {
@@ -47,6 +51,50 @@ pub fn write(facts: &Facts, to: &mut impl Write) -> io::Result<()> {
         }
     }
     Ok(())
+}
+
+/// Writes how often the left side of each `=>` held, with a warning where it never did.
+fn write_guards(facts: &Facts, to: &mut impl Write) -> io::Result<()> {
+    let script = &facts.given.script;
+    for guard in &facts.guards {
+        let place = place(&script.bytes, guard.place, 0);
+        write!(to, "{}:{}:{}: ", script.name, place.line, place.column)?;
+        match guard.held {
+            0 => writeln!(
+                to,
+                "warning: this left side of => held at no point: {}",
+                guard.term
+            )?,
+            held => {
+                let points = if held == 1 { "point" } else { "points" };
+                let held = grouped(held);
+                writeln!(
+                    to,
+                    "this left side of => held at {held} {points}: {}",
+                    guard.term
+                )?;
+            }
+        }
+    }
+    Ok(())
+}
+
+/// Writes what a solver claims that was asked for a point at which a constraint is false.
+fn write_claim(facts: &Facts, to: &mut impl Write) -> io::Result<()> {
+    let Some(Claim {
+        solver,
+        word,
+        point,
+    }) = &facts.claim
+    else {
+        return Ok(());
+    };
+    match (word.as_str(), point, facts.answer.number) {
+        ("unsat", ..) => writeln!(to, "refute: {solver} claims that no point makes a constraint false (unsat): its claim, which is outside the proof"),
+        ("sat", Some(_), 14) => writeln!(to, "refute: the point is from {solver}, the answer at it is the checker's"),
+        ("sat", ..) => writeln!(to, "refute: {solver} claims that some point makes a constraint false (sat), but gives none that does"),
+        _ => writeln!(to, "refute: {solver} gives no answer ({word})"),
+    }
 }
 
 /// A place as `file:line:column`.

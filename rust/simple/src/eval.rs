@@ -2,17 +2,60 @@
 
 use crate::grammar::Sorted;
 use crate::operators::Sort;
-use crate::script::Script;
+use crate::script::{Constraint, Script};
 use crate::terms::{extract_indices, operands};
 use crate::tree::Tree;
 use crate::words::Kind;
 use std::collections::HashMap;
+use std::fmt;
 
 /// A value of either sort.
 #[derive(Clone, Copy, Debug, PartialEq, Eq)]
 pub enum Value {
     Bool(bool),
     Bits { width: u32, bits: u64 },
+}
+
+impl Value {
+    /// The value of a sort that a point list writes as a number: "Bool is 0 or 1".
+    pub fn new(sort: Sort, number: u64) -> Value {
+        match sort {
+            Sort::Bool => Value::Bool(number == 1),
+            Sort::BitVec(width) => Value::Bits {
+                width,
+                bits: number,
+            },
+        }
+    }
+
+    /// The number that stands for the value in a point list.
+    pub fn number(self) -> u64 {
+        match self {
+            Value::Bool(holds) => u64::from(holds),
+            Value::Bits { bits, .. } => bits,
+        }
+    }
+
+    /// The sort of the value.
+    pub fn sort(self) -> Sort {
+        match self {
+            Value::Bool(_) => Sort::Bool,
+            Value::Bits { width, .. } => Sort::BitVec(width),
+        }
+    }
+}
+
+impl fmt::Display for Value {
+    /// `true` or `false`, or the number in hexadecimal with the digits of its width.
+    fn fmt(&self, to: &mut fmt::Formatter) -> fmt::Result {
+        match self {
+            Value::Bool(holds) => write!(to, "{holds}"),
+            Value::Bits { width, bits } => {
+                let digits = width.div_ceil(4) as usize;
+                write!(to, "0x{bits:0digits$x}")
+            }
+        }
+    }
 }
 
 /// A `define-fun` or a synthesized function: its arguments, its body and the body's cost.
@@ -28,7 +71,7 @@ pub struct Functions<'a> {
 }
 
 /// The values of arguments or variables by name.
-type Values<'a> = HashMap<&'a str, Value>;
+pub type Values<'a> = HashMap<&'a str, Value>;
 
 /// How the evaluation of the points ended.
 pub enum Outcome {
@@ -46,10 +89,8 @@ pub fn points_fault(points: &[u64], variables: &[Sorted]) -> Option<usize> {
     if !whole {
         return Some(points.len());
     }
-    let outside = |(index, &value): (usize, &u64)| match variables[index % variables.len()].sort {
-        Sort::Bool => value > 1,
-        Sort::BitVec(width) => value > ones(width),
-    };
+    let outside =
+        |(index, &value): (usize, &u64)| value > variables[index % variables.len()].sort.greatest();
     points.iter().enumerate().position(outside)
 }
 
@@ -61,7 +102,7 @@ pub fn evaluate(script: &Script, bodies: &[Tree], points: &[u64], budget: u64) -
     let costs = constraint_costs(script, &functions);
     let mut left = budget;
     for (point, values) in points.iter().enumerate() {
-        for (constraint, term) in script.constraints.iter().enumerate() {
+        for (constraint, Constraint { term, .. }) in script.constraints.iter().enumerate() {
             if costs[constraint] > u128::from(left) {
                 return (Outcome::BudgetEnded { point, constraint }, budget - left);
             }
@@ -89,7 +130,7 @@ pub fn false_constraints(
     };
     let costs = constraint_costs(script, &functions);
     let is_false = |&index: &usize| {
-        let value = || functions.value(&script.constraints[index], first);
+        let value = || functions.value(&script.constraints[index].term, first);
         costs[index] <= u128::from(most) && value() == Value::Bool(false)
     };
     (0..script.constraints.len()).filter(is_false).collect()
@@ -99,7 +140,7 @@ pub fn false_constraints(
 pub fn constraint_costs(script: &Script, functions: &Functions) -> Vec<u128> {
     let variables = script.variables.iter().map(|one| one.name.as_str());
     let variables: Vec<&str> = variables.collect();
-    let cost = |constraint| functions.cost(constraint, &variables);
+    let cost = |constraint: &Constraint| functions.cost(&constraint.term, &variables);
     script.constraints.iter().map(cost).collect()
 }
 
@@ -108,20 +149,16 @@ fn whole_points<'a>(points: &[u64], variables: &'a [Sorted]) -> Vec<Values<'a>> 
     if variables.is_empty() {
         return vec![Values::new()];
     }
-    let value = |variable: &Sorted, number: u64| match variable.sort {
-        Sort::Bool => Value::Bool(number == 1),
-        Sort::BitVec(width) => Value::Bits {
-            width,
-            bits: number,
-        },
-    };
-    let point = |numbers: &[u64]| {
-        let pairs = variables.iter().zip(numbers);
-        pairs
-            .map(|(variable, &number)| (variable.name.as_str(), value(variable, number)))
-            .collect()
-    };
+    let point = |numbers: &[u64]| named_values(variables, numbers);
     points.chunks(variables.len()).map(point).collect()
+}
+
+/// Variables or arguments with the values that numbers of a point list stand for.
+pub fn named_values<'a>(variables: &'a [Sorted], numbers: &[u64]) -> Values<'a> {
+    let pairs = variables.iter().zip(numbers);
+    pairs
+        .map(|(variable, &number)| (variable.name.as_str(), Value::new(variable.sort, number)))
+        .collect()
 }
 
 impl<'a> Functions<'a> {
@@ -161,7 +198,7 @@ impl<'a> Functions<'a> {
     /// "Cost of a literal or variable is 1; of an application (a function without arguments too) 1 plus its operands'
     /// costs, plus the body's cost where it is a `define-fun` or a synthesized function." A cost past 2^128 counts as
     /// 2^128 - 1, which is past every budget all the same.
-    fn cost(&self, term: &Tree, leaves: &[&str]) -> u128 {
+    pub fn cost(&self, term: &Tree, leaves: &[&str]) -> u128 {
         let called = self.called(term, |name| leaves.contains(&name));
         let mut cost = 1 + called.map_or(0, |function| function.cost.min(u128::MAX - 1));
         for operand in operands(term) {
@@ -171,7 +208,7 @@ impl<'a> Functions<'a> {
     }
 
     /// The value of a term without fault. "All operands are evaluated, also of `ite`."
-    fn value(&self, term: &Tree, leaves: &Values) -> Value {
+    pub fn value(&self, term: &Tree, leaves: &Values) -> Value {
         let values = operands(term).iter();
         let values: Vec<Value> = values.map(|operand| self.value(operand, leaves)).collect();
         if let Some(function) = self.called(term, |name| leaves.contains_key(name)) {
@@ -179,17 +216,30 @@ impl<'a> Functions<'a> {
             return self.value(function.body, &names.zip(values).collect());
         }
         match term {
-            Tree::Leaf(word) => match word.kind {
-                Kind::Bits { width, value } => Value::Bits { width, bits: value },
-                _ if word.text == "true" => Value::Bool(true),
-                _ if word.text == "false" => Value::Bool(false),
-                _ => leaves[word.text.as_str()],
-            },
-            Tree::List { items, .. } => match extract_indices(&items[0]) {
-                Some((i, j)) => extract(i, j, values[0]),
-                None => apply(items[0].symbol().expect("an operator"), &values),
-            },
+            Tree::Leaf(word) => literal_value(term).unwrap_or_else(|| leaves[word.text.as_str()]),
+            Tree::List { items, .. } => operator_value(&items[0], &values),
         }
+    }
+}
+
+/// The value of a literal, none if the tree is another one.
+pub fn literal_value(tree: &Tree) -> Option<Value> {
+    match tree {
+        Tree::Leaf(word) => match word.kind {
+            Kind::Bits { width, value } => Some(Value::Bits { width, bits: value }),
+            _ if word.text == "true" => Some(Value::Bool(true)),
+            _ if word.text == "false" => Some(Value::Bool(false)),
+            _ => None,
+        },
+        Tree::List { .. } => None,
+    }
+}
+
+/// The value of an operator, by the head of its application, at operands of right sorts.
+pub fn operator_value(head: &Tree, operands: &[Value]) -> Value {
+    match extract_indices(head) {
+        Some((i, j)) => extract(i, j, operands[0]),
+        None => apply(head.symbol().expect("an operator"), operands),
     }
 }
 
@@ -202,7 +252,7 @@ fn ones(width: u32) -> u64 {
 fn modulo(width: u32, result: u128) -> Value {
     Value::Bits {
         width,
-        bits: (result % (1 << width)) as u64,
+        bits: result as u64 & ones(width),
     }
 }
 

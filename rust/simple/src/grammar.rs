@@ -4,9 +4,10 @@ use crate::operators::Sort;
 use crate::terms::{literal_sort, operands};
 use crate::tree::Tree;
 use std::collections::HashMap;
+use std::fmt;
 
 /// An argument, a variable or a non-terminal with its sort.
-#[derive(Clone, Debug)]
+#[derive(Clone, Debug, PartialEq, Eq)]
 pub struct Sorted {
     pub name: String,
     pub sort: Sort,
@@ -18,6 +19,17 @@ pub enum Form {
     Constant(Sort),
     Variable(Sort),
     Term(Tree),
+}
+
+impl fmt::Display for Form {
+    /// The rule on one line.
+    fn fmt(&self, to: &mut fmt::Formatter) -> fmt::Result {
+        match self {
+            Form::Constant(sort) => write!(to, "(Constant {sort})"),
+            Form::Variable(sort) => write!(to, "(Variable {sort})"),
+            Form::Term(term) => write!(to, "{term}"),
+        }
+    }
 }
 
 /// A rule and the index of its non-terminal.

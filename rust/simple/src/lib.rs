@@ -1,18 +1,22 @@
 //! A simple reference checker, written straight from document 01. Each function names the sentence that it follows.
+//!
+//! `check` is the whole of it. Its parts are there for other programs that read the same texts: the words of a text (`words`), trees of words (`tree`), sorts
+//! (`operators`), what a script and a response say (`script`, `response`, `grammar`), and values and costs of terms (`eval`).
 
 mod commands;
-mod eval;
+pub mod eval;
 pub mod generate;
-mod grammar;
-mod operators;
+pub mod grammar;
+pub mod operators;
 pub mod replay;
-mod response;
-mod script;
+pub mod response;
+pub mod script;
 mod terms;
-mod tree;
-mod words;
+pub mod tree;
+pub mod words;
 
 use eval::Outcome;
+pub use terms::operands;
 pub use words::word;
 
 /// "Script 32,768 bytes".
@@ -49,9 +53,9 @@ pub struct Answer {
 
 /// The number and place of a fault in a text.
 #[derive(Clone, Copy, Debug, PartialEq, Eq)]
-struct Fault {
-    number: u8,
-    place: usize,
+pub struct Fault {
+    pub number: u8,
+    pub place: usize,
 }
 
 impl Fault {

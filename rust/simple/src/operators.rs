@@ -1,10 +1,32 @@
 //! "Each operator's name, operand count and sort rule stand in one table."
 
+use std::fmt;
+
 /// "Sorts: `Bool`, `(_ BitVec n)`".
 #[derive(Clone, Copy, Debug, PartialEq, Eq)]
 pub enum Sort {
     Bool,
     BitVec(u32),
+}
+
+impl Sort {
+    /// The greatest number that a point list may have for a variable of the sort: "Bool is 0 or 1".
+    pub fn greatest(self) -> u64 {
+        match self {
+            Sort::Bool => 1,
+            Sort::BitVec(width) => u64::MAX >> (64 - width),
+        }
+    }
+}
+
+impl fmt::Display for Sort {
+    /// As a script writes it.
+    fn fmt(&self, to: &mut fmt::Formatter) -> fmt::Result {
+        match self {
+            Sort::Bool => to.write_str("Bool"),
+            Sort::BitVec(width) => write!(to, "(_ BitVec {width})"),
+        }
+    }
 }
 
 /// How an operator's sort follows from the sorts of its operands.

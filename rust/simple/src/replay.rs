@@ -83,7 +83,7 @@ fn replay(function: &Synthesized, body: &Tree, shown: &[u16]) -> Result<(), Stri
 }
 
 /// "`(Constant σ)` derives any literal of sort σ".
-fn is_literal(word: &str, sort: Sort) -> bool {
+pub fn is_literal(word: &str, sort: Sort) -> bool {
     match sort {
         Sort::Bool => word == "true" || word == "false",
         Sort::BitVec(width) => {
@@ -95,7 +95,7 @@ fn is_literal(word: &str, sort: Sort) -> bool {
 }
 
 /// "`(Variable σ)` any argument of that function of sort σ".
-fn is_argument(word: &str, sort: Sort, arguments: &[Sorted]) -> bool {
+pub fn is_argument(word: &str, sort: Sort, arguments: &[Sorted]) -> bool {
     let mut arguments = arguments.iter();
     arguments.any(|argument| argument.name == word && argument.sort == sort)
 }

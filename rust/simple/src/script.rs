@@ -43,13 +43,19 @@ pub struct Synthesized {
     pub definitions_before: usize,
 }
 
+/// A constraint's term, and the place of its command.
+pub struct Constraint {
+    pub place: usize,
+    pub term: Tree,
+}
+
 /// What the commands so far have brought.
 #[derive(Default)]
 pub struct Script {
     pub variables: Vec<Sorted>,
     pub definitions: Vec<Definition>,
     pub synthesized: Vec<Synthesized>,
-    pub constraints: Vec<Tree>,
+    pub constraints: Vec<Constraint>,
     logic_set: bool,
     ended: bool,
 }
@@ -60,7 +66,7 @@ pub fn read(text: &[u8]) -> Result<Script, Fault> {
     for tree in trees(words::read(text, MOST_WORDS)?) {
         match script.first_fault(&tree) {
             Some(fault) => return Err(fault),
-            None => script.enter(&command(&tree).expect("a command")),
+            None => script.enter(&tree),
         }
     }
     if !script.ended {
@@ -285,8 +291,8 @@ impl Script {
     }
 
     /// Takes in a command without fault.
-    fn enter(&mut self, command: &Command) {
-        match command {
+    fn enter(&mut self, tree: &Tree) {
+        match &command(tree).expect("a command") {
             Command::SetLogic => self.logic_set = true,
             Command::DeclareVar { name, sort } => self.variables.push(sorted(name, sort)),
             Command::DefineFun(definition) => self.definitions.push(Definition {
@@ -303,7 +309,10 @@ impl Script {
                 grammar: grammar(synth),
                 definitions_before: self.definitions.len(),
             }),
-            Command::Constraint(term) => self.constraints.push((*term).clone()),
+            Command::Constraint(term) => self.constraints.push(Constraint {
+                place: tree.start(),
+                term: (*term).clone(),
+            }),
             Command::CheckSynth => self.ended = true,
         }
     }

@@ -1,6 +1,7 @@
 //! The words of a text as trees: a tree is a word or a bracketed list of trees.
 
 use crate::words::{Kind, Word};
+use std::fmt;
 
 /// A word that is no bracket, or a list with its two brackets' places.
 #[derive(Clone, Debug)]
@@ -99,4 +100,24 @@ impl Tree {
             _ => false,
         }
     }
+}
+
+impl fmt::Display for Tree {
+    /// Its words on one line.
+    fn fmt(&self, to: &mut fmt::Formatter) -> fmt::Result {
+        let words = self.words().into_iter();
+        to.write_str(&joined(words.map(|(_, word)| word)))
+    }
+}
+
+/// Words on one line, with single spaces and none inside brackets.
+pub fn joined<'a>(words: impl IntoIterator<Item = &'a str>) -> String {
+    let mut line = String::new();
+    for word in words {
+        if !line.is_empty() && !line.ends_with('(') && word != ")" {
+            line.push(' ');
+        }
+        line.push_str(word);
+    }
+    line
 }

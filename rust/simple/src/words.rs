@@ -53,7 +53,7 @@ fn word_end(text: &[u8], start: usize) -> usize {
 }
 
 /// All words of a text, sound or not, in order.
-fn cut(text: &[u8]) -> Vec<Range<usize>> {
+pub fn cut(text: &[u8]) -> Vec<Range<usize>> {
     let mut words = Vec::new();
     let mut at = 0;
     while at < text.len() {
