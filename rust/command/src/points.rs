@@ -189,10 +189,11 @@ impl Wanted {
             _ => {
                 let one_call = (MOST_NUMBERS / variables.len()) as u64;
                 let fitting = u64::try_from(CHOSEN_UNITS / cost.max(1)).unwrap_or(CHOSEN);
-                Origin::Random {
+                let random = Wanted::Random {
                     count: CHOSEN.min(fitting).max(one_call),
                     seed: SEED,
-                }
+                };
+                random.origin(subject)
             }
         }
     }
