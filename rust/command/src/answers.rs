@@ -41,6 +41,8 @@ pub enum Verdict {
     Accepted,
     /// The response is found wanting.
     Rejected,
+    /// The budget ended before there was a verdict.
+    Undecided,
     /// The input is not one that can be judged.
     Refused,
 }
@@ -49,7 +51,8 @@ pub enum Verdict {
 pub fn verdict(number: u8) -> Verdict {
     match number {
         0 => Verdict::Accepted,
-        10..=15 => Verdict::Rejected,
+        10..=14 => Verdict::Rejected,
+        15 => Verdict::Undecided,
         _ => Verdict::Refused,
     }
 }
@@ -59,7 +62,7 @@ impl Verdict {
     pub fn status(self) -> u8 {
         match self {
             Verdict::Accepted => 0,
-            Verdict::Rejected => 1,
+            Verdict::Rejected | Verdict::Undecided => 1,
             Verdict::Refused => 2,
         }
     }
@@ -69,6 +72,7 @@ impl Verdict {
         match self {
             Verdict::Accepted => "accepted",
             Verdict::Rejected => "rejected",
+            Verdict::Undecided => "undecided",
             Verdict::Refused => "refused",
         }
     }
@@ -80,6 +84,16 @@ pub fn meaning(number: u8) -> &'static str {
         .get(usize::from(number))
         .copied()
         .unwrap_or("unknown answer")
+}
+
+/// The name of the text that the first line names: the one that the answer speaks of, else the response.
+pub fn file(facts: &Facts) -> &str {
+    let points = facts.given.points.text.as_ref();
+    match (facts.answer.text, facts.answer.number, points) {
+        (0, ..) => &facts.given.script.name,
+        (2, 1 | 16, Some((text, _))) => &text.name,
+        _ => &facts.given.response.name,
+    }
 }
 
 /// The name of a text.
@@ -119,6 +133,9 @@ pub fn sentence(facts: &Facts) -> String {
     let (place, second) = (answer.place, answer.second);
     let located = facts.located.as_ref();
     let word = located.map_or("", |one| one.place.word.as_str());
+    if let Some(cause) = &facts.cause {
+        return cause.clone();
+    }
     match answer.number {
         0 => accepted(facts),
         1 => too_long(facts),
@@ -274,6 +291,7 @@ mod tests {
         let rejected = (0..=16).filter(|&number| verdict(number).status() == 1);
         assert_eq!(rejected.collect::<Vec<u8>>(), [10, 11, 12, 13, 14, 15]);
         assert_eq!((verdict(1).word(), verdict(16).status()), ("refused", 2));
+        assert_eq!(verdict(15).word(), "undecided");
     }
 
     #[test]

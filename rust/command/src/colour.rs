@@ -4,9 +4,10 @@ use std::env;
 use std::io::{self, IsTerminal};
 
 /// The verdict words and their colours: green, red, yellow.
-const VERDICTS: [(&str, &str); 3] = [
+const VERDICTS: [(&str, &str); 4] = [
     ("accepted", "1;32"),
     ("rejected", "1;31"),
+    ("undecided", "1;33"),
     ("refused", "1;33"),
 ];
 /// The colour of carets.

@@ -1,22 +1,30 @@
 //! What is known of a check once the checker has answered: the same facts for people and for programs.
 
-use crate::derivation::{steps, stranger, Step};
+use crate::derivation::{steps, Step};
 use crate::evaluation::value;
 use crate::failure::Failure;
 use crate::guards::Guard;
-use crate::place::{place, unclosed, Place};
+use crate::notes::{cause, Cause};
+use crate::place::{place, Place};
 use crate::points::Points;
 use crate::refute::Claim;
 use crate::run::{Given, Run};
 use crate::source::Text;
 use simple::eval::Value;
 use simple::grammar::Sorted;
+use std::ops::Range;
 use sverdhyll::{Answer, Library, LIST_LENGTH, UNUSED};
 
 /// A place with the name of its text.
 pub struct Located {
     pub file: String,
     pub place: Place,
+}
+
+/// A sentence that helps to find the fault, with the place that it speaks of.
+pub struct Note {
+    pub message: String,
+    pub located: Option<Located>,
 }
 
 /// A function with its body and its derivation.
@@ -44,8 +52,10 @@ pub struct Facts {
     pub answer: Answer,
     /// The place that the answer names, where it is one in a text.
     pub located: Option<Located>,
-    /// A second place that helps to find the fault, and what it is.
-    pub note: Option<(String, Located)>,
+    /// The cause in a sentence, where the command knows it.
+    pub cause: Option<String>,
+    /// What else helps to find the fault.
+    pub notes: Vec<Note>,
     /// The function without derivation.
     pub function: Option<String>,
     /// After 0, 14 and 15.
@@ -70,9 +80,11 @@ pub fn gather(
     if answer.number == 1 {
         answer.place = whole_length(&given, answer);
     }
+    let mut cause = cause(&given, answer, &run.point);
     Ok(Facts {
         located: located(library, &given, answer)?,
-        note: note(&given, answer),
+        cause: cause.sentence.take(),
+        notes: notes(&given, answer, cause),
         function: function_of(&given, answer),
         derived: derived(&given, answer, &run.area)?,
         judged: judged(&given, answer, &run.point),
@@ -133,29 +145,21 @@ fn function_of(given: &Given, answer: Answer) -> Option<String> {
         .map(|one| one.name.clone())
 }
 
-/// A second place: the first bracket that stays open (3), or the first word of a body that no rule gives (13).
-fn note(given: &Given, answer: Answer) -> Option<(String, Located)> {
+/// The notes of a cause, with their places in the text that the answer speaks of; what goes on in the next line is left out.
+fn notes(given: &Given, answer: Answer, cause: Cause) -> Vec<Note> {
     let text = match answer.text {
         0 => &given.script,
         _ => &given.response,
     };
-    match answer.number {
-        3 if answer.place == text.length => {
-            let at = unclosed(&text.bytes)?;
-            Some((
-                "this bracket is never closed".to_string(),
-                located_word(text, at, 1),
-            ))
-        }
-        13 => {
-            let index = answer.second as usize;
-            let function = given.read.synthesized.get(index)?;
-            let (at, word) = stranger(function, given.bodies.get(index)?)?;
-            let what = format!("no rule of the grammar of {} gives `{word}`", function.name);
-            Some((what, located_word(text, at, word.len())))
-        }
-        _ => None,
-    }
+    let first_line = |at: Range<usize>| {
+        let mut lines = text.bytes[at.clone()].split(|&byte| matches!(byte, b'\r' | b'\n'));
+        located_word(text, at.start, lines.next().map_or(0, <[u8]>::len))
+    };
+    let note = cause.hints.into_iter().map(|hint| Note {
+        located: hint.at.map(first_line),
+        message: hint.message,
+    });
+    note.collect()
 }
 
 /// The derivation of each function, as the area shows it.

@@ -2,7 +2,7 @@
 
 use crate::answers::{meaning, sentence, status, text_name, verdict};
 use crate::derivation::Step;
-use crate::facts::{Derived, Facts, Judged, Located};
+use crate::facts::{Derived, Facts, Judged, Located, Note};
 use crate::failure::{Failure, FAILED};
 use crate::guards::Guard;
 use crate::place::place;
@@ -73,7 +73,8 @@ pub fn object(facts: &Facts, library: &str) -> String {
         ("response", file(&facts.given.response)),
         ("points", points(facts)),
         ("location", or_null(facts.located.as_ref(), location)),
-        ("note", or_null(facts.note.as_ref(), note)),
+        ("note", or_null(placed(facts), note)),
+        ("notes", List(facts.notes.iter().map(note).collect())),
         ("constraint", or_null(facts.judged.as_ref(), constraint)),
         (
             "guards",
@@ -138,11 +139,16 @@ fn location(located: &Located) -> Json {
     ])
 }
 
-/// A second place that helps to find the fault.
-fn note((what, located): &(String, Located)) -> Json {
+/// The first note that has a place.
+fn placed(facts: &Facts) -> Option<&Note> {
+    facts.notes.iter().find(|note| note.located.is_some())
+}
+
+/// A note, with the place that it speaks of.
+fn note(note: &Note) -> Json {
     Object(vec![
-        ("message", text(what)),
-        ("location", location(located)),
+        ("message", text(&note.message)),
+        ("location", or_null(note.located.as_ref(), location)),
     ])
 }
 

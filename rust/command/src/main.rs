@@ -15,6 +15,7 @@ mod facts;
 mod failure;
 mod guards;
 mod json;
+mod notes;
 mod place;
 mod points;
 mod program;

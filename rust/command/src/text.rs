@@ -1,17 +1,18 @@
 //! The outcome for people.
 
-use crate::answers::{counted, grouped, sentence, verdict};
+use crate::answers::{counted, file, grouped, sentence, verdict};
 use crate::derivation::Step;
-use crate::facts::{Derived, Facts, Judged, Located};
+use crate::facts::{Derived, Facts, Judged, Located, Note};
 use crate::place::place;
 use crate::refute::Claim;
 use std::io::{self, Write};
 
-/// Writes the one line that says the answer.
+/// Writes the one line that says the answer: the file with the place, where there is one, then the verdict.
 pub fn write_line(facts: &Facts, to: &mut impl Write) -> io::Result<()> {
     let answer = facts.answer;
-    if let Some(located) = &facts.located {
-        write!(to, "{}: ", position(located))?;
+    match &facts.located {
+        Some(located) => write!(to, "{}: ", position(located))?,
+        None => write!(to, "{}: ", file(facts))?,
     }
     let verdict = verdict(answer.number).word();
     write!(
@@ -32,12 +33,11 @@ pub fn write(facts: &Facts, to: &mut impl Write) -> io::Result<()> {
     if let Some(located) = &facts.located {
         write_source(located, to)?;
     }
-    if let Some((what, located)) = &facts.note {
-        writeln!(to, "{}: {what}", position(located))?;
-        write_source(located, to)?;
-    }
     if let Some(judged) = &facts.judged {
         write_judged(facts, judged, to)?;
+    }
+    for note in &facts.notes {
+        write_note(note, to)?;
     }
     if matches!(facts.answer.number, 0 | 14 | 15) {
         writeln!(to, "points: {}", facts.given.points.origin)?;
@@ -95,6 +95,15 @@ fn write_claim(facts: &Facts, to: &mut impl Write) -> io::Result<()> {
         ("sat", ..) => writeln!(to, "refute: {solver} claims that some point makes a constraint false (sat), but gives none that does"),
         _ => writeln!(to, "refute: {solver} gives no answer ({word})"),
     }
+}
+
+/// Writes a note, with the line of its place where it has one.
+fn write_note(note: &Note, to: &mut impl Write) -> io::Result<()> {
+    let Some(located) = &note.located else {
+        return writeln!(to, "note: {}", note.message);
+    };
+    writeln!(to, "{}: note: {}", position(located), note.message)?;
+    write_source(located, to)
 }
 
 /// A place as `file:line:column`.

@@ -55,7 +55,7 @@ impl Grammar {
 }
 
 /// For each node of a body, by its place: for each non-terminal the rule by which it derives the node, if it does.
-struct Search<'a> {
+pub struct Search<'a> {
     grammar: &'a Grammar,
     arguments: &'a [Sorted],
     chosen: HashMap<usize, Vec<Option<usize>>>,
@@ -63,19 +63,30 @@ struct Search<'a> {
 
 /// The rule numbers of a derivation of the body from the start, "leftmost first"; none if there is no derivation.
 pub fn derivation(grammar: &Grammar, arguments: &[Sorted], body: &Tree) -> Option<Vec<u16>> {
-    let mut search = Search {
-        grammar,
-        arguments,
-        chosen: HashMap::new(),
-    };
-    search.visit(body);
+    let search = Search::new(grammar, arguments, body);
     search.chosen[&body.start()][0]?;
     let mut numbers = Vec::new();
     search.show(0, body, &mut numbers);
     Some(numbers)
 }
 
-impl Search<'_> {
+impl<'a> Search<'a> {
+    /// Which non-terminals derive each node of a body.
+    pub fn new(grammar: &'a Grammar, arguments: &'a [Sorted], body: &Tree) -> Search<'a> {
+        let mut search = Search {
+            grammar,
+            arguments,
+            chosen: HashMap::new(),
+        };
+        search.visit(body);
+        search
+    }
+
+    /// Whether a non-terminal derives a node of the body.
+    pub fn has(&self, nonterminal: usize, node: &Tree) -> bool {
+        self.chosen[&node.start()][nonterminal].is_some()
+    }
+
     /// "A non-terminal derives a term if one of its rules does": first by rules that are no chain, then by chains until
     /// nothing more is added, so that no non-terminal comes twice at one place.
     fn visit(&mut self, node: &Tree) {
@@ -105,7 +116,7 @@ impl Search<'_> {
     }
 
     /// The non-terminal that is the whole of a rule.
-    fn chain(&self, rule: &Rule) -> Option<usize> {
+    pub fn chain(&self, rule: &Rule) -> Option<usize> {
         match &rule.form {
             Form::Term(term) => self.grammar.nonterminal(term),
             _ => None,
@@ -126,7 +137,7 @@ impl Search<'_> {
     /// "the term equals the rule with each non-terminal replaced, place by place, by a term it derives".
     fn equals(&self, rule: &Tree, node: &Tree) -> bool {
         if let Some(nonterminal) = self.grammar.nonterminal(rule) {
-            return self.chosen[&node.start()][nonterminal].is_some();
+            return self.has(nonterminal, node);
         }
         match (rule.items(), node.items()) {
             (Some([rule_head, rule_operands @ ..]), Some([node_head, node_operands @ ..])) => {

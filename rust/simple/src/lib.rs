@@ -1,9 +1,10 @@
 //! A simple reference checker, written straight from document 01. Each function names the sentence that it follows.
 //!
 //! `check` is the whole of it. Its parts are there for other programs that read the same texts: the words of a text (`words`), trees of words (`tree`), sorts
-//! (`operators`), what a script and a response say (`script`, `response`, `grammar`), and values and costs of terms (`eval`).
+//! (`operators`), the forms of commands and terms (`commands`, `terms`), what a script and a response say (`script`, `response`, `grammar`), and values and costs of
+//! terms (`eval`).
 
-mod commands;
+pub mod commands;
 pub mod eval;
 pub mod generate;
 pub mod grammar;
@@ -11,7 +12,7 @@ pub mod operators;
 pub mod replay;
 pub mod response;
 pub mod script;
-mod terms;
+pub mod terms;
 pub mod tree;
 pub mod words;
 

@@ -62,17 +62,24 @@ pub struct Script {
 
 /// The script that a text is, or its first fault.
 pub fn read(text: &[u8]) -> Result<Script, Fault> {
+    let trees = trees(words::read(text, MOST_WORDS)?);
+    match before_fault(&trees) {
+        (_, Some((_, fault))) => Err(fault),
+        (script, None) if !script.ended => Err(Fault::new(5, text.len())),
+        (script, None) => Ok(script),
+    }
+}
+
+/// What the commands before the first faulty one have brought, and that one with its fault.
+pub fn before_fault(trees: &[Tree]) -> (Script, Option<(&Tree, Fault)>) {
     let mut script = Script::default();
-    for tree in trees(words::read(text, MOST_WORDS)?) {
-        match script.first_fault(&tree) {
-            Some(fault) => return Err(fault),
-            None => script.enter(&tree),
+    for tree in trees {
+        match script.first_fault(tree) {
+            Some(fault) => return (script, Some((tree, fault))),
+            None => script.enter(tree),
         }
     }
-    if !script.ended {
-        return Err(Fault::new(5, text.len()));
-    }
-    Ok(script)
+    (script, None)
 }
 
 /// The name of an argument or non-terminal with its sort.
@@ -89,7 +96,7 @@ fn symbol(name: &Tree) -> &str {
 }
 
 /// The arguments of a header.
-fn arguments(header: &Header) -> Vec<Sorted> {
+pub fn arguments(header: &Header) -> Vec<Sorted> {
     let arguments = header.arguments.iter();
     arguments
         .map(|argument| sorted(argument.name, argument.sort))
@@ -334,7 +341,7 @@ impl Script {
 
     /// "A grammar rule and a response body see the function's arguments and the `define-fun`s before that `synth-fun`;
     /// a rule also sees its non-terminals."
-    fn seen_by_rule(&self, synth: &SynthFun) -> Vec<Name> {
+    pub fn seen_by_rule(&self, synth: &SynthFun) -> Vec<Name> {
         let mut seen = self.seen_by_function(&arguments(&synth.header), self.definitions.len());
         let nonterminals = synth.predeclared.iter();
         let nonterminals = nonterminals.map(|pair| sorted(pair.name, pair.sort));
@@ -343,7 +350,7 @@ impl Script {
     }
 
     /// "Constraints see all earlier names."
-    fn seen_by_constraint(&self) -> Vec<Name> {
+    pub fn seen_by_constraint(&self) -> Vec<Name> {
         let mut seen = self.seen_by_function(&self.variables, self.definitions.len());
         let synthesized = self.synthesized.iter();
         seen.extend(synthesized.map(|one| function(&one.name, &one.arguments, one.sort)));
@@ -352,7 +359,7 @@ impl Script {
 }
 
 /// The new names of a header: the command's and its arguments'.
-fn header_names<'a>(header: &Header<'a>) -> Vec<&'a Tree> {
+pub fn header_names<'a>(header: &Header<'a>) -> Vec<&'a Tree> {
     let arguments = header.arguments.iter().map(|argument| argument.name);
     [header.name].into_iter().chain(arguments).collect()
 }
@@ -380,7 +387,7 @@ fn past_limit_in_synth_fun(synth: &SynthFun) -> Vec<usize> {
 }
 
 /// All sorts written in a `synth-fun`: in its header, its predeclaration, its listing and its rules.
-fn synth_fun_sorts<'a>(synth: &SynthFun<'a>) -> Vec<&'a Tree> {
+pub fn synth_fun_sorts<'a>(synth: &SynthFun<'a>) -> Vec<&'a Tree> {
     let mut sorts = synth.header.sorts();
     sorts.extend(synth.predeclared.iter().map(|pair| pair.sort));
     for group in &synth.groups {
@@ -395,7 +402,7 @@ fn synth_fun_sorts<'a>(synth: &SynthFun<'a>) -> Vec<&'a Tree> {
 }
 
 /// All rules of a `synth-fun` that are terms.
-fn rule_terms<'a>(synth: &SynthFun<'a>) -> Vec<&'a Tree> {
+pub fn rule_terms<'a>(synth: &SynthFun<'a>) -> Vec<&'a Tree> {
     let rules = synth.groups.iter().flat_map(|group| group.rules);
     let term = |rule| match rule_form(rule) {
         Some(RuleForm::Term(term)) => Some(term),
@@ -405,7 +412,7 @@ fn rule_terms<'a>(synth: &SynthFun<'a>) -> Vec<&'a Tree> {
 }
 
 /// The sort of a rule without fault.
-fn rule_sort(rule: &Tree, seen: &[Name]) -> Sort {
+pub fn rule_sort(rule: &Tree, seen: &[Name]) -> Sort {
     match rule_form(rule).expect("a rule") {
         RuleForm::Constant(written) | RuleForm::Variable(written) => sort(written),
         RuleForm::Term(term) => sort_of(term, seen).expect("a term without fault"),

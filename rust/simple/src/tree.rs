@@ -50,6 +50,14 @@ impl Tree {
         }
     }
 
+    /// The offset behind the last word.
+    pub fn end(&self) -> usize {
+        match self {
+            Tree::Leaf(word) => word.start + word.text.len(),
+            Tree::List { close, .. } => close + 1,
+        }
+    }
+
     /// The text of a symbol.
     pub fn symbol(&self) -> Option<&str> {
         match self {
