@@ -5,5 +5,4 @@ pub mod RuledOperands
 pub mod Applying
 pub mod Below
 pub mod Closed
-pub mod Bench
 pub mod Results
