@@ -7,6 +7,7 @@ use lib.ListN.{drop, length, take}
 use Rattle.script.specs.code.Places.{formsPlace, offsetIn}
 use Rattle.script_reader.proofs.NodeTableParts.{all-lent, formsLent}
 use Rattle.script.specs.declared.Progress.{Progress}
+use Rattle.script.specs.code.Answers.{underivedAnswer}
 use Rattle.response.proofs.Picked.{order-length}
 use Rattle.forest.specs.Limits.{mostFunctions}
 use Rattle.outcome.specs.Checked.{unshown}
@@ -14,6 +15,7 @@ use Rattle.outcome.specs.declared.Outcome.{Outcome}
 use Rattle.outcome.proofs.Areas.{blank-long, unshown-blank}
 use Rattle.outcome.proofs.Deriving.{underived-within}
 use Rattle.verdicts.specs.code.Derive.{Derivable, Judged}
+use Rattle.outcome.specs.code.Texts.{responseText}
 use Rattle.checker.specs.code.Judge.{BodiesDerived, Deriving, Sought}
 
 -- the forms are all that is lent behind the terms
@@ -49,7 +51,7 @@ module _ {places nodes area : List ℕ} {p : Progress} {areaAfter : List ℕ} {r
 
     -- 13: its grammar derives the body by no list of rules
     pub one-underived : {after : List ℕ} {place : ℕ} → after ≡ unshown areaAfter → place ≡ offsetIn places r
-        → Sought q (record { number = 13; text = 1; place = place; second = r; units = 0 }) after
+        → Sought q (record { number = underivedAnswer; text = responseText; place = place; second = r; units = 0 }) after
     one-underived e f =
         let one = searched (q .tables) .one! other in
         let at = f ∙ one .offset in

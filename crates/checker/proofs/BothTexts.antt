@@ -19,6 +19,7 @@ use Rattle.script.specs.Outcome.{ResponseOutcome, ScriptOutcome, given, respons
 use Rattle.texts.specs.code.Responses.{Ready, ResponseRead, ResponseTold}
 use Rattle.texts.specs.code.Scripts.{ScriptRead, ScriptTold}
 use Rattle.script.proofs.Numbers.{Numbered, inResponse, inScript, response-numbered, script-numbered}
+use Rattle.outcome.specs.code.Texts.{scriptText, responseText}
 use Rattle.checker.proofs.BothTables.{held}
 use Rattle.outcome.proofs.Script.{script-assured}
 use Rattle.outcome.specs.Checked.{Checked, Passing, judged, refusal}
@@ -47,7 +48,7 @@ terms-read parts answers q = rw (parts .terms-are) (answers q)
 
 module _ {script names places nodes : List ℕ} {s : Step} (read : ScriptRead script names places nodes s) where
   -- a script that is refused
-  pub script-declined : {response : List ℕ} {o : Outcome} {p : Progress} → o ≡ refusal (s .number) 0 (s .place) → (s .number ≡ 0 → ⊥)
+  pub script-declined : {response : List ℕ} {o : Outcome} {p : Progress} → o ≡ refusal (s .number) scriptText (s .place) → (s .number ≡ 0 → ⊥)
       → TextsRead script response names places nodes (record { outcome = o; progress = p })
   script-declined {response} {o} {p} e some = go (scriptOutcome script) refl (read .told)
     where
@@ -93,7 +94,7 @@ module _ {script names places nodes : List ℕ} {s : Step} (read : ScriptRead sc
       -- a response to a script that passes
       pub response-read : {response placesAfter nodesAfter : List ℕ} {v : Verdict} {o : Outcome}
           → ((q : Ready names raw places (take formsPlace nodes) (s .progress)) → ResponseRead q response placesAfter (take formsPlace nodesAfter) v)
-          → drop formsPlace nodesAfter ≡ drop formsPlace nodes → length nodesAfter ≡ length nodes → o ≡ refusal (v .number) 1 (v .place)
+          → drop formsPlace nodesAfter ≡ drop formsPlace nodes → length nodesAfter ≡ length nodes → o ≡ refusal (v .number) responseText (v .place)
           → TextsRead script response names placesAfter nodesAfter (record { outcome = o; progress = s .progress })
       response-read {response} {placesAfter} {nodesAfter} {v} {o} answers behind long e =
           go (responseOutcome (script-passed .known) response) refl (answers ready .told)

@@ -10,6 +10,7 @@ use Rattle.evaluation.specs.declared.PointList.the-variants.{Good, Bad}
 use Rattle.names.specs.Scopes.{namedSorts}
 use Rattle.script.specs.code.Places.{formsPlace}
 use Rattle.script.specs.declared.Progress.{Progress}
+use Rattle.script.specs.code.Answers.{pointsAnswer}
 use Rattle.outcome.specs.Checked.{Judgement, evaluated, points-refused, underived}
 use Rattle.outcome.specs.Demands.{Showing}
 use Rattle.outcome.specs.Derived.{termsOf}
@@ -46,6 +47,6 @@ module _ {places nodes area : List ℕ} {p : Progress} (q : Deriving places node
         go (Good m) found f =
             let shows = ran-showing m budget (ranWith (q .tables .known) (termsOf (q .tables .bodies)) points m budget) in
             let shown = subst Showing (sym (ap (λ (x : Outcome). x .number) f)) shows in
-            let other : r .number ≡ 16 → ⊥ = λ n. not-showing (omega arith, omega arith, omega arith) shown in
+            let other : r .number ≡ pointsAnswer → ⊥ = λ n. not-showing (omega arith, omega arith, omega arith) shown in
             let same = answer .other! other ∙ sought q .all! zero .area-is in
             rw (f, same) (evaluated (sought q .all! zero .shown) found)

@@ -13,36 +13,38 @@ use Rattle.outcome.specs.Checked.{Checked, judged, missized, refusal, response-
 use Rattle.outcome.specs.Derived.{blankArea}
 use Rattle.outcome.specs.declared.Outcome.{Outcome}
 use Rattle.outcome.proofs.Areas.{blank-long, unshown-blank}
+use Rattle.script.specs.code.Answers.{longAnswer}
+use Rattle.outcome.specs.code.Texts.{scriptText, responseText, pointsText, noText}
 use Rattle.checker.specs.code.Judge.{Judging}
 use Rattle.checker.specs.code.Sizes.{SizesTold}
 
 -- where the script, the response and the points are short enough, the area's size is left to test
 area-left : (script response points area : List ℕ) → length script ≤ scriptBytes → length response ≤ responseBytes → length points ≤ mostNumbers
-    → sizeAnswer script response points area ≡ cond (eqb (length area) areaSize) nothing (some (refusal 1 3 (length area)))
+    → sizeAnswer script response points area ≡ cond (eqb (length area) areaSize) nothing (some (refusal longAnswer noText (length area)))
 unfolding sizeAnswer
 area-left script response points area f g h = rw (le-ltb scriptBytes (length script) f, le-ltb responseBytes (length response) g, le-ltb mostNumbers (length points) h)
 
 module _ {script response points : List ℕ} {size : ℕ} {r : Outcome} where
   -- a size that is not right
-  told-refused : {text place : ℕ} → r ≡ refusal 1 text place
-      → ((area : List ℕ) → length area ≡ size → sizeAnswer script response points area ≡ some (refusal 1 text place)) → SizesTold script response points size r
+  told-refused : {text place : ℕ} → r ≡ refusal longAnswer text place
+      → ((area : List ℕ) → length area ≡ size → sizeAnswer script response points area ≡ some (refusal longAnswer text place)) → SizesTold script response points size r
   told-refused e answers =
       rw e (record { refused = λ other. answers; passes = λ zero. absurd (omega arith); sized = λ zero. absurd (omega arith) })
 
   -- a script that is too long
-  pub script-long : r ≡ refusal 1 0 (length script) → scriptBytes < length script → SizesTold script response points size r
+  pub script-long : r ≡ refusal longAnswer scriptText (length script) → scriptBytes < length script → SizesTold script response points size r
   unfolding sizeAnswer
   script-long e h = told-refused e (λ area l. rw (lt-ltb scriptBytes (length script) h))
 
   module _ (script-fits : length script ≤ scriptBytes) where
     -- a response that is too long
-    pub response-long : r ≡ refusal 1 1 (length response) → responseBytes < length response → SizesTold script response points size r
+    pub response-long : r ≡ refusal longAnswer responseText (length response) → responseBytes < length response → SizesTold script response points size r
     unfolding sizeAnswer
     response-long e h = told-refused e (λ area l. rw (le-ltb scriptBytes (length script) script-fits, lt-ltb responseBytes (length response) h))
 
     module _ (response-fits : length response ≤ responseBytes) where
       -- a list of points that is too long
-      pub points-long : r ≡ refusal 1 2 (length points) → mostNumbers < length points → SizesTold script response points size r
+      pub points-long : r ≡ refusal longAnswer pointsText (length points) → mostNumbers < length points → SizesTold script response points size r
       unfolding sizeAnswer
       points-long e h =
           told-refused e
@@ -50,11 +52,11 @@ module _ {script response points : List ℕ} {size : ℕ} {r : Outcome} where
 
       module _ (points-fit : length points ≤ mostNumbers) where
         -- an area of wrong size
-        pub area-other : r ≡ refusal 1 3 size → (size ≡ areaSize → ⊥) → SizesTold script response points size r
+        pub area-other : r ≡ refusal longAnswer noText size → (size ≡ areaSize → ⊥) → SizesTold script response points size r
         area-other e h = told-refused e (λ area l. area-left script response points area script-fits response-fits points-fit ∙ rw (l, ne-eqb size areaSize h))
 
         -- sizes that are right
-        pub all-sized : r ≡ refusal 0 3 0 → size ≡ areaSize → SizesTold script response points size r
+        pub all-sized : r ≡ refusal 0 noText 0 → size ≡ areaSize → SizesTold script response points size r
         all-sized e h =
             rw e
             (record {

@@ -3,6 +3,8 @@ use crate::area::blank_area;
 use forest::limits::SCRIPT_WORDS;
 use names::table;
 use outcome::Outcome;
+use outcome::RESPONSE;
+use outcome::SCRIPT;
 use outcome::refusal;
 use script::FORMS;
 use script::NODES;
@@ -100,13 +102,13 @@ fn read_texts(
     let progress = step.progress;
     if step.number != ACCEPTED {
         return Told {
-            outcome: refusal(step.number, 0, step.place),
+            outcome: refusal(step.number, SCRIPT, step.place),
             progress,
         };
     }
     let verdict = read_bodies(response, names, &mut raw, places, nodes, progress);
     Told {
-        outcome: refusal(verdict.number, 1, verdict.place),
+        outcome: refusal(verdict.number, RESPONSE, verdict.place),
         progress,
     }
 }
@@ -131,7 +133,7 @@ fn derive_bodies(places: &[u64], nodes: &[u64], progress: Progress, shown: &mut 
     if function == progress.functions {
         return Outcome {
             number: ACCEPTED,
-            text: 1,
+            text: RESPONSE,
             place: 0,
             second: 0,
             units: 0,
@@ -140,7 +142,7 @@ fn derive_bodies(places: &[u64], nodes: &[u64], progress: Progress, shown: &mut 
     blank_area(shown);
     Outcome {
         number: NO_DERIVATION,
-        text: 1,
+        text: RESPONSE,
         place: offset_of(places, function),
         second: function,
         units: 0,

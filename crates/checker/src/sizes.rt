@@ -3,7 +3,11 @@ use forest::limits::AREA;
 use forest::limits::POINT_NUMBERS;
 use forest::limits::RESPONSE_BYTES;
 use forest::limits::SCRIPT_BYTES;
+use outcome::NONE;
 use outcome::Outcome;
+use outcome::POINTS;
+use outcome::RESPONSE;
+use outcome::SCRIPT;
 use outcome::refusal;
 use script::answers::ACCEPTED;
 use script::answers::TOO_LONG;
@@ -14,16 +18,16 @@ pub(crate) fn size_answer(script: &[u8], response: &[u8], points: &[u64], area: 
     ensures { λ r. ⌜ SizesTold (now (script .entry)) (now (response .entry)) (now (points .entry)) area r ⌝ }
 {
     if script.len() > SCRIPT_BYTES {
-        return refusal(TOO_LONG, 0, script.len());
+        return refusal(TOO_LONG, SCRIPT, script.len());
     }
     if response.len() > RESPONSE_BYTES {
-        return refusal(TOO_LONG, 1, response.len());
+        return refusal(TOO_LONG, RESPONSE, response.len());
     }
     if points.len() > POINT_NUMBERS {
-        return refusal(TOO_LONG, 2, points.len());
+        return refusal(TOO_LONG, POINTS, points.len());
     }
     if area != AREA {
-        return refusal(TOO_LONG, 3, area);
+        return refusal(TOO_LONG, NONE, area);
     }
-    refusal(ACCEPTED, 3, 0)
+    refusal(ACCEPTED, NONE, 0)
 }

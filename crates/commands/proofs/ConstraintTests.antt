@@ -15,6 +15,7 @@ use Rattle.forest.proofs.Bools.{and-left, and-right}
 use Rattle.lexemes.specs.Reserved.{isWord}
 use Rattle.lexemes.specs.Lists.{Items, after, inside, isList, item}
 use Rattle.lexemes.proofs.ByCode.{codeFor}
+use Rattle.lexemes.specs.code.Codes.{constraintCode}
 use Rattle.shapes.specs.Shapes.{commandShape, constraintShape, termShape}
 use Rattle.written_sorts.proofs.Walked.{named-word}
 use Rattle.term_nodes.specs.Terms.{rawTerm}
@@ -38,6 +39,7 @@ use Rattle.script.proofs.CommandByCode.{Chosen, chosen}
 use Rattle.script.proofs.OneTermMore.{constraint-held}
 use Rattle.script.proofs.WordsBelow.{command-word}
 use Rattle.script.proofs.Verdicts.{says-limit}
+use Rattle.script.specs.code.Answers.{limitAnswer}
 use Rattle.commands.specs.code.Constraint.{Constrained, Constraining}
 use Rattle.commands.specs.code.TermTests.{Judges, Judging, verdictOf}
 use Rattle.commands.specs.declared.TermTest.{TermTest}
@@ -72,7 +74,7 @@ parts c e =
     record { two = eqb-true (count c) 2 (and-left two term e); term = and-right two term e }
 
 -- The tests of a `constraint`.
-module _ (nowhere : ℕ) (k : Known) (at : ℕ) {c : Items} (t : Chosen c 12) where
+module _ (nowhere : ℕ) (k : Known) (at : ℕ) {c : Items} (t : Chosen c constraintCode) where
   -- Its limits.
   limit-is : limitPlace allowed nowhere k at c ≡ min (commandPast nowhere mostConstraints (length (k .constraints)) at) (nodePast allowed nowhere (item 1 c) (inside 1 c))
   unfolding limitPlace
@@ -94,7 +96,7 @@ module _ (nowhere : ℕ) (k : Known) (at : ℕ) {c : Items} (t : Chosen c 12) wh
   no-grammar = rw (t .declares, t .defines, t .synthesizes, t .constrains)
 
 -- What is known after it.
-module _ (k : Known) {c : Items} (t : Chosen c 12) where
+module _ (k : Known) {c : Items} (t : Chosen c constraintCode) where
   -- The same `define-fun`s.
   same-defined : knownAfter k c .defined ≡ k .defined
   unfolding knownAfter
@@ -112,7 +114,7 @@ module _ (k : Known) {c : Items} (t : Chosen c 12) where
 
 module _ {text lexemes : List ℕ} {p : Progress} {at nowhere : ℕ} (d : CommandOf "constraint" text lexemes p at nowhere) where
   -- It is the command of that word.
-  is-constraint : Chosen (d .here .command) 12
+  is-constraint : Chosen (d .here .command) constraintCode
   unfolding codeFor
   is-constraint = chosen "constraint" refl (d .here .command) (d .by)
 
@@ -189,10 +191,10 @@ module _ {text lexemes names raw places nodes : List ℕ} {p : Progress} {at now
         ep ∙ ap₂ min (eo ∙ counted) (limited (term-at d) .place-is) ∙ sym (limit-is nowhere (d .of .known) at (is-constraint (d .of)))
 
     -- A limit is passed.
-    pub limit-refused : past < nowhere → {v : Verdict} → v ≡ record { number = 4; place = past; rows = 0 }
+    pub limit-refused : past < nowhere → {v : Verdict} → v ≡ record { number = limitAnswer; place = past; rows = 0 }
         → (d : Constraining text lexemes names raw places nodes p at nowhere) → Constrained d rawAfter places nodes v
     limit-refused h e d = subst⁻¹ (λ (w : Verdict). Constrained d rawAfter places nodes w) e (record {
-      verdict-is = says-limit allowed nowhere (d .of .known) at (d .of .here .command) (After (d .of)) (record { number = 4; place = past; rows = 0 })
+      verdict-is = says-limit allowed nowhere (d .of .known) at (d .of .here .command) (After (d .of)) (record { number = limitAnswer; place = past; rows = 0 })
           (record { number-is = refl; place-is = past-is d; found = h });
       places-hold = λ z. absurd (omega arith);
       within = λ z. absurd (omega arith);

@@ -17,6 +17,7 @@ use Rattle.lexemes.specs.code.Standing.{Stands}
 use Rattle.lexemes.specs.code.Table.{nextAt}
 use Rattle.lexemes.proofs.ByCode.{codeFor}
 use Rattle.lexemes.proofs.Standing.{forward, here}
+use Rattle.lexemes.specs.code.Codes.{defineFunCode}
 use Rattle.shapes.specs.Shapes.{commandShape, defineFunShape, headerShape, termShape}
 use Rattle.written_sorts.specs.code.Headers.{HeaderAt}
 use Rattle.written_sorts.specs.Written.{headerPlace, sortOf}
@@ -61,7 +62,7 @@ named-symbol test unnamed (numeral at v) e = apart (sym unnamed ∙ e)
 named-symbol test unnamed (literal at width v written) e = apart (sym unnamed ∙ e)
 
 -- The tests of a `define-fun`.
-module _ (nowhere : ℕ) (k : Known) (at : ℕ) {c : Items} (t : Chosen c 10) where
+module _ (nowhere : ℕ) (k : Known) (at : ℕ) {c : Items} (t : Chosen c defineFunCode) where
   -- Its limits.
   pub limit-is : limitPlace allowed nowhere k at c
       ≡ min (commandPast nowhere mostDefined (length (k .defined)) at) (min (headerPast allowed nowhere c) (nodePast allowed nowhere (item 4 c) (inside 4 c)))
@@ -96,7 +97,7 @@ definedBy k c = record {
 }
 
 -- What is known after it.
-module _ (k : Known) {c : Items} (t : Chosen c 10) where
+module _ (k : Known) {c : Items} (t : Chosen c defineFunCode) where
   -- The same variables.
   pub same-variables : knownAfter k c .variables ≡ k .variables
   unfolding knownAfter
@@ -119,7 +120,7 @@ module _ (k : Known) {c : Items} (t : Chosen c 10) where
 
 module _ {text lexemes : List ℕ} {p : Progress} {at nowhere : ℕ} (d : CommandOf "define-fun" text lexemes p at nowhere) where
   -- It is the command of that word.
-  pub is-definition : Chosen (d .here .command) 10
+  pub is-definition : Chosen (d .here .command) defineFunCode
   unfolding codeFor
   is-definition = chosen "define-fun" refl (d .here .command) (d .by)
 

@@ -15,6 +15,7 @@ use Rattle.script.specs.code.Tables.{After}
 use Rattle.script.specs.declared.Progress.{Progress}
 use Rattle.script.specs.declared.Verdict.{Verdict}
 use Rattle.script.proofs.Verdicts.{says-limit}
+use Rattle.script.specs.code.Answers.{limitAnswer}
 use Rattle.commands.specs.code.DefineFun.{Defined, Defining, Settled, Within}
 use Rattle.commands.proofs.TermStanding.{body-term, body-within}
 use Rattle.commands.proofs.DefinitionItems.{body-behind, body-here, header-here, is-definition, limit-is}
@@ -42,10 +43,10 @@ module _ {text lexemes names raw places nodes : List ℕ} {p : Progress} {at now
           ∙ sym (limit-is nowhere (d .of .known) at (is-definition (d .of)))
 
       -- A limit is passed.
-      pub limit-refused : past < nowhere → {v : Verdict} → v ≡ record { number = 4; place = past; rows = 0 }
+      pub limit-refused : past < nowhere → {v : Verdict} → v ≡ record { number = limitAnswer; place = past; rows = 0 }
           → (d : Defining text lexemes names raw places nodes p at nowhere) → Defined d names rawAfter places nodes v
       limit-refused h e d = subst⁻¹ (λ (w : Verdict). Defined d names rawAfter places nodes w) e (record {
-        verdict-is = says-limit allowed nowhere (d .of .known) at (d .of .here .command) (After (d .of)) (record { number = 4; place = past; rows = 0 })
+        verdict-is = says-limit allowed nowhere (d .of .known) at (d .of .here .command) (After (d .of)) (record { number = limitAnswer; place = past; rows = 0 })
             (record { number-is = refl; place-is = past-is d; found = h });
         names-hold = λ z. absurd (omega arith);
         places-hold = λ z. absurd (omega arith);

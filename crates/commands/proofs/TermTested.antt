@@ -32,6 +32,7 @@ use Rattle.term_faults.proofs.Rising.{rising-wider, terms-rise}
 use Rattle.bodies.specs.code.Bodies.{Named, Naming, noSorts}
 use Rattle.script.specs.declared.Verdict.{Verdict}
 use Rattle.script.proofs.TermsOfForms.{forms-size}
+use Rattle.script.specs.code.Answers.{nameAnswer, sortAnswer}
 use Rattle.commands.specs.code.TermTests.{Judged, Judging}
 use Rattle.commands.specs.declared.TermTest.{TermTest}
 
@@ -104,7 +105,7 @@ module _ {text lexemes names raw places nodes : List ℕ} {t : TermTest} {rawAft
       ap length (known n .raw-is) ∙ counted-long (rawTerm (n .label) (n .operands)) (n .rest) ∙ sym (ap length (n .raw-is))
 
   -- A name is at fault.
-  pub name-refused : name < t .target .nowhere → {v : Verdict} → v ≡ record { number = 7; place = name; rows = 0 }
+  pub name-refused : name < t .target .nowhere → {v : Verdict} → v ≡ record { number = nameAnswer; place = name; rows = 0 }
       → (p : Judging text lexemes names raw places nodes t)
       → Judged p rawAfter nodesAfter v
   name-refused h e p =
@@ -143,7 +144,7 @@ module _ {text lexemes names raw places nodes : List ℕ} {t : TermTest} {rawAft
   module _ {misfit : ℕ} (found : (q : BodySought rawAfter (drop (nodeWidth * t .target .base) nodesAfter) places noSorts (t .target .count) (t .sort) (t .target .nowhere)) → BodyFound q misfit)
       {fault : ℕ} (ef : fault ≡ min (t .empty) misfit) (passed : t .target .nowhere ≤ name) where
     -- A sort is at fault.
-    pub sort-refused : fault < t .target .nowhere → {v : Verdict} → v ≡ record { number = 8; place = fault; rows = 0 }
+    pub sort-refused : fault < t .target .nowhere → {v : Verdict} → v ≡ record { number = sortAnswer; place = fault; rows = 0 }
         → (p : Judging text lexemes names raw places nodes t)
         → Judged p rawAfter nodesAfter v
     sort-refused h e p =

@@ -15,6 +15,7 @@ use Rattle.script.specs.Limits.{commandPast}
 use Rattle.script.specs.Script.{Known, grammarPlace, limitPlace, namePlace, passed, refused, sortingPlace, tested}
 use Rattle.script.specs.code.Tables.{Says}
 use Rattle.script.specs.declared.Verdict.{Verdict}
+use Rattle.script.specs.code.Answers.{nameAnswer, sortAnswer}
 use Rattle.commands.specs.code.TermTests.{verdictOf}
 
 -- It is that of the command's tests, where no limit is passed and there is no grammar.
@@ -27,9 +28,9 @@ body-says counts nowhere k at c said v count limited no-grammar e =
     rw (le-ltb _ _ limited, le-ltb _ _ none-wrong) (go (ltb (namePlace nowhere k c) nowhere) (ltb (sortingPlace nowhere k c) nowhere) e)
   where
     go : (named sorted : Bool)
-        → v ≡ cond named (record { number = 7; place = namePlace nowhere k c; rows = 0 })
-        (cond sorted (record { number = 8; place = sortingPlace nowhere k c; rows = 0 }) (record { number = 0; place = 0; rows = count }))
-        → Says v (cond named (refused 7 (namePlace nowhere k c)) (cond sorted (refused 8 (sortingPlace nowhere k c)) (passed said)))
+        → v ≡ cond named (record { number = nameAnswer; place = namePlace nowhere k c; rows = 0 })
+        (cond sorted (record { number = sortAnswer; place = sortingPlace nowhere k c; rows = 0 }) (record { number = 0; place = 0; rows = count }))
+        → Says v (cond named (refused nameAnswer (namePlace nowhere k c)) (cond sorted (refused sortAnswer (sortingPlace nowhere k c)) (passed said)))
     go true sorted e = (ap (λ (w : Verdict). w .number) e, ap (λ (w : Verdict). w .place) e)
     go false true e = (ap (λ (w : Verdict). w .number) e, ap (λ (w : Verdict). w .place) e)
     go false false e = ap (λ (w : Verdict). w .number) e
@@ -38,8 +39,8 @@ body-says counts nowhere k at c said v count limited no-grammar e =
 pub passed-rows : (nowhere names sorts count : ℕ) {v : Verdict} → v ≡ verdictOf nowhere names sorts count → v .number ≡ 0 → v .rows ≡ count
 passed-rows nowhere names sorts count {v} e z = go (ltb names nowhere) (ltb sorts nowhere) e
   where
-    go : (named sorted : Bool) → v ≡ cond named (record { number = 7; place = names; rows = 0 })
-        (cond sorted (record { number = 8; place = sorts; rows = 0 }) (record { number = 0; place = 0; rows = count })) → v .rows ≡ count
+    go : (named sorted : Bool) → v ≡ cond named (record { number = nameAnswer; place = names; rows = 0 })
+        (cond sorted (record { number = sortAnswer; place = sorts; rows = 0 }) (record { number = 0; place = 0; rows = count })) → v .rows ≡ count
     go true sorted e = absurd (omega (arith, ap (λ (w : Verdict). w .number) e))
     go false true e = absurd (omega (arith, ap (λ (w : Verdict). w .number) e))
     go false false e = ap (λ (w : Verdict). w .rows) e

@@ -16,6 +16,7 @@ use Rattle.lexemes.specs.code.Standing.{ItemAt, ListAt}
 use Rattle.lexemes.specs.code.Table.{rowWidth as lexemeWidth}
 use Rattle.lexemes.proofs.ByCode.{codeFor}
 use Rattle.lexemes.proofs.Listed.{item-room}
+use Rattle.lexemes.specs.code.Codes.{declareVarCode}
 use Rattle.shapes.specs.Shapes.{commandShape, declareVarShape, sortShape}
 use Rattle.written_sorts.specs.code.Places.{SortAt}
 use Rattle.written_sorts.proofs.PairParts.{shaped-come}
@@ -80,7 +81,7 @@ module _ {text lexemes : List ℕ} {i : ℕ} (x : VariableAt text lexemes i) whe
 
 module _ {text lexemes : List ℕ} {p : Progress} {i nowhere : ℕ} (d : CommandOf "declare-var" text lexemes p i nowhere) where
   -- It is the command of that word.
-  pub is-declaring : Chosen (d .here .command) 9
+  pub is-declaring : Chosen (d .here .command) declareVarCode
   unfolding codeFor
   is-declaring = chosen "declare-var" refl (d .here .command) (d .by)
 

@@ -21,6 +21,7 @@ use Rattle.script.specs.declared.Verdict.{Verdict}
 use Rattle.script.proofs.NamesKept.{few-before, same-scope, scopeBefore}
 use Rattle.script.proofs.WordsBelow.{command-below, command-word, inside-below, item-below, no-fault, sort-narrow}
 use Rattle.script.proofs.Verdicts.{says-limit, says-name, says-passed, says-sorting}
+use Rattle.script.specs.code.Answers.{limitAnswer, nameAnswer, sortAnswer}
 use Rattle.commands.specs.code.DeclareVar.{Added, Adding, Declared, Declaring, FindsLimit, LimitFound, NameFound}
 use Rattle.commands.proofs.VariableItems.{is-declaring, name-item, parts, sort-here, variable-here}
 use Rattle.commands.proofs.VariablePut.{names-declared, variable-put}
@@ -76,7 +77,7 @@ module _ {text lexemes names : List ℕ} {p : Progress} {i nowhere : ℕ} where
         ∙ rw (is-declaring (d .of) .declares)
 
     -- The command is past a limit.
-    pub past-limit : limit < nowhere → {v : Verdict} → v ≡ record { number = 4; place = limit; rows = 0 }
+    pub past-limit : limit < nowhere → {v : Verdict} → v ≡ record { number = limitAnswer; place = limit; rows = 0 }
         → (d : Declaring text lexemes names p i nowhere)
         → Declared d names v
     past-limit h e d = subst⁻¹ (λ (w : Verdict). Declared d names w) e
@@ -111,7 +112,7 @@ module _ {text lexemes names : List ℕ} {p : Progress} {i nowhere : ℕ} where
         name-is d = names-tested d ∙ rw (is-declaring (d .of) .declares)
 
         -- A name is at fault.
-        pub name-faulty : name < nowhere → {v : Verdict} → v ≡ record { number = 7; place = name; rows = 0 }
+        pub name-faulty : name < nowhere → {v : Verdict} → v ≡ record { number = nameAnswer; place = name; rows = 0 }
             → (d : Declaring text lexemes names p i nowhere)
             → Declared d names v
         name-faulty h e d = subst⁻¹ (λ (w : Verdict). Declared d names w) e
@@ -126,7 +127,7 @@ module _ {text lexemes names : List ℕ} {p : Progress} {i nowhere : ℕ} where
           sort-is d = sorts (sort-here (variable-here (d .of))) ∙ rw (is-declaring (d .of) .declares)
 
           -- The sort is at fault.
-          pub sort-faulty : sort < nowhere → {v : Verdict} → v ≡ record { number = 8; place = sort; rows = 0 }
+          pub sort-faulty : sort < nowhere → {v : Verdict} → v ≡ record { number = sortAnswer; place = sort; rows = 0 }
               → (d : Declaring text lexemes names p i nowhere)
               → Declared d names v
           sort-faulty h e d = subst⁻¹ (λ (w : Verdict). Declared d names w) e

@@ -9,7 +9,7 @@ use mathlib.Core.List.{List}
 use lib.ListN.{length, set, length-set}
 use Rattle.derivation.specs.Derivation.{headOf}
 use Rattle.derivation.specs.code.Masks.{has, Puts}
-use Rattle.derivation.specs.code.Rules.{nonTerminalAt}
+use Rattle.derivation.specs.code.Rules.{nonTerminalAt, ruleWidth}
 use Rattle.derivation.specs.code.Search.{Asks}
 use Rattle.derivation.specs.code.Filling.{Finds, NodeIs}
 use Rattle.derivation.proofs.Count.{cnt, cnt-le}
@@ -24,7 +24,7 @@ pub record State (rules forms body masks : List ℕ) (i count : ℕ) (chosen : L
   pub members : (q : Asks rules forms body masks i) → Chosen q chosen s
 
 module _ {rules forms body masks : List ℕ} {i : ℕ} where
-  pub state-start : (chosen : List ℕ) → Asks rules forms body masks i × (length chosen ≡ mostNonTerminals) → {count : ℕ} → count ≡ length rules / 2
+  pub state-start : (chosen : List ℕ) → Asks rules forms body masks i × (length chosen ≡ mostNonTerminals) → {count : ℕ} → count ≡ length rules / ruleWidth
       → State rules forms body masks i count chosen 0
   state-start chosen p e = record {
     asks = p .0;

@@ -40,10 +40,10 @@ pub body-says : {body : List ℕ} (all : Terms) → body ≡ nodeTable all → {
 body-says all t {j} {l} {ops} {more} e = says all [] j l ops more (t ∙ sym (append-nil (nodeTable all))) e
 
 -- how long the tables are
-pub forms-length : {forms : List ℕ} (all : Forest Item) → forms ≡ formTable all → length forms ≡ 4 * size all
+pub forms-length : {forms : List ℕ} (all : Forest Item) → forms ≡ formTable all → length forms ≡ rowWidth * size all
 unfolding formTable
-forms-length all t = ap length t ∙ length-rows itemRow rowWidth (λ n. refl) (nodesOf all) ∙ ap (λ (n : ℕ). 4 * n) (length-nodes all)
+forms-length all t = ap length t ∙ length-rows itemRow rowWidth (λ n. refl) (nodesOf all) ∙ ap (λ (n : ℕ). rowWidth * n) (length-nodes all)
 
-pub body-length : {body : List ℕ} (all : Terms) → body ≡ nodeTable all → length body ≡ 4 * size all
+pub body-length : {body : List ℕ} (all : Terms) → body ≡ nodeTable all → length body ≡ rowWidth * size all
 unfolding nodeTable
-body-length all t = ap length t ∙ length-rows nodeRow rowWidth (λ n. refl) (nodesOf all) ∙ ap (λ (n : ℕ). 4 * n) (length-nodes all)
+body-length all t = ap length t ∙ length-rows nodeRow rowWidth (λ n. refl) (nodesOf all) ∙ ap (λ (n : ℕ). rowWidth * n) (length-nodes all)

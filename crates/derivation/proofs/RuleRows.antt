@@ -13,7 +13,7 @@ use Rattle.derivation.specs.Derivation.{Item, Rule, rule, headOf, formOf
 use Rattle.derivation.specs.code.Tables.{rightSides, ruleTable}
 use Rattle.derivation.specs.code.Rules.{nonTerminalAt, ruleWidth, startAt}
 
-pub length-rules : (start : ℕ) (G : List Rule) → length (ruleTable start G) ≡ 2 * length G
+pub length-rules : (start : ℕ) (G : List Rule) → length (ruleTable start G) ≡ ruleWidth * length G
 unfolding ruleTable
 length-rules start [] = refl
 length-rules start (rule A form ∷ G) = omega (arith, length-rules (start + size form) G)

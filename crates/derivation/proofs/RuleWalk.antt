@@ -10,7 +10,7 @@ use borrow.Author.Tests.{not-true, not-false}
 use Rattle.forest.specs.Forest.{Forest, none, tree, count, join}
 use Rattle.forest.specs.code.Cursors.{size, from, first}
 use Rattle.terms.specs.Labels.{Label, Terms}
-use Rattle.terms.specs.code.Nodes.{Plain, codeAt, sizeAt, valueAt}
+use Rattle.terms.specs.code.Nodes.{Plain, codeAt, rowWidth, sizeAt, valueAt}
 use Rattle.terms.proofs.Bodies.{Says, plain-at}
 use Rattle.forest.proofs.Laws.{count-join, count-node, count-size, count-tree, count-zero, from-one, from-over, inside, join-assoc, Tree, size-from, size-join}
 use Rattle.forest.proofs.Laws.{size-tree, size-zero, tree-at, tree-of-count, tree-of-size}
@@ -213,9 +213,9 @@ module _ {rules forms body masks : List ℕ} {i r : ℕ} (q : AsksNoChain rules 
 
     -- the numbers that the code needs
     pub record Room : Type 0 where
-      pub in-forms : 4 * p < length forms
-      pub in-body : 4 * j < length body
-      pub over : 4 * (j + sizeAt body j) ≤ length body
+      pub in-forms : rowWidth * p < length forms
+      pub in-body : rowWidth * j < length body
+      pub over : rowWidth * (j + sizeAt body j) ≤ length body
 
     pub room : Room
     room =
@@ -254,7 +254,7 @@ module _ {rules forms body masks : List ℕ} {i r : ℕ} where
           (where-rule q .is ∙ ap (λ (o : Forest Item). join o (where-rule q .rest)) e) in
           omega (arith, x .size, ap size e, ap size z)
 
-  pub end-fits : (q : AsksNoChain rules forms body masks i r) → 4 * end q ≤ length forms
+  pub end-fits : (q : AsksNoChain rules forms body masks i r) → rowWidth * end q ≤ length forms
   end-fits q =
       omega (
         arith,

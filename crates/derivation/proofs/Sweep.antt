@@ -6,6 +6,7 @@ use native.Mathlib.Decide.{ℕ-discrete}
 use mathlib.Core.List.{List}
 use lib.ListN.{length, getD, set, length-set}
 use lib.Seq.{getD-set-same, getD-set-other}
+use Rattle.terms.specs.code.Nodes.{rowWidth}
 use Rattle.forest.specs.code.Cursors.{from, size}
 use Rattle.derivation.proofs.Reading.{body-length}
 use Rattle.derivation.specs.code.Tables.{Given}
@@ -20,10 +21,10 @@ pub record Inv (rules forms body masks₀ masks : List ℕ) (i : ℕ) : Type 0 w
   pub exact : (g : Given rules forms body) (j : ℕ) → i ≤ j → j < size (g .F) → ExactAt (g .G) (from (g .F) j) (getD masks j 0)
 
 module _ {rules forms body : List ℕ} where
-  pub body-size : (g : Given rules forms body) → length body ≡ 4 * size (g .F)
+  pub body-size : (g : Given rules forms body) → length body ≡ rowWidth * size (g .F)
   body-size g = body-length (g .F) (g .holds .is-body)
 
-  pub inv-start : {masks : List ℕ} → MasksPre rules forms body masks → {i : ℕ} → i ≡ length body / 4 → Inv rules forms body masks masks i
+  pub inv-start : {masks : List ℕ} → MasksPre rules forms body masks → {i : ℕ} → i ≡ length body / rowWidth → Inv rules forms body masks masks i
   inv-start p e = record {
     pre = p;
     same-length = refl;

@@ -12,6 +12,7 @@ use Rattle.forest.specs.Forest.{none, tree, count}
 use Rattle.forest.specs.code.Cursors.{size, from, first}
 use Rattle.forest.proofs.Laws.{count-size, first-all, count-zero}
 use Rattle.terms.specs.Labels.{Terms}
+use Rattle.terms.specs.code.Nodes.{rowWidth}
 use Rattle.derivation.specs.Derivation.{nonTerminal, Derives, Simple, Grammar}
 use Rattle.derivation.specs.code.Masks.{has}
 use Rattle.derivation.specs.code.Search.{ExactAt, DerivesAt, Asks}
@@ -90,7 +91,7 @@ sets-unused ds n h =
     ∙ ap (λ (k : ℕ). ds ++ drop k (replicate n unused)) (zero-add (length ds))
     ∙ ap (λ (x : List ℕ). ds ++ x) (drop-replicate (length ds) n unused)
 
-module _ {rules forms body area : List ℕ} {k n : ℕ} (en : n ≡ length body / 4) where
+module _ {rules forms body area : List ℕ} {k n : ℕ} (en : n ≡ length body / rowWidth) where
   pub masks-fit : DerivePre rules forms body k area → n ≤ mostNodes
   masks-fit p = omega (arith, en, body-size (p .given), p .fits)
 

@@ -19,13 +19,13 @@ use Rattle.terms.specs.code.Codes.{nonTerminalKind}
 use Rattle.derivation.specs.code.Search.{Asks, NoChain, Fits}
 use Rattle.derivation.specs.code.Admitted.{Proper}
 use Rattle.derivation.specs.code.Masks.{has}
-use Rattle.derivation.specs.code.Rules.{startAt, nonTerminalAt}
+use Rattle.derivation.specs.code.Rules.{nonTerminalAt, ruleWidth, startAt}
 use Rattle.derivation.specs.code.Filling.{Finds}
 use Rattle.derivation.specs.code.Matching.{AsksRule, AsksNoChain, Matched, Applies, chain, no-chain, Answers}
 use Rattle.derivation.proofs.RuleRows.{RuleAt, rule-at, length-rules}
 
 module _ {rules forms body masks : List ℕ} {i : ℕ} where
-  pub rules-count : (q : Asks rules forms body masks i) → length rules ≡ 2 * length (q .given .G .rules)
+  pub rules-count : (q : Asks rules forms body masks i) → length rules ≡ ruleWidth * length (q .given .G .rules)
   rules-count q = ap length (q .given .holds .is-rules) ∙ length-rules 0 (q .given .G .rules)
 
   module _ (q : Asks rules forms body masks i) (r : ℕ) (h : r < length (q .given .G .rules)) where
@@ -131,7 +131,7 @@ pub record Before (rules forms body masks : List ℕ) (i s count r : ℕ) : Type
       → has s (headOf (q .given .G .rules) k) ≡ true
 
 module _ {rules forms body masks : List ℕ} {i s : ℕ} where
-  pub before-start : Asks rules forms body masks i → {count : ℕ} → count ≡ length rules / 2 → Before rules forms body masks i s count 0
+  pub before-start : Asks rules forms body masks i → {count : ℕ} → count ≡ length rules / ruleWidth → Before rules forms body masks i s count 0
   before-start q e = record { asks = q; all = λ a. omega (arith, e, rules-count a); bound = omega arith; none-yet = λ a k h. absurd (omega arith) }
 
   module _ {count r : ℕ} (v : Before rules forms body masks i s count r) where

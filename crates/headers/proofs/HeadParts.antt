@@ -7,7 +7,7 @@ use mathlib.Core.List.{List}
 use lib.ListN.{length}
 use Rattle.forest.proofs.Bools.{and-left}
 use Rattle.lexemes.specs.Lists.{Items, inside, isSymbol, item, nameOf}
-use Rattle.lexemes.specs.code.Table.{nextAt}
+use Rattle.lexemes.specs.code.Table.{nextAt, rowWidth as lexemeWidth}
 use Rattle.lexemes.specs.code.Standing.{Between, ItemAt}
 use Rattle.lexemes.proofs.Listed.{item-ahead, item-room, list-room}
 use Rattle.shapes.specs.Shapes.{headerShape, isListOf, pairShape, sortShape}
@@ -36,7 +36,7 @@ name-symbol c e =
 module _ {lexemes : List ℕ} {at : ℕ} where
   module _ (p : HeaderAt lexemes at) {arguments : ℕ} (ea : arguments ≡ nextAt lexemes (at + 2)) where
     -- the list of arguments stands within the table of lexemes
-    pub arguments-room : 6 * arguments < length lexemes
+    pub arguments-room : lexemeWidth * arguments < length lexemes
     arguments-room = item-room (header-arguments p ea .here)
 
     module _ {result : ℕ} (er : result ≡ nextAt lexemes arguments) where
@@ -79,7 +79,7 @@ module _ {text lexemes names : List ℕ} {scope : Scope} {synthesized : Bool} {a
   }
 
   -- within the table of lexemes
-  pub head-room : 6 * at < length lexemes
+  pub head-room : lexemeWidth * at < length lexemes
   head-room = list-room (header-here .here)
 
   -- its name stands two words on

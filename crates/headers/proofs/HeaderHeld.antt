@@ -13,7 +13,7 @@ use Rattle.forest.proofs.Bools.{and-left, and-right}
 use Rattle.words.specs.Trees.{list}
 use Rattle.lexemes.specs.Lists.{Items, inside, isList, isSymbol, item, nameOf}
 use Rattle.lexemes.specs.code.Standing.{ItemAt, ListAt, WordIs}
-use Rattle.lexemes.specs.code.Table.{nextAt}
+use Rattle.lexemes.specs.code.Table.{nextAt, rowWidth as lexemeWidth}
 use Rattle.lexemes.proofs.Listed.{at-item, item-ahead, item-room}
 use Rattle.shapes.specs.Shapes.{all, defineFunShape, headerShape, isListOf, pairShape, sortShape, termShape}
 use Rattle.written_sorts.specs.code.Places.{SortAt}
@@ -82,7 +82,7 @@ module _ {text lexemes names : List ℕ} {at function arguments result : ℕ} wh
   name-word p = let known = define-fun (p .command) (p .shaped) in word-is (name-item p .stands) (symbol-word (item 1 (p .command)) (known .symbol))
 
   -- that word is within the table
-  pub name-within : Compared text lexemes names at function arguments result → 6 * (at + 2) < length lexemes
+  pub name-within : Compared text lexemes names at function arguments result → lexemeWidth * (at + 2) < length lexemes
   name-within p = item-room (name-item p)
 
   module _ {t : Bool} (et : t ≡ sameBytes (nameIn names (functionRow + function)) (bytesAt text lexemes (at + 2))) where
@@ -105,7 +105,7 @@ module _ {text lexemes names : List ℕ} {at function arguments result : ℕ} wh
 
   module _ {pairs : ℕ} (ep : pairs ≡ nextAt lexemes (at + 2)) where
     -- the list of the pairs is within the table
-    pub pairs-within : Compared text lexemes names at function arguments result → 6 * pairs < length lexemes
+    pub pairs-within : Compared text lexemes names at function arguments result → lexemeWidth * pairs < length lexemes
     pairs-within p = item-room (header-arguments (header-at p) ep .here)
 
     module _ {sort : ℕ} (es : sort ≡ nextAt lexemes pairs) where

@@ -12,6 +12,7 @@ use Rattle.forest.proofs.Bools.{and-left, and-right, apart}
 use Rattle.words.specs.Trees.{Lexeme, list, literal, numeral, symbol, wordOf}
 use Rattle.lexemes.specs.Lists.{Items, after, allNumerals, inside, is, isList, isNumeral, item}
 use Rattle.lexemes.specs.code.Table.{codeAt, openCode, valueAt}
+use Rattle.lexemes.specs.code.Codes.{boolCode}
 use Rattle.lexemes.proofs.ByCode.{codeFor, word-code}
 use Rattle.lexemes.proofs.Listed.{at-item, from-item, is-list, no-list}
 use Rattle.shapes.specs.Shapes.{sortShape}
@@ -93,22 +94,22 @@ module _ {lexemes : List ℕ} {at : ℕ} where
 
   module _ {code : ℕ} (ec : code ≡ codeAt lexemes at) where
     -- it is `Bool` just when it has that word's code
-    is-bool : (p : SortAt lexemes at) → is "Bool" (p .here .label) ≡ eqb code 38
+    is-bool : (p : SortAt lexemes at) → is "Bool" (p .here .label) ≡ eqb code boolCode
     unfolding codeFor
-    is-bool p = word-code "Bool" refl (p .here .label) ∙ ap (λ (k : ℕ). eqb k 38) (sym (at-item (p .here) .code) ∙ sym ec)
+    is-bool p = word-code "Bool" refl (p .here .label) ∙ ap (λ (k : ℕ). eqb k boolCode) (sym (at-item (p .here) .code) ∙ sym ec)
 
     -- `Bool` is declared and stands there
-    pub bool-same : {sort : ℕ} → sort ≡ 0 → code ≡ 38 → (p : SortAt lexemes at) → Held (sortWords p) (sortTokens sort) 0
+    pub bool-same : {sort : ℕ} → sort ≡ 0 → code ≡ boolCode → (p : SortAt lexemes at) → Held (sortWords p) (sortTokens sort) 0
     unfolding sameBytes wordsIn
-    bool-same {sort} z e p = rw (eq-eqb sort 0 z) (word-held "Bool" refl (p .here .label) (is-bool p ∙ eq-eqb code 38 e) (p .here .operands) none ended)
+    bool-same {sort} z e p = rw (eq-eqb sort 0 z) (word-held "Bool" refl (p .here .label) (is-bool p ∙ eq-eqb code boolCode e) (p .here .operands) none ended)
 
     module _ (later : 0 < at) where
       -- `Bool` is declared, and another sort stands there
-      pub bool-other : {sort : ℕ} → sort ≡ 0 → (code ≡ 38 → ⊥) → (p : SortAt lexemes at) → Held (sortWords p) (sortTokens sort) at
+      pub bool-other : {sort : ℕ} → sort ≡ 0 → (code ≡ boolCode → ⊥) → (p : SortAt lexemes at) → Held (sortWords p) (sortTokens sort) at
       bool-other {sort} z ne p =
           let here = placed (p .here .stands) in
           rw (eq-eqb sort 0 z, ← here)
-          (other-than-bool (p .here .label) (p .here .operands) (p .shaped) (is-bool p ∙ ne-eqb code 38 ne) (omega arith))
+          (other-than-bool (p .here .label) (p .here .operands) (p .shaped) (is-bool p ∙ ne-eqb code boolCode ne) (omega arith))
 
       -- a width is declared, and a symbol stands there
       pub width-missing : {sort : ℕ} → (sort ≡ 0 → ⊥) → (code ≡ openCode → ⊥) → (p : SortAt lexemes at) → Held (sortWords p) (sortTokens sort) at

@@ -12,7 +12,7 @@ use borrow.Author.Tests.{ltb-false, ltb-true}
 use Rattle.forest.proofs.Bools.{and-left, and-right}
 use mathlib.Core.Bool.{Bool, true, false, _&&_}
 use Rattle.lexemes.specs.Lists.{Items, after}
-use Rattle.lexemes.specs.code.Table.{nextAt}
+use Rattle.lexemes.specs.code.Table.{nextAt, rowWidth}
 use Rattle.lexemes.specs.code.Standing.{Between, ItemAt, Reached, Stands}
 use Rattle.lexemes.proofs.Standing.{here, none-left, some-left}
 
@@ -57,7 +57,7 @@ module _ {lexemes : List ℕ} {first close : ℕ} {G : Type 0} where
       pub along-here : (g : G) → let x = item-of g in holds g (tree (x .label) (x .operands) (x .more))
       along-here g = subst (holds g) (some-left (a .left g .stands) h .is) (a .left g .known)
 
-      pub along-room : 6 * at < length lexemes
+      pub along-room : rowWidth * at < length lexemes
       along-room = let x = item-of (a .given) in here (x .same) (x .stands) .room
 
       module _ {next : ℕ} (e : next ≡ nextAt lexemes at) where

@@ -13,13 +13,13 @@ use Rattle.forest.proofs.Rows.{length-rows, over-more, rows-append}
 use Rattle.lexemes.specs.code.Reserved.{wordNumber}
 use Rattle.word_kinds.specs.declared.Kind.{Kind}
 use Rattle.word_kinds.specs.declared.Kind.the-variants.{Open, Close, Numeral, Literal, Symbol, Faulty}
-use Rattle.words.specs.Table.{Entry, entries, kindNumber, row, valueOf, wordValues}
+use Rattle.words.specs.Table.{Entry, entries, kindNumber, row, rowWidth as wordWidth, valueOf, wordValues}
 use Rattle.words.specs.code.Table.{endAt, kindAt, nextAt, startAt, widthAt}
 use Rattle.words.specs.Words.{wordsOf}
 use Rattle.words.proofs.Chains.{entries-long}
 use Rattle.lexemes.specs.code.Codes.{firstCode}
 use Rattle.lexemes.specs.code.Numbering.{Coded, Numbering, WordsOf}
-use Rattle.lexemes.specs.code.Table.{kindCode, lexemeRow, lexemeTable}
+use Rattle.lexemes.specs.code.Table.{kindCode, lexemeRow, lexemeTable, rowWidth}
 use Rattle.lexemes.proofs.Said.{entryOf, entry-here, part-fits, word-says}
 
 -- ---- the code of a word
@@ -48,7 +48,7 @@ module _ {text words : List ℕ} {i : ℕ} (given : WordsOf text words i) where
   entry = entryOf text i (given .word) (given .later) (given .here)
 
   -- number `column` of the word's row
-  words-say : (column : ℕ) → column < 5 → numberAt 5 words i column ≡ getD (row entry) column 0
+  words-say : (column : ℕ) → column < wordWidth → numberAt wordWidth words i column ≡ getD (row entry) column 0
   words-say = word-says text i (given .word) (given .later) (given .here) (given .rest) (given .is-words)
 
   -- what the word is, by its number
@@ -120,20 +120,20 @@ module _ {text words values lexemes₀ : List ℕ} {count : ℕ} (numbering : Nu
       front : List ℕ
       front = rows (lexemeRow text) (take word (entries (wordsOf text) 0))
 
-      front-long : length front ≡ 6 * word
+      front-long : length front ≡ rowWidth * word
       unfolding front
       front-long =
           let few : word ≤ length (entries (wordsOf text) 0) = omega (arith, numbering .counted, entries-long (wordsOf text) 0) in
-          rw (length-rows (lexemeRow text) 6 (λ e. refl) (take word (entries (wordsOf text) 0)), length-take-le word _ few)
+          rw (length-rows (lexemeRow text) rowWidth (λ e. refl) (take word (entries (wordsOf text) 0)), length-take-le word _ few)
 
       -- one row more
       pub filling-goes : {code : ℕ} → ((given : WordsOf text words word) → Coded given code) → {next start end width : ℕ} → next ≡ nextAt words word
           → start ≡ startAt words word → end ≡ endAt words word → width ≡ widthAt words word
           → Filling text lexemes₀ count
-          (set (set (set (set (set (set lexemes (6 * word) code) (6 * word + 1) next) (6 * word + 2) (getD values word 0)) (6 * word + 3) start)
-          (6 * word + 4)
+          (set (set (set (set (set (set lexemes (rowWidth * word) code) (rowWidth * word + 1) next) (rowWidth * word + 2) (getD values word 0)) (rowWidth * word + 3) start)
+          (rowWidth * word + 4)
           end)
-          (6 * word + 5)
+          (rowWidth * word + 5)
           width) (word + 1)
       unfolding front rows
       filling-goes {code} ec {next} {start} {end} {width} en es ee ew =
@@ -143,16 +143,16 @@ module _ {text words values lexemes₀ : List ℕ} {count : ℕ} (numbering : Nu
           let numbers : List ℕ = code ∷ next ∷ getD values word 0 ∷ start ∷ end ∷ width ∷ [] in
           let row : numbers ≡ lexemeRow text (entry given) =
           rw (ec given, en ∙ said 4 (omega arith), value-said given, es ∙ said 1 (omega arith), ee ∙ said 2 (omega arith), ew ∙ said 3 (omega arith)) in
-          let one : 6 * word + 1 ≡ suc (6 * word) = omega arith in
-          let two : 6 * word + 2 ≡ suc (suc (6 * word)) = omega arith in
-          let three : 6 * word + 3 ≡ suc (suc (suc (6 * word))) = omega arith in
-          let four : 6 * word + 4 ≡ suc (suc (suc (suc (6 * word)))) = omega arith in
-          let five : 6 * word + 5 ≡ suc (suc (suc (suc (suc (6 * word))))) = omega arith in
+          let one : rowWidth * word + 1 ≡ suc (rowWidth * word) = omega arith in
+          let two : rowWidth * word + 2 ≡ suc (suc (rowWidth * word)) = omega arith in
+          let three : rowWidth * word + 3 ≡ suc (suc (suc (rowWidth * word))) = omega arith in
+          let four : rowWidth * word + 4 ≡ suc (suc (suc (suc (rowWidth * word)))) = omega arith in
+          let five : rowWidth * word + 5 ≡ suc (suc (suc (suc (suc (rowWidth * word))))) = omega arith in
           let room : length front + 6 ≤ length lexemes₀ = omega (arith, front-long, numbering .room) in
           let more : rows (lexemeRow text) (take (word + 1) all) ≡ front ++ lexemeRow text (entry given) =
           rw (
             take-more all word _ _ (entry-here text word (given .word) (given .later) (given .here)),
-            rows-append (lexemeRow text) 6 (λ e. refl) (take word all) (entry given ∷ []),
+            rows-append (lexemeRow text) rowWidth (λ e. refl) (take word all) (entry given ∷ []),
           ) in
           record {
             reached = omega arith;

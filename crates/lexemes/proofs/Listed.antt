@@ -9,7 +9,7 @@ use borrow.Author.Tests.{eq-eqb, ne-eqb}
 use Rattle.forest.specs.Forest.{count, none, tree}
 use Rattle.words.specs.Trees.{Lexeme, list}
 use Rattle.lexemes.specs.Lists.{Items, after, inside, isList, item}
-use Rattle.lexemes.specs.code.Table.{codeAt, nextAt, openCode}
+use Rattle.lexemes.specs.code.Table.{codeAt, nextAt, openCode, rowWidth}
 use Rattle.lexemes.specs.code.Standing.{Between, ItemAt, ListAt, Stands}
 use Rattle.lexemes.proofs.ByCode.{frontCode, list-code}
 use Rattle.lexemes.proofs.Standing.{Here, Holds, by-itself, front, here}
@@ -40,10 +40,10 @@ module _ {lexemes : List ℕ} {at : ℕ} where
   pub held : (x : ListAt lexemes at) → Holds (x .source) lexemes at (list at (x .close)) (x .operands)
   held x = at-item (as-item x) .a-list refl
 
-  pub item-room : ItemAt lexemes at → 6 * at < length lexemes
+  pub item-room : ItemAt lexemes at → rowWidth * at < length lexemes
   item-room x = at-item x .room
 
-  pub list-room : ListAt lexemes at → 6 * at < length lexemes
+  pub list-room : ListAt lexemes at → rowWidth * at < length lexemes
   list-room x = item-room (as-item x)
 
   -- the word past an item is past its first

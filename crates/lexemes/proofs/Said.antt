@@ -10,13 +10,13 @@ use Rattle.forest.specs.code.Rows.{numberAt}
 use Rattle.forest.proofs.Lists.{drop-map, within}
 use Rattle.forest.proofs.Rows.{row-at}
 use Rattle.words.specs.Spans.{commentAfter, inRun, starts, startsFrom, wordStarts}
-use Rattle.words.specs.Table.{Entry, entries, nextOf, row, valueOf, widthOf, wordTable}
+use Rattle.words.specs.Table.{Entry, entries, nextOf, row, rowWidth as wordWidth, valueOf, widthOf, wordTable}
 use Rattle.words.specs.Trees.{bytesOf}
 use Rattle.words.specs.Words.{Word, wordAt, wordsOf}
 use Rattle.words.proofs.Chains.{entries-drop, wide}
 use Rattle.words.proofs.Offsets.{end-past, end-within}
 use Rattle.lexemes.specs.code.Standing.{Source, allOf, spelt}
-use Rattle.lexemes.specs.code.Table.{codeAt, kindCode, lexemeRow, lexemeTable, nextAt, valueAt, widthAt}
+use Rattle.lexemes.specs.code.Table.{codeAt, kindCode, lexemeRow, lexemeTable, nextAt, rowWidth, valueAt, widthAt}
 
 -- ---- a word of a text
 
@@ -70,16 +70,16 @@ module _ (text : List ℕ) (i : ℕ) (w : Word) (later : List Word) (here : drop
   entry-here = entries-drop (wordsOf text) 0 i ∙ rw (zero-add, here)
 
   -- number `column` of the word's row in the word table
-  pub word-says : {words : List ℕ} (rest : List ℕ) → words ≡ wordTable (wordsOf text) ++ rest → (column : ℕ) → column < 5
-      → numberAt 5 words i column ≡ getD (row entryOf) column 0
+  pub word-says : {words : List ℕ} (rest : List ℕ) → words ≡ wordTable (wordsOf text) ++ rest → (column : ℕ) → column < wordWidth
+      → numberAt wordWidth words i column ≡ getD (row entryOf) column 0
   unfolding wordTable
-  word-says rest is column h = rw is (row-at row 5 wide (entries (wordsOf text) 0) rest i column entryOf _ entry-here h)
+  word-says rest is column h = rw is (row-at row wordWidth wide (entries (wordsOf text) 0) rest i column entryOf _ entry-here h)
 
   -- number `column` of the word's row in the table of lexemes
-  pub lexeme-says : {lexemes : List ℕ} (rest : List ℕ) → lexemes ≡ lexemeTable text (wordsOf text) ++ rest → (column : ℕ) → column < 6
-      → numberAt 6 lexemes i column ≡ getD (lexemeRow text entryOf) column 0
+  pub lexeme-says : {lexemes : List ℕ} (rest : List ℕ) → lexemes ≡ lexemeTable text (wordsOf text) ++ rest → (column : ℕ) → column < rowWidth
+      → numberAt rowWidth lexemes i column ≡ getD (lexemeRow text entryOf) column 0
   unfolding lexemeTable
-  lexeme-says rest is column h = rw is (row-at (lexemeRow text) 6 (λ e. refl) (entries (wordsOf text) 0) rest i column entryOf _ entry-here h)
+  lexeme-says rest is column h = rw is (row-at (lexemeRow text) rowWidth (λ e. refl) (entries (wordsOf text) 0) rest i column entryOf _ entry-here h)
 
 -- what the table of lexemes says of word i
 pub record Saying (source : Source) (i : ℕ) (w : Word) (later : List Word) : Type 0 where

@@ -31,10 +31,10 @@ readsAfter passed lexemes at n (k ∷ more) = readsAfter (passed && eqb (codeAt 
 -- whether codes are those of words that are no brackets
 abbrev pub plain : List ℕ → Bool
 plain [] = true
-plain (k ∷ more) = leb 3 k && plain more
+plain (k ∷ more) = leb numeralCode k && plain more
 
 -- a word that is followed by others
-pub behind-word : {s : Source} {lexemes : List ℕ} → s .lexemes ≡ lexemes → {i c : ℕ} (F : Items) → Stands s i F c → 3 ≤ frontCode F
+pub behind-word : {s : Source} {lexemes : List ℕ} → s .lexemes ≡ lexemes → {i c : ℕ} (F : Items) → Stands s i F c → numeralCode ≤ frontCode F
     → Stands s (i + 1) (after 1 F) c
 unfolding after
 behind-word same none stands h = absurd (omega arith)
@@ -53,14 +53,14 @@ reads : {s : Source} {lexemes : List ℕ} → s .lexemes ≡ lexemes → (passed
 reads same passed at n c [] F p stands closed = ap (λ (k : ℕ). passed && eqb k closeCode) (front same stands closed)
 reads {s} {lexemes} same passed at n c (k ∷ more) F p stands closed =
     rw (front same stands closed)
-    (go (eqb (frontCode F) k) refl (reads same (passed && true) at (suc n) c more (after 1 F) (and-right (leb 3 k) (plain more) p)))
+    (go (eqb (frontCode F) k) refl (reads same (passed && true) at (suc n) c more (after 1 F) (and-right (leb numeralCode k) (plain more) p)))
   where
     go : (b : Bool) → eqb (frontCode F) k ≡ b
         → (Stands s (at + suc n) (after 1 F) c → codeAt lexemes c ≡ closeCode
         → readsAfter (passed && true) lexemes at (suc n) more ≡ (passed && true) && spelled more (after 1 F))
         → readsAfter (passed && b) lexemes at (suc n) more ≡ passed && (b && spelled more (after 1 F))
     go true e later =
-        let k3 = leb-true 3 k (and-left (leb 3 k) (plain more) p) in
+        let k3 = leb-true numeralCode k (and-left (leb numeralCode k) (plain more) p) in
         let next : at + n + 1 ≡ at + suc n = omega arith in
         later (subst (λ (j : ℕ). Stands s j (after 1 F) c) next (behind-word same F stands (omega (arith, eqb-true (frontCode F) k e)))) closed
         ∙ and-assoc passed true (spelled more (after 1 F))
@@ -95,8 +95,8 @@ plain-numerals (suc n) = plain-numerals n
 plain-indexed : (word : String) (n : ℕ) → plain (indexedCodes word n) ≡ true
 plain-indexed word n = rw (plain-word "_", plain-word word) (plain-numerals n)
   where
-    plain-word : (w : String) → leb 3 (codeFor w) ≡ true
-    plain-word w = le-leb 3 (codeFor w) (omega (arith, code-for w))
+    plain-word : (w : String) → leb numeralCode (codeFor w) ≡ true
+    plain-word w = le-leb numeralCode (codeFor w) (omega (arith, code-for w))
 
 underscore-known : isKnown "_" ≡ true
 unfolding codeFor

@@ -13,7 +13,7 @@ use lib.Dec.{ltb}
 use borrow.Author.Tests.{ltb-false, ltb-true}
 use Rattle.words.specs.Trees.{Lexeme, list}
 use Rattle.lexemes.specs.Lists.{Items, isList, item}
-use Rattle.lexemes.specs.code.Table.{closeCode, codeAt, codeOf, nextAt, openCode}
+use Rattle.lexemes.specs.code.Table.{closeCode, codeAt, codeOf, nextAt, openCode, rowWidth}
 use Rattle.lexemes.specs.code.Standing.{Source, Stands, bracketed, ends, word}
 use Rattle.lexemes.proofs.ByCode.{code-pos, frontCode}
 
@@ -31,7 +31,7 @@ pub record Here (s : Source) (lexemes : List ℕ) (i : ℕ) (l : Lexeme) (ops mo
   pub code : codeAt lexemes i ≡ codeOf l
   pub ahead : i < nextAt lexemes i
   pub rest : Stands s (nextAt lexemes i) more e
-  pub room : 6 * i < length lexemes
+  pub room : rowWidth * i < length lexemes
   pub a-word : isList l ≡ false → (nextAt lexemes i ≡ i + 1) × (ops ≡ none)
   pub a-list : isList l ≡ true → Holds s lexemes i l ops
 
@@ -54,12 +54,12 @@ module _ {s : Source} where
   some-left (bracketed {i = i} {c = c} {ops = ops} {more = more} l inner rest) h = record { l = list i c; ops = ops; rest = more; is = refl }
 
 -- a word that has a code is within the table
-pub coded : (lexemes : List ℕ) (i : ℕ) → 0 < codeAt lexemes i → 6 * i < length lexemes
-coded lexemes i h = go (ltb (6 * i) (length lexemes)) refl
+pub coded : (lexemes : List ℕ) (i : ℕ) → 0 < codeAt lexemes i → rowWidth * i < length lexemes
+coded lexemes i h = go (ltb (rowWidth * i) (length lexemes)) refl
   where
-    go : (b : Bool) → ltb (6 * i) (length lexemes) ≡ b → 6 * i < length lexemes
+    go : (b : Bool) → ltb (rowWidth * i) (length lexemes) ≡ b → rowWidth * i < length lexemes
     go true e = ltb-true _ _ e
-    go false e = absurd (omega (arith, past 6 lexemes i 0 (omega (arith, ltb-false (6 * i) (length lexemes) e))))
+    go false e = absurd (omega (arith, past rowWidth lexemes i 0 (omega (arith, ltb-false (rowWidth * i) (length lexemes) e))))
 
 module _ {s : Source} {lexemes : List ℕ} (same : s .lexemes ≡ lexemes) where
   pub here : {i e : ℕ} {l : Lexeme} {ops more : Items} → Stands s i (tree l ops more) e → Here s lexemes i l ops more e

@@ -14,7 +14,7 @@ use Rattle.words.specs.Trees.{Lexeme}
 use Rattle.lexemes.specs.Lists.{Items}
 use Rattle.lexemes.specs.code.Standing.{Source, spelt}
 use Rattle.lexemes.proofs.Standing.{coded}
-use Rattle.lexemes.specs.code.Table.{codeAt, literalCode, numeralCode, symbolCode, valueAt, widthAt}
+use Rattle.lexemes.specs.code.Table.{codeAt, literalCode, numeralCode, rowWidth as lexemeWidth, symbolCode, valueAt, widthAt}
 use Rattle.lexemes.specs.code.Codes.{constantCode, firstCode, variableCode}
 use Rattle.lexemes.proofs.ByCode.{codeFor}
 use Rattle.terms.specs.code.Codes.{codeWith, cutValue, literalHead, literalKind}
@@ -105,7 +105,7 @@ no-pattern at head name {code} e headed = go (ltb at head) refl
 -- The word of a node at which a name stands that is not known.
 module _ (lexemes : List ℕ) (first head nowhere : ℕ) {code : ℕ} (ec : code ≡ codeAt lexemes head) {t : Bool} (et : t ≡ isPatternHead first head code) where
   -- a pattern is within the table
-  pub pattern-within : t ≡ true → 6 * head < length lexemes
+  pub pattern-within : t ≡ true → lexemeWidth * head < length lexemes
   pattern-within h = coded lexemes head (go (ltb first head) (eqb code constantCode) refl (eqb code variableCode) refl (sym et ∙ h))
     where
       go : (later c : Bool) → eqb code constantCode ≡ c → (v : Bool) → eqb code variableCode ≡ v → later && (c || v) ≡ true → 0 < codeAt lexemes head

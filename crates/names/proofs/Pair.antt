@@ -14,6 +14,7 @@ use Rattle.words.specs.Trees.{Lexeme}
 use Rattle.lexemes.specs.Lists.{Items, inside, isList, isSymbol, item, nameOf}
 use Rattle.lexemes.specs.code.Standing.{ItemAt}
 use Rattle.lexemes.proofs.Listed.{item-room, list-from}
+use Rattle.lexemes.specs.code.Table.{rowWidth as lexemeWidth}
 use Rattle.shapes.specs.Shapes.{pairShape, sortShape}
 use Rattle.written_sorts.specs.code.Places.{ShapedAt, SortAt}
 use Rattle.written_sorts.specs.Written.{sortOf}
@@ -48,7 +49,7 @@ module _ {text lexemes names : List ℕ} {row i : ℕ} (p : PairAt text lexemes 
   }
 
   -- within the table of lexemes
-  pub pair-room : 6 * i < length lexemes
+  pub pair-room : lexemeWidth * i < length lexemes
   pair-room = item-room (pair-here .here)
 
   -- its name stands at the next word

@@ -18,7 +18,7 @@ use Rattle.lexemes.specs.code.Reserved.{knownWords, placeAmong, wordNumber}
 use Rattle.lexemes.specs.Lists.{Items, after, allNumerals, indexed, is, isList, isSymbol, item, numeralOf}
 use Rattle.lexemes.specs.code.Standing.{Source, Stands, bracketed, ends, word}
 use Rattle.lexemes.proofs.Standing.{coded}
-use Rattle.lexemes.specs.code.Table.{codeAt, numeralCode, openCode, symbolCode, valueAt}
+use Rattle.lexemes.specs.code.Table.{codeAt, numeralCode, openCode, rowWidth as lexemeWidth, symbolCode, valueAt}
 use Rattle.term_nodes.specs.Terms.{pattern}
 use Rattle.written_sorts.specs.Written.{sortOf, sortPlace}
 use Rattle.written_sorts.specs.declared.Fault.the-variants.{Unknown}
@@ -147,7 +147,7 @@ module _ {lexemes : List ℕ} {head : ℕ} (p : PatternAt lexemes head) where
   sort-here = sort-is (p .says .stands) (p .says .shaped)
 
   -- the word that says which of the two it is stands in the table
-  pub pattern-room : 6 * head < length lexemes
+  pub pattern-room : lexemeWidth * head < length lexemes
   pattern-room = coded lexemes head (rw head-code (go (p .constant)))
     where
       go : (c : Bool) → 0 < patternCode c

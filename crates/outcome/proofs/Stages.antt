@@ -16,6 +16,8 @@ use Rattle.script.specs.Script.{Known}
 use Rattle.script.specs.Response.{Body}
 use Rattle.script.specs.Outcome.{ResponseOutcome, ScriptOutcome, given, responseOutcome, said, scriptOutcome}
 use Rattle.script.proofs.Numbers.{Numbered, inResponse, inScript, response-numbered, script-numbered}
+use Rattle.script.specs.code.Answers.{longAnswer}
+use Rattle.outcome.specs.code.Texts.{scriptText, responseText, pointsText, noText}
 use Rattle.outcome.specs.Checked.{Checked, Passing, Judgement, judged, missized, refusal, response-refused, script-refused, sizeAnswer, unshown}
 use Rattle.outcome.specs.Demands.{Showing, accepted, budget-ended, constraint-false}
 use Rattle.outcome.specs.Derived.{blankArea}
@@ -25,7 +27,7 @@ use Rattle.outcome.specs.declared.Outcome.{Outcome}
 
 -- An answer 1: it names one of the four and its length, and has no units.
 pub record TooLong (script response points area : List ℕ) (o : Outcome) : Type 0 where
-  pub number : o .number ≡ 1
+  pub number : o .number ≡ longAnswer
   pub text : o .text ≤ 3
   pub units : o .units ≡ 0
   pub row : AnswerRow script response points area o
@@ -50,7 +52,7 @@ missized-one script response points area e =
     (either (ltb mostNumbers (length points)) (one of-the-points (omega arith))
     (either (eqb (length area) areaSize) right (one of-the-area (omega arith)))))))
   where
-    one : {text place : ℕ} → LengthOf script response points area text place → text ≤ 3 → Sized script response points area (some (refusal 1 text place))
+    one : {text place : ℕ} → LengthOf script response points area text place → text ≤ 3 → Sized script response points area (some (refusal longAnswer text place))
     one is h = wrong (record { number = refl; text = h; units = refl; row = too-long is })
 
     either : {a b : Option Outcome} (t : Bool) → Sized script response points area a → Sized script response points area b
@@ -76,10 +78,10 @@ not-answered false o e = e
 pub sized-area : (script response points area : List ℕ) → sizeAnswer script response points area ≡ nothing → unshown area ≡ blankArea
 unfolding sizeAnswer
 sized-area script response points area e =
-    let script-fits = not-answered (ltb (scriptLimits .bytes) (length script)) (refusal 1 0 (length script)) e in
-    let response-fits = not-answered (ltb (responseLimits .bytes) (length response)) (refusal 1 1 (length response)) script-fits in
-    let points-fit = not-answered (ltb mostNumbers (length points)) (refusal 1 2 (length points)) response-fits in
-    go (eqb (length area) areaSize) (refusal 1 3 (length area)) points-fit
+    let script-fits = not-answered (ltb (scriptLimits .bytes) (length script)) (refusal longAnswer scriptText (length script)) e in
+    let response-fits = not-answered (ltb (responseLimits .bytes) (length response)) (refusal longAnswer responseText (length response)) script-fits in
+    let points-fit = not-answered (ltb mostNumbers (length points)) (refusal longAnswer pointsText (length points)) response-fits in
+    go (eqb (length area) areaSize) (refusal longAnswer noText (length area)) points-fit
   where
     go : (t : Bool) (o : Outcome) → cond t nothing (some o) ≡ nothing → cond t blankArea area ≡ blankArea
     go true o h = refl
@@ -121,7 +123,7 @@ module _ {script response points : List ℕ} {budget : ℕ} {area : List ℕ} wh
 
   -- Else, where the script is refused, that is answered.
   pub of-script : {number offset : ℕ} {o : Outcome} {a : List ℕ} → sizeAnswer script response points area ≡ nothing
-      → scriptOutcome script ≡ ScriptOutcome.faulty number offset → Checked script response points budget area o a → o ≡ refusal number 0 offset
+      → scriptOutcome script ≡ ScriptOutcome.faulty number offset → Checked script response points budget area o a → o ≡ refusal number scriptText offset
   of-script n e (missized h) = never (sym n ∙ h)
   of-script n e (script-refused z h) = cc
   of-script n e (response-refused z s h) = not-said (sym e ∙ s)
@@ -130,7 +132,7 @@ module _ {script response points : List ℕ} {budget : ℕ} {area : List ℕ} wh
   -- Else, where the response is refused, that is answered.
   pub of-response : {k : Known} {number offset : ℕ} {o : Outcome} {a : List ℕ} → sizeAnswer script response points area ≡ nothing
       → scriptOutcome script ≡ said k → responseOutcome k response ≡ ResponseOutcome.faulty number offset
-      → Checked script response points budget area o a → o ≡ refusal number 1 offset
+      → Checked script response points budget area o a → o ≡ refusal number responseText offset
   of-response n e r (missized h) = never (sym n ∙ h)
   of-response n e r (script-refused z h) = not-said (sym h ∙ e)
   of-response n e r (response-refused z s h) = let x = of-known script response e s r in cc

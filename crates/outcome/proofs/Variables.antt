@@ -5,6 +5,7 @@ use mathlib.Core.Bool.{Bool, true, false, cond}
 use mathlib.Core.List.{List, [], _∷_, _++_}
 use mathlib.Core.Path.{_≡_}
 use lib.ListN.{getD}
+use Rattle.operators.specs.Sorts.{maxWidth}
 use Rattle.evaluation.specs.code.Points.{SortsSmall}
 use Rattle.lexemes.specs.Lists.{Items, inside, is, item, nameOf}
 use Rattle.written_sorts.specs.Written.{sortOf, sortPlace}
@@ -17,7 +18,7 @@ use Rattle.script.specs.Outcome.{said, scriptOutcome}
 use Rattle.script.proofs.Keeping.{script-keeps}
 
 -- One variable more.
-small-more : (vs : List Named) (v : Named) → ((i : ℕ) → getD (namedSorts vs) i 0 ≤ 64) → v .sort ≤ 64 → (i : ℕ) → getD (namedSorts (vs ++ v ∷ [])) i 0 ≤ 64
+small-more : (vs : List Named) (v : Named) → ((i : ℕ) → getD (namedSorts vs) i 0 ≤ maxWidth) → v .sort ≤ maxWidth → (i : ℕ) → getD (namedSorts (vs ++ v ∷ [])) i 0 ≤ maxWidth
 small-more [] v all h zero = h
 small-more [] v all h (suc i) = omega arith
 small-more (u ∷ vs) v all h zero = all 0

@@ -5,6 +5,18 @@
 ghost use mathlib.Core.Path.{_≡_};
 ghost use Rattle.outcome.specs.Checked.{refusal};
 
+// An answer speaks of the script.
+pub const SCRIPT: usize = 0;
+
+// Of the response.
+pub const RESPONSE: usize = 1;
+
+// Of the list of points.
+pub const POINTS: usize = 2;
+
+// Of none of them, or of the area.
+pub const NONE: usize = 3;
+
 // The number of an answer; which text it speaks of (0 the script, 1 the response, 2 the points, 3 none or the area); its place and its second number; and the
 // units spent.
 pub struct Outcome {

@@ -37,6 +37,7 @@ use Rattle.script.specs.declared.Progress.{Progress}
 use Rattle.script.proofs.OneTermMore.{length-table}
 use Rattle.script.proofs.TermsOfForms.{term-size, term-table}
 use Rattle.script.specs.Response.{responseView}
+use Rattle.script.specs.code.Answers.{nameAnswer, sortAnswer, headerAnswer}
 use Rattle.response.specs.code.Functions.{Answering, Comparing, Matched, matched, seenBy}
 use Rattle.response.specs.code.Outlines.{bodyAt}
 use Rattle.response.proofs.BodyItem.{body-item, body-shaped, command-symbol, next-within}
@@ -197,7 +198,7 @@ module _ {text lexemes names raw places nodes : List ℕ} {p : Progress} {at j r
     module _ {header : ℕ} (eh : (x : Compared text lexemes names at j arguments result) → Differs x nowhere header) where
       -- It differs.
       pub header-differs : header < nowhere → (q : Comparing text lexemes names raw places nodes p at j rows base nowhere)
-          → Matched q nodes (record { number = 12; place = header; rows = rows })
+          → Matched q nodes (record { number = headerAnswer; place = header; rows = rows })
       unfolding matched
       header-differs h q =
           let is = eh (header-compared q) in
@@ -237,7 +238,7 @@ module _ {text lexemes names raw places nodes : List ℕ} {p : Progress} {at j r
             (en : (x : Naming text lexemes names raw nodes seen rows base nowhere) → Named x rawAfter nodesAfter name) where
           -- A name in it is not known.
           pub name-unknown : name < nowhere → (q : Comparing text lexemes names raw places nodes p at j rows base nowhere)
-              → Matched q nodesAfter (record { number = 7; place = name; rows = rows })
+              → Matched q nodesAfter (record { number = nameAnswer; place = name; rows = rows })
           unfolding matched
           name-unknown h q =
               let is = eh (header-compared q) in
@@ -295,7 +296,7 @@ module _ {text lexemes names raw places nodes : List ℕ} {p : Progress} {at j r
 
               -- A sort in it is at fault.
               pub sort-differs : sort < nowhere → (q : Comparing text lexemes names raw places nodes p at j rows base nowhere)
-                  → Matched q nodesAfter (record { number = 8; place = sort; rows = rows })
+                  → Matched q nodesAfter (record { number = sortAnswer; place = sort; rows = rows })
               unfolding matched
               sort-differs h q =
                   let is = eh (header-compared q) in

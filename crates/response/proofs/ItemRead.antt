@@ -21,6 +21,7 @@ use Rattle.forest.specs.Limits.{allowed}
 use Rattle.script.specs.declared.Progress.{Progress}
 use Rattle.script.specs.declared.Verdict.{Verdict}
 use Rattle.script.specs.Response.{Answered, Body, inScriptOrder, judgedAll, judgedBody, judgedExtra, refused, withBody}
+use Rattle.script.specs.code.Answers.{shapeAnswer}
 use Rattle.response.specs.code.Responding.{OneMore}
 use Rattle.response.specs.code.Functions.{Answering, Taken, bodyOf}
 use Rattle.response.specs.code.Outlines.{Extra, ListIn}
@@ -29,7 +30,7 @@ use Rattle.response.proofs.Picked.{order-length}
 
 -- An item that is no list is refused.
 judged-word : (nowhere : ℕ) (defs : List Defined) (close : ℕ) (fs : List Function) (l : Lexeme) (c more : Items) (after : Answered) → isList l ≡ false
-    → judgedAll allowed nowhere defs close fs (tree l c more) after ≡ refused 5 (wordOf l)
+    → judgedAll allowed nowhere defs close fs (tree l c more) after ≡ refused shapeAnswer (wordOf l)
 unfolding judgedAll
 judged-word nowhere defs close [] l c more after e = rw e
 judged-word nowhere defs close (f ∷ fs) l c more after e = rw e
@@ -124,7 +125,7 @@ module _ {text lexemes names raw places nodes : List ℕ} {p : Progress} {at j b
   module _ {code : ℕ} (ec : code ≡ codeAt lexemes at) where
     -- It is no list.
     pub word-read : (code ≡ openCode → ⊥) → (a : AnyReading text lexemes names raw places nodes p at j base nowhere)
-        → ItemRead a places nodes (record { number = 5; place = at; rows = 0 })
+        → ItemRead a places nodes (record { number = shapeAnswer; place = at; rows = 0 })
     word-read other a =
         let r = a .reading in
         let t = some-left (r .stands) (a .some) in
@@ -133,7 +134,7 @@ module _ {text lexemes names raw places nodes : List ℕ} {p : Progress} {at j b
         let is = t .is in
         record {
           stops = λ ne after. rw is
-              (judged-word nowhere (a .known .defined) (a .close) fs (t .l) (t .ops) (t .rest) after (no-list ec other x) ∙ ap (refused 5) (placed (x .stands)));
+              (judged-word nowhere (a .known .defined) (a .close) fs (t .l) (t .ops) (t .rest) after (no-list ec other x) ∙ ap (refused shapeAnswer) (placed (x .stands)));
           passes = λ z. absurd (omega arith);
           grammars-hold = r .grammars-hold;
         }

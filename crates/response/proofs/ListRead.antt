@@ -26,6 +26,7 @@ use Rattle.script.specs.Outcome.{offsetOf}
 use Rattle.script.specs.declared.Progress.{Progress}
 use Rattle.script.specs.declared.Verdict.{Verdict}
 use Rattle.script.specs.Response.{Answered, Body, answered, bodies, nothingBehind, inScriptOrder, judgedAll, refused, withBody}
+use Rattle.script.specs.code.Answers.{shapeAnswer, headerAnswer}
 use Rattle.response.specs.code.Responding.{Reading}
 use Rattle.response.specs.code.Answers.{Answers, AnyReading, ItemRead, Responded, Responding, ResponseAt}
 use Rattle.response.proofs.Picked.{order-length}
@@ -87,7 +88,7 @@ answered-list nowhere defs fs at close c more = refl
 
 -- The end of the list where functions are left.
 missing : (nowhere : ℕ) (defs : List Defined) (close : ℕ) (f : Function) (fs : List Function) (after : Answered)
-    → judgedAll allowed nowhere defs close (f ∷ fs) none after ≡ refused 12 close
+    → judgedAll allowed nowhere defs close (f ∷ fs) none after ≡ refused headerAnswer close
 unfolding judgedAll
 missing nowhere defs close f fs after = refl
 
@@ -318,7 +319,7 @@ module _ {text lexemes names raw₀ places₀ nodes₀ : List ℕ} {p : Progress
 
       -- Functions are left.
       pub list-short : j < p .functions → (q : Responding text lexemes names raw₀ places₀ nodes₀ p nowhere)
-          → Responded q places nodes (record { number = 12; place = close; rows = rows })
+          → Responded q places nodes (record { number = headerAnswer; place = close; rows = rows })
       list-short less q =
           let t = g .each q in
           let order = inScriptOrder (q .known .functions) in
@@ -326,9 +327,9 @@ module _ {text lexemes names raw₀ places₀ nodes₀ : List ℕ} {p : Progress
           let none-is = ended q in
           let first = n .is in
           let last : judgedAll allowed nowhere (q .known .defined) close (drop j (inScriptOrder (q .known .functions))) (t .reading .items) (nothingBehind
-          (t .more)) ≡ refused 12 close =
+          (t .more)) ≡ refused headerAnswer close =
           rw (none-is, first) (missing nowhere (q .known .defined) close (n .function) (n .later) (nothingBehind (t .more))) in
-          refused-end q rows (t .owed ∙ ap (withBodies (t .done)) last ∙ with-refused (t .done) 12 close)
+          refused-end q rows (t .owed ∙ ap (withBodies (t .done)) last ∙ with-refused (t .done) headerAnswer close)
 
       module _ (whole : p .functions ≤ j) where
         -- What is left is what stands behind the list.
@@ -352,13 +353,13 @@ module _ {text lexemes names raw₀ places₀ nodes₀ : List ℕ} {p : Progress
 
         -- Something does.
         pub more-behind : close + 1 < nowhere → (q : Responding text lexemes names raw₀ places₀ nodes₀ p nowhere)
-            → Responded q places nodes (record { number = 5; place = close + 1; rows = rows })
+            → Responded q places nodes (record { number = shapeAnswer; place = close + 1; rows = rows })
         more-behind h q =
             let t = g .each q in
             let s = some-left (t .behind) h in
             let here = placed (subst (λ (F : Items). Stands (sourceOf text lexemes) (close + 1) F nowhere) (s .is) (t .behind)) in
-            let last : nothingBehind (t .more) ≡ refused 5 (close + 1) = ap nothingBehind (s .is) ∙ ap (refused 5) here in
-            refused-end q rows (ending-left q ∙ ap (withBodies (t .done)) last ∙ with-refused (t .done) 5 (close + 1))
+            let last : nothingBehind (t .more) ≡ refused shapeAnswer (close + 1) = ap nothingBehind (s .is) ∙ ap (refused shapeAnswer) here in
+            refused-end q rows (ending-left q ∙ ap (withBodies (t .done)) last ∙ with-refused (t .done) shapeAnswer (close + 1))
 
         -- Nothing does.
         pub list-whole : nowhere ≤ close + 1 → (q : Responding text lexemes names raw₀ places₀ nodes₀ p nowhere)

@@ -11,6 +11,7 @@ use Rattle.words.specs.Trees.{Lexeme, wordOf}
 use Rattle.lexemes.specs.Lists.{Items, is, isList}
 use Rattle.lexemes.specs.code.Standing.{Source, Stands}
 use Rattle.lexemes.specs.code.Table.{codeAt, codeOf, nextAt, openCode}
+use Rattle.lexemes.specs.code.Codes.{failCode, infeasibleCode}
 use Rattle.lexemes.proofs.ByCode.{codeFor, word-code}
 use Rattle.lexemes.proofs.Listed.{at-item, no-list}
 use Rattle.lexemes.proofs.Standing.{none-left, some-left}
@@ -19,12 +20,13 @@ use Rattle.names.specs.Scopes.{Defined, Function}
 use Rattle.forest.specs.Limits.{allowed}
 use Rattle.script.specs.declared.Progress.{Progress}
 use Rattle.script.specs.Response.{Answered, answered, inScriptOrder, isAlone, refused}
+use Rattle.script.specs.code.Answers.{shapeAnswer, failAnswer, infeasibleAnswer}
 use Rattle.response.specs.code.Answers.{Answers, Responded, Responding}
 use Rattle.response.proofs.ListRead.{first-item}
 
 -- What a word of that code gives, alone or not.
 abbrev wordGives : (code : ℕ) → (alone : Bool) → Answered
-wordGives code alone = cond (eqb code 6 && alone) (refused 10 0) (cond (eqb code 7 && alone) (refused 11 0) (refused 5 0))
+wordGives code alone = cond (eqb code failCode && alone) (refused failAnswer 0) (cond (eqb code infeasibleCode && alone) (refused infeasibleAnswer 0) (refused shapeAnswer 0))
 
 -- A response that begins with a word.
 answered-word : (nowhere : ℕ) (defs : List Defined) (fs : List Function) (l : Lexeme) (c more : Items) (alone : Bool) → isList l ≡ false → wordOf l ≡ 0
@@ -66,7 +68,7 @@ module _ {text lexemes names raw places nodes : List ℕ} {p : Progress} {nowher
 
   -- There is no word.
   pub nothing-said : nowhere ≡ 0 → (q : Responding text lexemes names raw places nodes p nowhere)
-      → Responded q places nodes (record { number = 5; place = nowhere; rows = 0 })
+      → Responded q places nodes (record { number = shapeAnswer; place = nowhere; rows = 0 })
   unfolding answered
   nothing-said e q = let is = none-left (q .stands) (omega arith) in refused-whole q (rw is)
 
@@ -88,17 +90,17 @@ module _ {text lexemes names raw places nodes : List ℕ} {p : Progress} {nowher
         ∙ ap (λ (n : ℕ). wordGives n (eqb nowhere 1)) (sym (h .code) ∙ sym ec)
 
     -- The one word `fail`.
-    pub fail-said : eqb code 6 && eqb nowhere 1 ≡ true → (q : Responding text lexemes names raw places nodes p nowhere)
-        → Responded q places nodes (record { number = 10; place = 0; rows = 0 })
+    pub fail-said : eqb code failCode && eqb nowhere 1 ≡ true → (q : Responding text lexemes names raw places nodes p nowhere)
+        → Responded q places nodes (record { number = failAnswer; place = 0; rows = 0 })
     fail-said t q = refused-whole q (word-said q ∙ rw t)
 
-    module _ (nf : eqb code 6 && eqb nowhere 1 ≡ false) where
+    module _ (nf : eqb code failCode && eqb nowhere 1 ≡ false) where
       -- The one word `infeasible`.
-      pub infeasible-said : eqb code 7 && eqb nowhere 1 ≡ true → (q : Responding text lexemes names raw places nodes p nowhere)
-          → Responded q places nodes (record { number = 11; place = 0; rows = 0 })
+      pub infeasible-said : eqb code infeasibleCode && eqb nowhere 1 ≡ true → (q : Responding text lexemes names raw places nodes p nowhere)
+          → Responded q places nodes (record { number = infeasibleAnswer; place = 0; rows = 0 })
       infeasible-said t q = refused-whole q (word-said q ∙ rw (nf, t))
 
       -- Anything else.
-      pub other-said : eqb code 7 && eqb nowhere 1 ≡ false → (q : Responding text lexemes names raw places nodes p nowhere)
-          → Responded q places nodes (record { number = 5; place = 0; rows = 0 })
+      pub other-said : eqb code infeasibleCode && eqb nowhere 1 ≡ false → (q : Responding text lexemes names raw places nodes p nowhere)
+          → Responded q places nodes (record { number = shapeAnswer; place = 0; rows = 0 })
       other-said t q = refused-whole q (word-said q ∙ rw (nf, t))

@@ -11,6 +11,7 @@ use Rattle.forest.specs.Forest.{nodesOf, tree}
 use Rattle.lexemes.specs.Lists.{Items, after, inside, is, item}
 use Rattle.lexemes.specs.code.Standing.{Between, ListAt, Stands}
 use Rattle.lexemes.specs.code.Table.{codeAt, nextAt}
+use Rattle.lexemes.specs.code.Codes.{defineFunCode}
 use Rattle.lexemes.proofs.ByCode.{codeFor, front-word}
 use Rattle.lexemes.proofs.Listed.{between, first-code}
 use Rattle.shapes.specs.Carried.{anyUncarried}
@@ -25,6 +26,7 @@ use Rattle.headers.specs.code.Heads.{HeadLimited}
 use Rattle.script.specs.Response.{Answered, judgedExtra, refused}
 use Rattle.response.specs.code.Outlines.{Extra, ListIn, Outlined, bodyAt, outlined}
 use Rattle.script.specs.declared.Verdict.{Verdict}
+use Rattle.script.specs.code.Answers.{limitAnswer, shapeAnswer, uncarriedAnswer, headerAnswer}
 use Rattle.response.proofs.BodyItem.{body-item, body-shaped, head-of, next-within, rows-within}
 
 -- The least word past a limit.
@@ -43,33 +45,33 @@ module _ {lexemes raw : List ℕ} {at nowhere : ℕ} where
   pub extra-stops : {rawAfter : List ℕ} {v : Verdict} → ((x : ListIn lexemes raw at nowhere) → Outlined x rawAfter v) → (v .number ≡ 0 → ⊥)
       → (x : ListIn lexemes raw at nowhere) → Extra x v
   unfolding judgedExtra outlined
-  extra-stops by ne x = record { refuses = by x .stops ne (refused 12 at); number = ne }
+  extra-stops by ne x = record { refuses = by x .stops ne (refused headerAnswer at); number = ne }
 
   -- One that passes is one too many.
   pub extra-passes : {rawAfter : List ℕ} {v : Verdict} → ((x : ListIn lexemes raw at nowhere) → Outlined x rawAfter v) → v .number ≡ 0
-      → (x : ListIn lexemes raw at nowhere) → Extra x (record { number = 12; place = at; rows = 0 })
+      → (x : ListIn lexemes raw at nowhere) → Extra x (record { number = headerAnswer; place = at; rows = 0 })
   unfolding judgedExtra outlined
-  extra-passes by z x = record { refuses = by x .goes-on z (refused 12 at); number = λ e. omega arith }
+  extra-passes by z x = record { refuses = by x .goes-on z (refused headerAnswer at); number = λ e. omega arith }
 
   module _ {code : ℕ} (ec : code ≡ codeAt lexemes (at + 1)) where
     -- The test of the command's word goes by its code.
-    by-code : (x : ListIn lexemes raw at nowhere) → is "define-fun" (item 0 (x .here .operands)) ≡ eqb code 10
+    by-code : (x : ListIn lexemes raw at nowhere) → is "define-fun" (item 0 (x .here .operands)) ≡ eqb code defineFunCode
     unfolding after codeFor
     by-code x = front-word "define-fun" refl 0 (x .here .operands) ∙ rw (ec, first-code (x .here))
 
     -- Another command.
-    pub other-command : (code ≡ 10 → ⊥) → (x : ListIn lexemes raw at nowhere) → Outlined x raw (record { number = 5; place = at; rows = 0 })
+    pub other-command : (code ≡ defineFunCode → ⊥) → (x : ListIn lexemes raw at nowhere) → Outlined x raw (record { number = shapeAnswer; place = at; rows = 0 })
     unfolding outlined
-    other-command other x = refusal x raw refl (λ e. omega arith) (λ later. rw (by-code x, ne-eqb code 10 other))
+    other-command other x = refusal x raw refl (λ e. omega arith) (λ later. rw (by-code x, ne-eqb code defineFunCode other))
 
-    module _ (e10 : code ≡ 10) where
+    module _ (e10 : code ≡ defineFunCode) where
       -- A `define-fun`.
       pub is-by : (x : ListIn lexemes raw at nowhere) → is "define-fun" (item 0 (x .here .operands)) ≡ true
-      is-by x = by-code x ∙ eq-eqb code 10 e10
+      is-by x = by-code x ∙ eq-eqb code defineFunCode e10
 
       module _ {next : ℕ} (en : next ≡ nextAt lexemes at) {u : Bool} (eu : (b : Between lexemes (at + 1) (next - 1)) → u ≡ anyUncarried (b .items)) where
         -- One in which something is not carried.
-        pub some-uncarried : u ≡ true → (x : ListIn lexemes raw at nowhere) → Outlined x raw (record { number = 6; place = at; rows = 0 })
+        pub some-uncarried : u ≡ true → (x : ListIn lexemes raw at nowhere) → Outlined x raw (record { number = uncarriedAnswer; place = at; rows = 0 })
         unfolding outlined
         some-uncarried t x =
             let all : anyUncarried (x .here .operands) ≡ true = sym (eu (between (x .here) en)) ∙ t in
@@ -81,7 +83,7 @@ module _ {lexemes raw : List ℕ} {at nowhere : ℕ} where
           carried x = sym (eu (between (x .here) en)) ∙ nu
 
           -- One of another shape.
-          pub misshapen : not s ≡ true → (x : ListIn lexemes raw at nowhere) → Outlined x raw (record { number = 5; place = at; rows = 0 })
+          pub misshapen : not s ≡ true → (x : ListIn lexemes raw at nowhere) → Outlined x raw (record { number = shapeAnswer; place = at; rows = 0 })
           unfolding outlined
           misshapen t x =
               let shape : defineFunShape (x .here .operands) ≡ false = sym (es (x .here)) ∙ not-true s t in
@@ -120,7 +122,7 @@ module _ {lexemes raw : List ℕ} {at nowhere : ℕ} where
                 limit-is x = sym (ep ∙ ap₂ min (eh (head-in x)) (eb (body-in x) .place-is))
 
                 -- One past a limit.
-                pub past-limit : place < nowhere → (x : ListIn lexemes raw at nowhere) → Outlined x rawAfter (record { number = 4; place = place; rows = 0 })
+                pub past-limit : place < nowhere → (x : ListIn lexemes raw at nowhere) → Outlined x rawAfter (record { number = limitAnswer; place = place; rows = 0 })
                 unfolding outlined
                 past-limit h x =
                     let limit = limit-is x in

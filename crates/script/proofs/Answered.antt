@@ -6,10 +6,11 @@ use mathlib.Core.List.{List, [], _∷_}
 use mathlib.Core.Path.{_≡_, refl, sym, ap, _∙_}
 use lib.ListN.{drop, getD, length, length-drop, length-map, length-set, length-take, set, take}
 use lib.Seq.{ext-getD, getD-drop, getD-set-other, getD-set-same, getD-take}
-use Rattle.forest.specs.Limits.{mostDefined, mostFunctions}
+use Rattle.derivation.specs.code.Rules.{ruleWidth}
+use Rattle.forest.specs.Limits.{mostConstraints, mostDefined, mostFunctions}
 use Rattle.forest.specs.Forest.{join}
 use Rattle.terms.specs.Labels.{Terms}
-use Rattle.terms.specs.code.Nodes.{nodeTable}
+use Rattle.terms.specs.code.Nodes.{nodeTable, rowWidth as nodeWidth}
 use Rattle.term_sorts.specs.code.Signatures.{functionSignature}
 use Rattle.names.specs.Scopes.{Defined, Function, signatureOf}
 use Rattle.script.specs.Script.{Known, definitionsOf}
@@ -57,12 +58,12 @@ module _ (places : List ℕ) {placesAfter : List ℕ} (j node offset : ℕ) (low
 
 module _ {places placesAfter : List ℕ} (same : SamePlaces places placesAfter) where
   -- A number of those of functions and their rules is what it was.
-  number-same : (n : ℕ) → n < 2080 → getD (drop functionsPlace placesAfter) n 0 ≡ getD (drop functionsPlace places) n 0
+  number-same : (n : ℕ) → functionsPlace + n < offsetsPlace → getD (drop functionsPlace placesAfter) n 0 ≡ getD (drop functionsPlace places) n 0
   number-same n h =
       getD-drop functionsPlace placesAfter n 0 ∙ same .middle (functionsPlace + n) (omega arith) (omega arith) ∙ sym (getD-drop functionsPlace places n 0)
 
   -- So are numbers one behind the other.
-  part-same : (k n : ℕ) → k + n ≤ 2080 → take n (drop k (drop functionsPlace placesAfter)) ≡ take n (drop k (drop functionsPlace places))
+  part-same : (k n : ℕ) → functionsPlace + (k + n) ≤ offsetsPlace → take n (drop k (drop functionsPlace placesAfter)) ≡ take n (drop k (drop functionsPlace places))
   part-same k n h =
       ext-getD 0 _ _ (simp (length-take, length-drop) (rw (same .long)))
       (λ i l. let b : i < n = omega (arith, simp (length-take) at l) in
@@ -83,7 +84,7 @@ module _ {places placesAfter : List ℕ} (same : SamePlaces places placesAfter) 
         rules-are = number-same (functionWidth * j + 2) (omega arith) ∙ g .rules-are;
         few-rules = g .few-rules;
         before-is = number-same (functionWidth * j + 3) (omega arith) ∙ g .before-is;
-        table-is = part-same (rulesPlace j) (2 * length (f .grammar .rules)) (omega (arith, g .few-rules)) ∙ g .table-is;
+        table-is = part-same (rulesPlace j) (ruleWidth * length (f .grammar .rules)) (omega (arith, g .few-rules)) ∙ g .table-is;
         forms-are = rw (start, taken) (g .forms-are);
         within = rw (start, taken) (g .within);
         sized = taken ∙ g .sized;
@@ -99,7 +100,7 @@ module _ {places placesAfter : List ℕ} (same : SamePlaces places placesAfter) 
 
   module _ {nodes nodesAfter : List ℕ} {rows more : ℕ} {k : Known} (p : PlacesHold places nodes rows k) {t : Terms}
       (g : Grown nodes rows more t nodesAfter) (few-defined : length (k .defined) ≤ mostDefined) (few-functions : length (k .functions) ≤ mostFunctions)
-      (few-constraints : length (k .constraints) ≤ 64) where
+      (few-constraints : length (k .constraints) ≤ mostConstraints) where
     -- The tables hold what they held, with one term more.
     abbrev pub body-held : PlacesHold placesAfter nodesAfter (rows + more) k
     body-held = record {
@@ -109,7 +110,7 @@ module _ {places placesAfter : List ℕ} (same : SamePlaces places placesAfter) 
       function-rows = rows-elsewhere places placesAfter (λ j h. same .front j (omega arith)) functionSignature _
           (omega (arith, length-map (k .functions) signatureOf)) (p .function-rows);
       all = join (p .all) t;
-      rest = drop (4 * rows + length (nodeTable t)) nodes;
+      rest = drop (nodeWidth * rows + length (nodeTable t)) nodes;
       nodes-are = nodes-grow p g;
       rows-are = rows-grown p g;
       plain = plain-join (p .all) t (p .plain) (g .plain);

@@ -8,16 +8,17 @@ use borrow.Author.Tests.{eqb-true}
 use Rattle.lexemes.proofs.Numbers.{isKnown}
 use Rattle.lexemes.specs.Lists.{Items, is, item}
 use Rattle.lexemes.specs.code.Table.{codeOf}
+use Rattle.lexemes.specs.code.Codes.{checkSynthCode, constraintCode, declareVarCode, defineFunCode, setLogicCode, synthFunCode}
 use Rattle.lexemes.proofs.ByCode.{codeFor, word-code}
 
 -- The tests of a command's word, by its code.
 pub record Chosen (c : Items) (code : ℕ) : Type 0 where
-  pub sets : is "set-logic" (item 0 c) ≡ eqb code 8
-  pub declares : is "declare-var" (item 0 c) ≡ eqb code 9
-  pub defines : is "define-fun" (item 0 c) ≡ eqb code 10
-  pub synthesizes : is "synth-fun" (item 0 c) ≡ eqb code 11
-  pub constrains : is "constraint" (item 0 c) ≡ eqb code 12
-  pub ends : is "check-synth" (item 0 c) ≡ eqb code 13
+  pub sets : is "set-logic" (item 0 c) ≡ eqb code setLogicCode
+  pub declares : is "declare-var" (item 0 c) ≡ eqb code declareVarCode
+  pub defines : is "define-fun" (item 0 c) ≡ eqb code defineFunCode
+  pub synthesizes : is "synth-fun" (item 0 c) ≡ eqb code synthFunCode
+  pub constrains : is "constraint" (item 0 c) ≡ eqb code constraintCode
+  pub ends : is "check-synth" (item 0 c) ≡ eqb code checkSynthCode
 
 -- A command whose word is known.
 pub chosen : (word : String) → isKnown word ≡ true → (c : Items) → is word (item 0 c) ≡ true → Chosen c (codeFor word)

@@ -7,6 +7,7 @@ use mathlib.Core.Bool.{_||_}
 use mathlib.Core.List.{List, [], _∷_, _++_, append-nil}
 use lib.ListN.{length}
 use Rattle.forest.specs.Lists.{sameBytes}
+use Rattle.forest.specs.Limits.{mostArguments}
 use Rattle.names.specs.Scopes.{Function, definedNames, functionNames, inOrder, isNamed, namesOf}
 use Rattle.names.specs.code.Lookup.{Kept, Names}
 use Rattle.names.specs.code.Table.{definedRow, functionRow, nameIn, namesFrom, ownArgumentRow, rowCount, sortIn, sortsFrom, variableRow}
@@ -33,7 +34,7 @@ same-through one other = record { names = other .names ∙ one .names; sorts = o
 
 -- The own rows of the arguments of the first `count` functions are what they were.
 abbrev pub SameArguments : (after names : List ℕ) → (count : ℕ) → Type 0
-SameArguments after names count = (j m : ℕ) → j < count → m ≤ 8 → SameRows after names (ownArgumentRow j) m
+SameArguments after names count = (j m : ℕ) → j < count → m ≤ mostArguments → SameRows after names (ownArgumentRow j) m
 
 module _ {names after : List ℕ} where
   -- Then the arguments of these functions stand in them.

@@ -15,7 +15,7 @@ use Rattle.forest.proofs.Laws.{from-past, join-assoc, size-join}
 use Rattle.forest.proofs.Nodes.{length-nodes, nodes-join}
 use Rattle.forest.proofs.Rows.{length-rows, rows-append}
 use Rattle.terms.specs.Labels.{Label, Terms}
-use Rattle.terms.specs.code.Nodes.{AllPlain, nodeRow, nodeTable}
+use Rattle.terms.specs.code.Nodes.{AllPlain, nodeRow, nodeTable, rowWidth as nodeWidth}
 use Rattle.terms.proofs.Bodies.{plain-join}
 use Rattle.terms.specs.Sorts.{Definition, Signature}
 use Rattle.evaluation.specs.code.Tables.{BodiesAt, TermStands}
@@ -42,23 +42,23 @@ from-wider (tree m a b) more (suc i) l ops rest e = rw (← join-assoc a b more)
 -- ---- tables of nodes
 
 -- How many numbers the table of terms has.
-pub length-table : (t : Terms) → length (nodeTable t) ≡ 4 * size t
+pub length-table : (t : Terms) → length (nodeTable t) ≡ nodeWidth * size t
 unfolding nodeTable
-length-table t = length-rows nodeRow 4 (λ n. refl) (nodesOf t) ∙ ap (λ (n : ℕ). 4 * n) (length-nodes t)
+length-table t = length-rows nodeRow nodeWidth (λ n. refl) (nodesOf t) ∙ ap (λ (n : ℕ). nodeWidth * n) (length-nodes t)
 
 -- The table of terms, one behind the other.
 table-join : (all t : Terms) → nodeTable (join all t) ≡ nodeTable all ++ nodeTable t
 unfolding nodeTable
-table-join all t = ap (rows nodeRow) (nodes-join all t) ∙ rows-append nodeRow 4 (λ n. refl) (nodesOf all) (nodesOf t)
+table-join all t = ap (rows nodeRow) (nodes-join all t) ∙ rows-append nodeRow nodeWidth (λ n. refl) (nodesOf all) (nodesOf t)
 
 -- A table into which the nodes of a term are written behind those of others.
 pub table-grows : {nodes : List ℕ} (rest : List ℕ) {rows : ℕ} (all t : Terms) → nodes ≡ nodeTable all ++ rest → rows ≡ size all
-    → 4 * (rows + size t) ≤ length nodes → {nodesAfter : List ℕ} → nodesAfter ≡ sets nodes (4 * rows) (nodeTable t)
-    → nodesAfter ≡ nodeTable (join all t) ++ drop (4 * rows + length (nodeTable t)) nodes
+    → nodeWidth * (rows + size t) ≤ length nodes → {nodesAfter : List ℕ} → nodesAfter ≡ sets nodes (nodeWidth * rows) (nodeTable t)
+    → nodesAfter ≡ nodeTable (join all t) ++ drop (nodeWidth * rows + length (nodeTable t)) nodes
 table-grows {nodes} rest {rows} all t e counted room is =
-    let long : 4 * rows + length (nodeTable t) ≤ length nodes = omega (arith, length-table t) in
-    let front : take (4 * rows) nodes ≡ nodeTable all = rw e (rw (counted, ← length-table all) (take-append-seam (nodeTable all) rest)) in
-    is ∙ sets-eq (nodeTable t) nodes (4 * rows) long ∙ rw (front, table-join all t, append-assoc)
+    let long : nodeWidth * rows + length (nodeTable t) ≤ length nodes = omega (arith, length-table t) in
+    let front : take (nodeWidth * rows) nodes ≡ nodeTable all = rw e (rw (counted, ← length-table all) (take-append-seam (nodeTable all) rest)) in
+    is ∙ sets-eq (nodeTable t) nodes (nodeWidth * rows) long ∙ rw (front, table-join all t, append-assoc)
 
 -- ---- what stands in them
 
@@ -113,8 +113,8 @@ pub record Grown (nodes : List ℕ) (rows more : ℕ) (t : Terms) (nodesAfter : 
   pub operands : Terms
   pub single : t ≡ tree label operands none
   pub sized : more ≡ size t
-  pub room : 4 * (rows + more) ≤ length nodes
-  pub is : nodesAfter ≡ sets nodes (4 * rows) (nodeTable t)
+  pub room : nodeWidth * (rows + more) ≤ length nodes
+  pub is : nodesAfter ≡ sets nodes (nodeWidth * rows) (nodeTable t)
 
 -- Rows of signatures whose numbers are what they were.
 pub rows-elsewhere : (places placesAfter : List ℕ) → ((j : ℕ) → j < bodiesPlace → getD placesAfter j 0 ≡ getD places j 0)
@@ -129,7 +129,7 @@ module _ {places nodes nodesAfter : List ℕ} {rows more : ℕ} {k : Known} (p :
   term-stands = rw (p .rows-are) (stands-last (p .all) t (g .label) (g .operands) (g .single))
 
   -- The nodes are those of all terms.
-  pub nodes-grow : nodesAfter ≡ nodeTable (join (p .all) t) ++ drop (4 * rows + length (nodeTable t)) nodes
+  pub nodes-grow : nodesAfter ≡ nodeTable (join (p .all) t) ++ drop (nodeWidth * rows + length (nodeTable t)) nodes
   nodes-grow = table-grows (p .rest) (p .all) t (p .nodes-are) (p .rows-are) (omega (arith, g .sized, g .room)) (g .is)
 
   -- So many rows are taken.
@@ -153,7 +153,7 @@ module _ {places nodes nodesAfter : List ℕ} {rows more : ℕ} {k : Known} (p :
         function-rows = rw same-functions (rows-elsewhere places placesAfter (λ j h. other j (λ e. omega arith)) functionSignature _
             (omega (arith, length-map (k .functions) signatureOf)) (p .function-rows));
         all = join (p .all) t;
-        rest = drop (4 * rows + length (nodeTable t)) nodes;
+        rest = drop (nodeWidth * rows + length (nodeTable t)) nodes;
         nodes-are = nodes-grow;
         rows-are = rows-grown;
         plain = plain-join (p .all) t (p .plain) (g .plain);
@@ -193,7 +193,7 @@ module _ {places nodes nodesAfter : List ℕ} {rows more : ℕ} {k : Known} (p :
           function-rows = rw same-functions (rows-elsewhere signed placesAfter (λ j h. other j (λ e. omega arith)) functionSignature _ (omega arith)
               (rows-kept given is-signed functionSignature _ (λ j h e. omega arith) (p .function-rows)));
           all = join (p .all) t;
-          rest = drop (4 * rows + length (nodeTable t)) nodes;
+          rest = drop (nodeWidth * rows + length (nodeTable t)) nodes;
           nodes-are = nodes-grow;
           rows-are = rows-grown;
           plain = plain-join (p .all) t (p .plain) (g .plain);

@@ -40,6 +40,7 @@ use Rattle.script.specs.Outcome.{ResponseOutcome, ScriptOutcome, byAnswe
 use Rattle.script.specs.Rows.{AtWord, ResponseRow, ScriptRow, TextRow, bad-name, bad-word, closed-too-often, ends-early, fail, grammar-fault, header-differs, infeasible, never-closed, not-carried, past-limit, shape-unknown, sort-fault, too-long}
 use Rattle.script.proofs.WordFaults.{OwnFault, OwnKind, a-literal, a-numeral, a-symbol, closes, faulty, kind-own, opens}
 use Rattle.script.proofs.WordsBelow.{Below, item-below, stands-below}
+use Rattle.script.specs.code.Answers.{failAnswer, infeasibleAnswer, shapeAnswer}
 
 -- Where the row holds of what a test takes, by the test, and of what else is taken, it holds of what is taken.
 either : {A : Type 0} (Row : A → Type 0) {a b : A} (t : Bool) → (t ≡ true → Row a) → Row b → Row (cond t a b)
@@ -192,7 +193,7 @@ module _ (text : List ℕ) (nowhere : ℕ) (all : nowhere ≡ length (wordsOf te
   all-rows : (counts : Counts) (k : Known) (items : Items) → Below nowhere items → ReadRow text (readAll counts nowhere k items)
   unfolding readAll Below
   all-rows counts k none b =
-      either (ReadRow text) (k .ended) (λ t. passes) (refuses (ScriptRow.of-text (subst (TextRow text 5) at-end ends-early)))
+      either (ReadRow text) (k .ended) (λ t. passes) (refuses (ScriptRow.of-text (subst (TextRow text shapeAnswer) at-end ends-early)))
   all-rows counts k (tree l c more) b =
       either (ReadRow text) (isList l)
       (λ t. then-row text _ _ (command-row counts k _ c _ (b .0 .first)) (λ later. all-rows counts later more (b .2)))
@@ -228,7 +229,7 @@ pub data FirstWords (text : List ℕ) : List Body → Type 0 where
 -- What is found in the commands of a response: bodies, or a row.
 data AnsweredRow (text : List ℕ) : Answered → Type 0 where
   gives : {bs : List Body} → FirstWords text bs → AnsweredRow text (bodies bs)
-  declines : {number place : ℕ} → ResponseRow text number (cond (eqb number 10 || eqb number 11) 0 (offsetOf text place))
+  declines : {number place : ℕ} → ResponseRow text number (cond (eqb number failAnswer || eqb number infeasibleAnswer) 0 (offsetOf text place))
       → AnsweredRow text (declined number place)
 
 -- a body more
@@ -297,7 +298,7 @@ module _ (text : List ℕ) (nowhere : ℕ) (all : nowhere ≡ length (wordsOf te
   -- a response's commands
   answered-row : (fs : List Function) (items : Items) → Below nowhere items → AnsweredRow text (answered counts nowhere defs fs items)
   unfolding answered Below
-  answered-row fs none b = declines (ResponseRow.of-text (subst (TextRow text 5) (at-end text nowhere all) ends-early))
+  answered-row fs none b = declines (ResponseRow.of-text (subst (TextRow text shapeAnswer) (at-end text nowhere all) ends-early))
   answered-row fs (tree l c more) b =
       taken (is "fail" l && isAlone (tree l c more)) (λ t. declines fail)
       (taken (is "infeasible" l && isAlone (tree l c more)) (λ t. declines infeasible)

@@ -14,7 +14,7 @@ use Rattle.forest.proofs.Rows.{rows-append}
 use Rattle.operators.specs.Operators.{operatorCount, operatorOf}
 use Rattle.operators.specs.Sorts.{maxWidth}
 use Rattle.terms.specs.Labels.{Label, defined, function, literal, name as label-name, operator}
-use Rattle.terms.specs.code.Nodes.{AllPlain, Plain, codeOf, nodeRow, nodeTable, valueOf}
+use Rattle.terms.specs.code.Nodes.{AllPlain, Plain, codeOf, nodeRow, nodeTable, rowWidth as nodeWidth, valueOf}
 use Rattle.derivation.specs.Derivation.{Item, nonTerminal, the}
 use Rattle.derivation.specs.code.Tables.{formTable, itemCode, itemRow, itemValue}
 use Rattle.lexemes.specs.Reserved.{isWord}
@@ -156,8 +156,8 @@ labels-table (tree i ops more) (also-labels e o m) =
     let code : itemCode i ≡ codeOf (labelOf i) = ap itemCode e in
     let value : itemValue i ≡ valueOf (labelOf i) = ap itemValue e in
     rw (
-      rows-append itemRow 4 (λ n. refl) (nodesOf ops) (nodesOf more),
-      rows-append nodeRow 4 (λ n. refl) (nodesOf (termsIn ops)) (nodesOf (termsIn more)),
+      rows-append itemRow nodeWidth (λ n. refl) (nodesOf ops) (nodesOf more),
+      rows-append nodeRow nodeWidth (λ n. refl) (nodesOf (termsIn ops)) (nodesOf (termsIn more)),
       labels-table ops o,
       labels-table more m,
       terms-count ops,

@@ -1,3 +1,4 @@
 pub mod Tables
 pub mod Places
 pub mod Signatures
+pub mod Answers

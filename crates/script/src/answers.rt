@@ -1,4 +1,4 @@
-//! The numbers of the answers, each once, and the verdict that has one.
+//! The numbers of the answers, each once (those of words are theirs), and the verdict that has one.
 use crate::Verdict;
 ghost use mathlib.Core.Path.{_≡_};
 
@@ -6,22 +6,16 @@ ghost use mathlib.Core.Path.{_≡_};
 pub const ACCEPTED: usize = 0;
 
 // A text or the list of points is too long, or a lent area is not of its size.
-pub const TOO_LONG: usize = 1;
-
-// A bad word.
-pub const BAD_WORD: usize = 2;
-
-// A bracket is closed too often, or never.
-pub const BRACKET: usize = 3;
+pub const TOO_LONG: usize = words::answers::TOO_LONG as usize;
 
 // Past a limit.
-pub const PAST_LIMIT: usize = 4;
+pub const PAST_LIMIT: usize = words::answers::PAST_LIMIT as usize;
 
 // The shape is unknown.
 pub const SHAPE: usize = 5;
 
 // Not carried.
-pub const NOT_CARRIED: usize = 6;
+pub const NOT_CARRIED: usize = words::answers::NOT_CARRIED as usize;
 
 // A name is unknown, taken or reserved.
 pub const NAME: usize = 7;

@@ -15,6 +15,7 @@ use Rattle.script.specs.Script.{Read, judged, knownAfter, outOfPlace, refused}
 use Rattle.script.specs.code.Tables.{KnownHeld}
 use Rattle.script.specs.declared.Progress.{Progress}
 use Rattle.script.specs.declared.Verdict.{Verdict}
+use Rattle.script.specs.code.Answers.{shapeAnswer, uncarriedAnswer}
 use Rattle.script_reader.specs.code.Commands.{Reads, saidBy}
 use Rattle.script_reader.specs.code.Progress.{Few, Stepped, outOfPlaceBy}
 use Rattle.script_reader.specs.code.Command.{CommandRead, CommandTested, Commanded, Shaped}
@@ -45,10 +46,10 @@ module _ {text lexemes names raw places nodes : List ℕ} {p : Progress} {i nowh
 
   module _ {uncarried : Bool} (found : (x : ListAt lexemes i) → uncarried ≡ notCarried (x .operands)) where
     -- 6.
-    pub read-uncarried : uncarried ≡ true → {s : Step} → s ≡ record { number = 6; place = i; progress = p }
+    pub read-uncarried : uncarried ≡ true → {s : Step} → s ≡ record { number = uncarriedAnswer; place = i; progress = p }
         → (c : Commanded text lexemes names raw places nodes p i nowhere) → CommandRead c names raw places nodes s
     read-uncarried taken e c =
-        refusal c 6 (omega arith) e
+        refusal c uncarriedAnswer (omega arith) e
         (judged-uncarried allowed nowhere (c .known) i (c .here .command) _ (sym (found (listed (c .here))) ∙ taken))
 
     module _ (left : uncarried ≡ false) {code : ℕ} (coded : code ≡ codeAt lexemes (i + 1)) {shape : Bool}
@@ -63,10 +64,10 @@ module _ {text lexemes names raw places nodes : List ℕ} {p : Progress} {i nowh
       test-is c = ap₂ (λ (a b : Bool). not a || b) (shapes (listed (c .here))) (placed ∙ out-by (c .tables .counted) (tests (c .here) coded))
 
       -- 5.
-      pub read-misplaced : not shape || out ≡ true → {s : Step} → s ≡ record { number = 5; place = i; progress = p }
+      pub read-misplaced : not shape || out ≡ true → {s : Step} → s ≡ record { number = shapeAnswer; place = i; progress = p }
           → (c : Commanded text lexemes names raw places nodes p i nowhere) → CommandRead c names raw places nodes s
       read-misplaced taken e c =
-          refusal c 5 (omega arith) e
+          refusal c shapeAnswer (omega arith) e
           (judged-misplaced allowed nowhere (c .known) i (c .here .command) _ (carried c) (sym (test-is c) ∙ taken))
 
       module _ (right : not shape || out ≡ false) where

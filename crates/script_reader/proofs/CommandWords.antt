@@ -8,6 +8,7 @@ use Rattle.forest.specs.Limits.{scriptWords}
 use Rattle.lexemes.specs.Lists.{Items, after, closeOf, is, item}
 use Rattle.lexemes.specs.code.Table.{codeAt, nextAt}
 use Rattle.lexemes.specs.code.Standing.{ListAt}
+use Rattle.lexemes.specs.code.Codes.{checkSynthCode, constraintCode, declareVarCode, defineFunCode, setLogicCode, synthFunCode}
 use Rattle.lexemes.proofs.ByCode.{codeFor, front-word, frontCode}
 use Rattle.lexemes.proofs.Listed.{first-code, held}
 use Rattle.lexemes.proofs.Standing.{forward}
@@ -16,12 +17,12 @@ use Rattle.script.specs.code.Tables.{CommandAt}
 
 -- The tests of a command's word by its code.
 pub record Tests (c : Items) (code : ℕ) : Type 0 where
-  pub sets : is "set-logic" (item 0 c) ≡ eqb code 8
-  pub declares : is "declare-var" (item 0 c) ≡ eqb code 9
-  pub defines : is "define-fun" (item 0 c) ≡ eqb code 10
-  pub synthesizes : is "synth-fun" (item 0 c) ≡ eqb code 11
-  pub constrains : is "constraint" (item 0 c) ≡ eqb code 12
-  pub checks : is "check-synth" (item 0 c) ≡ eqb code 13
+  pub sets : is "set-logic" (item 0 c) ≡ eqb code setLogicCode
+  pub declares : is "declare-var" (item 0 c) ≡ eqb code declareVarCode
+  pub defines : is "define-fun" (item 0 c) ≡ eqb code defineFunCode
+  pub synthesizes : is "synth-fun" (item 0 c) ≡ eqb code synthFunCode
+  pub constrains : is "constraint" (item 0 c) ≡ eqb code constraintCode
+  pub checks : is "check-synth" (item 0 c) ≡ eqb code checkSynthCode
 
 -- Where a command ends: its brackets are words of the text.
 pub record Ends (lexemes : List ℕ) (i close nowhere : ℕ) : Type 0 where
@@ -48,12 +49,12 @@ module _ {text lexemes : List ℕ} {i nowhere : ℕ} where
   tests h {code} e =
       let front : frontCode (h .command) ≡ code = sym (first-code (listed h)) ∙ sym e in
       record {
-        sets = front-word "set-logic" refl 0 (h .command) ∙ ap (λ (n : ℕ). eqb n 8) front;
-        declares = front-word "declare-var" refl 0 (h .command) ∙ ap (λ (n : ℕ). eqb n 9) front;
-        defines = front-word "define-fun" refl 0 (h .command) ∙ ap (λ (n : ℕ). eqb n 10) front;
-        synthesizes = front-word "synth-fun" refl 0 (h .command) ∙ ap (λ (n : ℕ). eqb n 11) front;
-        constrains = front-word "constraint" refl 0 (h .command) ∙ ap (λ (n : ℕ). eqb n 12) front;
-        checks = front-word "check-synth" refl 0 (h .command) ∙ ap (λ (n : ℕ). eqb n 13) front;
+        sets = front-word "set-logic" refl 0 (h .command) ∙ ap (λ (n : ℕ). eqb n setLogicCode) front;
+        declares = front-word "declare-var" refl 0 (h .command) ∙ ap (λ (n : ℕ). eqb n declareVarCode) front;
+        defines = front-word "define-fun" refl 0 (h .command) ∙ ap (λ (n : ℕ). eqb n defineFunCode) front;
+        synthesizes = front-word "synth-fun" refl 0 (h .command) ∙ ap (λ (n : ℕ). eqb n synthFunCode) front;
+        constrains = front-word "constraint" refl 0 (h .command) ∙ ap (λ (n : ℕ). eqb n constraintCode) front;
+        checks = front-word "check-synth" refl 0 (h .command) ∙ ap (λ (n : ℕ). eqb n checkSynthCode) front;
       }
 
   -- Each command ends so.

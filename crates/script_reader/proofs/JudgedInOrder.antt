@@ -8,6 +8,7 @@ use mathlib.Core.Path.{_≡_, refl, _∙_}
 use lib.Dec.{eqb, ltb}
 use borrow.Author.Tests.{le-ltb, ltb-false, ltb-true}
 use Rattle.lexemes.specs.Lists.{Items}
+use Rattle.lexemes.specs.code.Codes.{constraintCode, declareVarCode, defineFunCode, synthFunCode}
 use Rattle.shapes.specs.Carried.{notCarried}
 use Rattle.shapes.specs.Shapes.{commandShape}
 use Rattle.forest.specs.Limits.{Counts}
@@ -15,6 +16,7 @@ use Rattle.script.specs.Limits.{commandPast}
 use Rattle.script.specs.Script.{Known, Read, grammarPlace, judged, limitPlace, namePlace, outOfPlace, passed, refused, sortingPlace, tested}
 use Rattle.script.specs.code.Tables.{KnownHeld, Says}
 use Rattle.script.specs.declared.Verdict.{Verdict}
+use Rattle.script.specs.code.Answers.{limitAnswer, shapeAnswer, uncarriedAnswer, nameAnswer, sortAnswer, grammarAnswer}
 use Rattle.script_reader.specs.code.Commands.{Reads}
 use Rattle.script_reader.specs.declared.Step.{Step}
 use Rattle.script_reader.proofs.CommandWords.{Tests}
@@ -26,13 +28,13 @@ Numbered (passed k) = Unit {0}
 
 module _ (counts : Counts) (nowhere : ℕ) (k : Known) (at : ℕ) (c : Items) (said : Known) where
   -- 6.
-  pub judged-uncarried : notCarried c ≡ true → judged counts nowhere k at c said ≡ refused 6 at
+  pub judged-uncarried : notCarried c ≡ true → judged counts nowhere k at c said ≡ refused uncarriedAnswer at
   unfolding judged
   judged-uncarried e = rw e
 
   module _ (carried : notCarried c ≡ false) where
     -- 5, where it is carried.
-    pub judged-misplaced : not (commandShape c) || outOfPlace k c ≡ true → judged counts nowhere k at c said ≡ refused 5 at
+    pub judged-misplaced : not (commandShape c) || outOfPlace k c ≡ true → judged counts nowhere k at c said ≡ refused shapeAnswer at
     unfolding judged
     judged-misplaced e = rw (carried, e)
 
@@ -58,8 +60,8 @@ module _ (counts : Counts) (nowhere : ℕ) (k : Known) (at : ℕ) (c : Items) (s
       _
     where
       go : (t u v w x y : Bool) (l n s g : ℕ)
-          → let fit = cond x (refused 8 s) (cond y (refused 9 g) (passed said)) in
-          Numbered (cond t (refused 6 at) (cond u (refused 5 at) (cond v (refused 4 l) (cond w (refused 7 n) fit))))
+          → let fit = cond x (refused sortAnswer s) (cond y (refused grammarAnswer g) (passed said)) in
+          Numbered (cond t (refused uncarriedAnswer at) (cond u (refused shapeAnswer at) (cond v (refused limitAnswer l) (cond w (refused nameAnswer n) fit))))
       go true u v w x y l n s g = omega arith
       go false true v w x y l n s g = omega arith
       go false false true w x y l n s g = omega arith
@@ -73,7 +75,7 @@ module _ (counts : Counts) (nowhere : ℕ) (k : Known) (at : ℕ) (c : Items) (s
   unfolding tested
   within-limits v says z = go (ltb (limitPlace counts nowhere k at c) nowhere) _ _ refl says
     where
-      go : (b : Bool) (place : ℕ) (more : Read) → ltb place nowhere ≡ b → Says v (cond b (refused 4 place) more) → nowhere ≤ place
+      go : (b : Bool) (place : ℕ) (more : Read) → ltb place nowhere ≡ b → Says v (cond b (refused limitAnswer place) more) → nowhere ≤ place
       go true place more e s = absurd (omega (arith, s .0))
       go false place more e s = ltb-false place nowhere e
 
@@ -95,8 +97,8 @@ module _ (counts : Counts) (nowhere : ℕ) (k : Known) (at : ℕ) (c : Items) (s
       says
     where
       go : (w x y z : Bool) (l n m g : ℕ)
-          → Says v (cond w (refused 4 l) (cond x (refused 7 n) (cond y (refused 8 m) (cond z (refused 9 g) (passed said)))))
-          → Reads (cond w (refused 4 l) (cond x (refused 7 n) (cond y (refused 8 m) (cond z (refused 9 g) (passed said))))) names places nodes s
+          → Says v (cond w (refused limitAnswer l) (cond x (refused nameAnswer n) (cond y (refused sortAnswer m) (cond z (refused grammarAnswer g) (passed said)))))
+          → Reads (cond w (refused limitAnswer l) (cond x (refused nameAnswer n) (cond y (refused sortAnswer m) (cond z (refused grammarAnswer g) (passed said))))) names places nodes s
       go true x y z l n m g h = (number ∙ h .0, place ∙ h .1)
       go false true y z l n m g h = (number ∙ h .0, place ∙ h .1)
       go false false true z l n m g h = (number ∙ h .0, place ∙ h .1)
@@ -105,7 +107,7 @@ module _ (counts : Counts) (nowhere : ℕ) (k : Known) (at : ℕ) (c : Items) (s
 
   module _ {code : ℕ} (t : Tests c code) where
     -- Commands that say nothing but themselves pass.
-    pub others-pass : eqb code 9 ≡ false → eqb code 10 ≡ false → eqb code 11 ≡ false → eqb code 12 ≡ false → tested counts nowhere k at c said ≡ passed said
+    pub others-pass : eqb code declareVarCode ≡ false → eqb code defineFunCode ≡ false → eqb code synthFunCode ≡ false → eqb code constraintCode ≡ false → tested counts nowhere k at c said ≡ passed said
     unfolding tested limitPlace namePlace sortingPlace grammarPlace
     others-pass e9 e10 e11 e12 =
         let d9 = t .declares ∙ e9 in

@@ -8,6 +8,7 @@ use lib.Dec.{eqb}
 use lib.ListN.{length, length-append}
 use Rattle.forest.specs.Limits.{mostConstraints, mostDefined, mostFunctions, mostVariables}
 use Rattle.lexemes.specs.Lists.{Items}
+use Rattle.lexemes.specs.code.Codes.{constraintCode, declareVarCode, defineFunCode, synthFunCode}
 use Rattle.script.specs.Script.{Known, knownAfter, outOfPlace}
 use Rattle.script.specs.code.Tables.{Counted, NamesHold, PlacesHold}
 use Rattle.script.specs.declared.Progress.{Progress}
@@ -32,22 +33,22 @@ out-by n t = rw (n .logic-is, n .ended-is, n .functions-are, t .sets, t .checks)
 
 module _ (k : Known) {c : Items} {code : ℕ} (t : Tests c code) where
   -- Only `declare-var` adds a variable.
-  pub same-variables : eqb code 9 ≡ false → knownAfter k c .variables ≡ k .variables
+  pub same-variables : eqb code declareVarCode ≡ false → knownAfter k c .variables ≡ k .variables
   unfolding knownAfter
   same-variables e = rw (t .declares, e)
 
   -- Only `define-fun` adds a definition.
-  pub same-defined : eqb code 10 ≡ false → knownAfter k c .defined ≡ k .defined
+  pub same-defined : eqb code defineFunCode ≡ false → knownAfter k c .defined ≡ k .defined
   unfolding knownAfter
   same-defined e = rw (t .defines, e)
 
   -- Only `synth-fun` adds a function.
-  pub same-functions : eqb code 11 ≡ false → knownAfter k c .functions ≡ k .functions
+  pub same-functions : eqb code synthFunCode ≡ false → knownAfter k c .functions ≡ k .functions
   unfolding knownAfter
   same-functions e = rw (t .synthesizes, e)
 
   -- Only `constraint` adds a constraint.
-  pub same-constraints : eqb code 12 ≡ false → knownAfter k c .constraints ≡ k .constraints
+  pub same-constraints : eqb code constraintCode ≡ false → knownAfter k c .constraints ≡ k .constraints
   unfolding knownAfter
   same-constraints e = rw (t .constrains, e)
 
@@ -59,11 +60,11 @@ module _ (k : Known) {c : Items} {code : ℕ} (t : Tests c code) where
   counted-after rows n variables defined functions constraints = record {
     logic-is = ap₂ _||_ (n .logic-is) (sym (t .sets));
     ended-is = ap₂ _||_ (n .ended-is) (sym (t .checks));
-    variables-are = ap (λ (m : ℕ). cond (eqb code 9) (m + 1) m) (n .variables-are) ∙ sym (longer _ _ _ (k .variables) (t .declares) (behind (k .variables) _));
-    defined-are = ap (λ (m : ℕ). cond (eqb code 10) (m + 1) m) (n .defined-are) ∙ sym (longer _ _ _ (k .defined) (t .defines) (omega arith));
-    functions-are = ap (λ (m : ℕ). cond (eqb code 11) (m + 1) m) (n .functions-are) ∙ sym (longer _ _ _ (k .functions) (t .synthesizes) (omega arith));
+    variables-are = ap (λ (m : ℕ). cond (eqb code declareVarCode) (m + 1) m) (n .variables-are) ∙ sym (longer _ _ _ (k .variables) (t .declares) (behind (k .variables) _));
+    defined-are = ap (λ (m : ℕ). cond (eqb code defineFunCode) (m + 1) m) (n .defined-are) ∙ sym (longer _ _ _ (k .defined) (t .defines) (omega arith));
+    functions-are = ap (λ (m : ℕ). cond (eqb code synthFunCode) (m + 1) m) (n .functions-are) ∙ sym (longer _ _ _ (k .functions) (t .synthesizes) (omega arith));
     constraints-are =
-        ap (λ (m : ℕ). cond (eqb code 12) (m + 1) m) (n .constraints-are)
+        ap (λ (m : ℕ). cond (eqb code constraintCode) (m + 1) m) (n .constraints-are)
         ∙ sym (longer _ _ _ (k .constraints) (t .constrains) (behind (k .constraints) _));
     few-variables = variables;
     few-defined = defined;

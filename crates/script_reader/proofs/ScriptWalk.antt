@@ -26,6 +26,7 @@ use Rattle.script.specs.Script.{Known, Read, andThen, judged, knownAfter, passe
 use Rattle.script.specs.code.Tables.{ArgumentsHold, ConstraintsAt, GrammarsHold, KnownHeld}
 use Rattle.script.specs.code.Places.{formsPlace, placesLength}
 use Rattle.script.specs.declared.Progress.{Progress}
+use Rattle.script.specs.code.Answers.{shapeAnswer}
 use Rattle.script_reader.specs.code.Commands.{Reads, Roomy}
 use Rattle.script_reader.specs.code.Scripts.{ScriptAt, ScriptRead, lastStep, nothingSaid}
 use Rattle.script_reader.specs.code.Command.{CommandRead, Commanded}
@@ -144,7 +145,7 @@ module _ {text lexemes names₀ raw₀ places₀ nodes₀ : List ℕ} {nowhere :
     walk-end over {s} e g = record {
       reads =
           subst (λ (r : Read). Reads r names places nodes s) all
-          (subst⁻¹ (λ (t : Step). Reads (cond (x .known .ended) (passed (x .known)) (refused 5 nowhere)) names places nodes t) e
+          (subst⁻¹ (λ (t : Step). Reads (cond (x .known .ended) (passed (x .known)) (refused shapeAnswer nowhere)) names places nodes t) e
           (go (x .known .ended) (x .tables .counted .ended-is)));
       nodes-within = λ z. omega (arith, ap (λ (t : Step). t .progress .nodes) e, x .nodes-within, forward (x .stands));
     }
@@ -156,9 +157,9 @@ module _ {text lexemes names₀ raw₀ places₀ nodes₀ : List ℕ} {nowhere :
         all = ap (λ (F : Items). readAll allowed nowhere (x .known) F) (sym (none-left (x .stands) over)) ∙ x .same
 
         go : (b : Bool) → p .ended ≡ b
-            → Reads (cond b (passed (x .known)) (refused 5 nowhere)) names places nodes (lastStep nowhere (p .ended) p)
-        go true q = (ap (λ (t : Bool). cond t 0 5) q, x .tables)
-        go false q = (ap (λ (t : Bool). cond t 0 5) q, refl)
+            → Reads (cond b (passed (x .known)) (refused shapeAnswer nowhere)) names places nodes (lastStep nowhere (p .ended) p)
+        go true q = (ap (λ (t : Bool). cond t 0 shapeAnswer) q, x .tables)
+        go false q = (ap (λ (t : Bool). cond t 0 shapeAnswer) q, refl)
 
     module _ (within : at < nowhere) where
       -- The item that stands there.
@@ -186,7 +187,7 @@ module _ {text lexemes names₀ raw₀ places₀ nodes₀ : List ℕ} {nowhere :
 
       module _ {code : ℕ} (coded : code ≡ codeAt lexemes at) where
         -- A word that is in no command.
-        pub walk-word : (code ≡ openCode → ⊥) → {s : Step} → s ≡ record { number = 5; place = at; progress = p }
+        pub walk-word : (code ≡ openCode → ⊥) → {s : Step} → s ≡ record { number = shapeAnswer; place = at; progress = p }
             → (g : ScriptAt text lexemes names₀ raw₀ places₀ nodes₀ nowhere) → ScriptRead g names places nodes s
         unfolding readAll
         walk-word other {s} e g =
@@ -194,8 +195,8 @@ module _ {text lexemes names₀ raw₀ places₀ nodes₀ : List ℕ} {nowhere :
             let k = w .left g .known in
             let word = no-list coded other x in
             let place : wordOf (x .label) ≡ at = first-of (x .stands) in
-            let read : readAll allowed nowhere k (tree (x .label) (x .operands) (x .more)) ≡ refused 5 at = rw (word, place) in
-            let number : s .number ≡ 5 = ap (λ (t : Step). t .number) e in
+            let read : readAll allowed nowhere k (tree (x .label) (x .operands) (x .more)) ≡ refused shapeAnswer at = rw (word, place) in
+            let number : s .number ≡ shapeAnswer = ap (λ (t : Step). t .number) e in
             record {
               reads = subst (λ (r : Read). Reads r names places nodes s) (sym read ∙ read-here g) (number, ap (λ (t : Step). t .place) e);
               nodes-within = λ z. absurd (omega arith);

@@ -9,6 +9,7 @@ use lib.ListN.{drop, length, length-drop, take}
 use lib.Seq.{length-take-le}
 use borrow.Author.Tests.{ne-eqb}
 use Rattle.lexemes.specs.Lists.{Items, is, item}
+use Rattle.lexemes.specs.code.Codes.{constraintCode, declareVarCode, defineFunCode, synthFunCode}
 use Rattle.forest.specs.Limits.{allowed, mostConstraints, mostDefined, mostFunctions, mostVariables}
 use Rattle.terms.specs.code.Nodes.{rowWidth as nodeWidth}
 use Rattle.script.specs.Script.{Known, knownAfter, limitPlace, tested}
@@ -86,14 +87,14 @@ module _ {text lexemes names raw places nodes : List ℕ} {p : Progress} {code i
   forms-room = omega (arith, c .commanded .roomy .nodes-room, ap length (all-lent nodes), length-drop formsPlace nodes)
 
   -- What `declare-var` asks.
-  abbrev pub declaring : code ≡ 9 → Declaring text lexemes names p i nowhere
+  abbrev pub declaring : code ≡ declareVarCode → Declaring text lexemes names p i nowhere
   declaring e = record {
     of = command-of (command-is e .declares);
     names-hold = c .commanded .tables .names-hold;
   }
 
   -- What `define-fun` asks.
-  abbrev pub defining : code ≡ 10 → Defining text lexemes names raw places (take formsPlace nodes) p i nowhere
+  abbrev pub defining : code ≡ defineFunCode → Defining text lexemes names raw places (take formsPlace nodes) p i nowhere
   defining e = record {
     of = command-of (command-is e .defines);
     names-hold = c .commanded .tables .names-hold;
@@ -104,7 +105,7 @@ module _ {text lexemes names raw places nodes : List ℕ} {p : Progress} {code i
   }
 
   -- What `synth-fun` asks.
-  abbrev pub synthesizing : code ≡ 11 → Synthesizing text lexemes names raw places (formsLent nodes) p i nowhere
+  abbrev pub synthesizing : code ≡ synthFunCode → Synthesizing text lexemes names raw places (formsLent nodes) p i nowhere
   synthesizing e = record {
     of = command-of (command-is e .synthesizes);
     names-hold = c .commanded .tables .names-hold;
@@ -117,7 +118,7 @@ module _ {text lexemes names raw places nodes : List ℕ} {p : Progress} {code i
   }
 
   -- What `constraint` asks.
-  abbrev pub constraining : code ≡ 12 → Constraining text lexemes names raw places (take formsPlace nodes) p i nowhere
+  abbrev pub constraining : code ≡ constraintCode → Constraining text lexemes names raw places (take formsPlace nodes) p i nowhere
   constraining e = record {
     of = command-of (command-is e .constrains);
     names-hold = c .commanded .tables .names-hold;
@@ -136,11 +137,11 @@ module _ {text lexemes names raw places nodes : List ℕ} {p : Progress} {code i
   ahead = let e = ends-in (c .commanded .here) in omega arith
 
   -- What a `declare-var` gives.
-  pub declared : (e : code ≡ 9) {namesAfter : List ℕ} {v : Verdict} → Declared (declaring e) namesAfter v → CommandTested c namesAfter raw places nodes v
+  pub declared : (e : code ≡ declareVarCode) {namesAfter : List ℕ} {v : Verdict} → Declared (declaring e) namesAfter v → CommandTested c namesAfter raw places nodes v
   unfolding limitPlace
   declared e {namesAfter} {v} g = by-code e (g .verdict-is) refl (parts-same nodes) held
     where
-      held : v .number ≡ 0 → Held namesAfter places (take formsPlace nodes) (drop formsPlace nodes) (saidBy p 9 (v .rows)) later (c .commanded .here .close)
+      held : v .number ≡ 0 → Held namesAfter places (take formsPlace nodes) (drop formsPlace nodes) (saidBy p declareVarCode (v .rows)) later (c .commanded .here .close)
       held z =
           let before = c .commanded in
           let n = before .tables .counted in
@@ -162,13 +163,13 @@ module _ {text lexemes names raw places nodes : List ℕ} {p : Progress} {code i
           }
 
   -- What a `define-fun` gives.
-  pub defined : (e : code ≡ 10) {namesAfter rawAfter placesAfter terms : List ℕ} {v : Verdict}
+  pub defined : (e : code ≡ defineFunCode) {namesAfter rawAfter placesAfter terms : List ℕ} {v : Verdict}
       → Defined (defining e) namesAfter rawAfter placesAfter terms v
       → CommandTested c namesAfter rawAfter placesAfter (terms ++ drop formsPlace nodes) v
   unfolding limitPlace
   defined e {namesAfter} {rawAfter} {placesAfter} {terms} {v} g = by-code e (g .verdict-is) (g .raw-long) (parts-front terms-whole (g .nodes-long)) held
     where
-      held : v .number ≡ 0 → Held namesAfter placesAfter terms (drop formsPlace nodes) (saidBy p 10 (v .rows)) later (c .commanded .here .close)
+      held : v .number ≡ 0 → Held namesAfter placesAfter terms (drop formsPlace nodes) (saidBy p defineFunCode (v .rows)) later (c .commanded .here .close)
       held z =
           let before = c .commanded in
           let n = before .tables .counted in
@@ -189,13 +190,13 @@ module _ {text lexemes names raw places nodes : List ℕ} {p : Progress} {code i
           }
 
   -- What a `synth-fun` gives.
-  pub synthesized : (e : code ≡ 11) {namesAfter rawAfter placesAfter forms : List ℕ} {v : Verdict}
+  pub synthesized : (e : code ≡ synthFunCode) {namesAfter rawAfter placesAfter forms : List ℕ} {v : Verdict}
       → Synthesized (synthesizing e) namesAfter rawAfter placesAfter forms v
       → CommandTested c namesAfter rawAfter placesAfter (take formsPlace nodes ++ (forms ++ drop (length nodes - formsPlace) (drop formsPlace nodes))) v
   unfolding limitPlace
   synthesized e {namesAfter} {rawAfter} {placesAfter} {forms} {v} g = by-code e (g .verdict-is) (g .raw-long) (parts-behind terms-whole (g .forms-long)) held
     where
-      held : v .number ≡ 0 → Held namesAfter placesAfter (take formsPlace nodes) forms (saidBy p 11 (v .rows)) later (c .commanded .here .close)
+      held : v .number ≡ 0 → Held namesAfter placesAfter (take formsPlace nodes) forms (saidBy p synthFunCode (v .rows)) later (c .commanded .here .close)
       held z =
           let before = c .commanded in
           let n = before .tables .counted in
@@ -216,13 +217,13 @@ module _ {text lexemes names raw places nodes : List ℕ} {p : Progress} {code i
           }
 
   -- What a `constraint` gives.
-  pub constrained : (e : code ≡ 12) {rawAfter placesAfter terms : List ℕ} {v : Verdict}
+  pub constrained : (e : code ≡ constraintCode) {rawAfter placesAfter terms : List ℕ} {v : Verdict}
       → Constrained (constraining e) rawAfter placesAfter terms v
       → CommandTested c names rawAfter placesAfter (terms ++ drop formsPlace nodes) v
   unfolding limitPlace
   constrained e {rawAfter} {placesAfter} {terms} {v} g = by-code e (g .verdict-is) (g .raw-long) (parts-front terms-whole (g .nodes-long)) held
     where
-      held : v .number ≡ 0 → Held names placesAfter terms (drop formsPlace nodes) (saidBy p 12 (v .rows)) later (c .commanded .here .close)
+      held : v .number ≡ 0 → Held names placesAfter terms (drop formsPlace nodes) (saidBy p constraintCode (v .rows)) later (c .commanded .here .close)
       held z =
           let before = c .commanded in
           let n = before .tables .counted in
@@ -244,17 +245,17 @@ module _ {text lexemes names raw places nodes : List ℕ} {p : Progress} {code i
           }
 
   -- What the other commands give.
-  pub others : (code ≡ 9 → ⊥) → (code ≡ 10 → ⊥) → (code ≡ 11 → ⊥) → (code ≡ 12 → ⊥) → {v : Verdict} → v ≡ record { number = 0; place = i; rows = 0 }
+  pub others : (code ≡ declareVarCode → ⊥) → (code ≡ defineFunCode → ⊥) → (code ≡ synthFunCode → ⊥) → (code ≡ constraintCode → ⊥) → {v : Verdict} → v ≡ record { number = 0; place = i; rows = 0 }
       → CommandTested c names raw places nodes v
   others n9 n10 n11 n12 {v} e =
       let before = c .commanded in
       let n = before .tables .counted in
       let ends = ends-in (before .here) in
       let t = command-is refl in
-      let e9 = ne-eqb code 9 n9 in
-      let e10 = ne-eqb code 10 n10 in
-      let e11 = ne-eqb code 11 n11 in
-      let e12 = ne-eqb code 12 n12 in
+      let e9 = ne-eqb code declareVarCode n9 in
+      let e10 = ne-eqb code defineFunCode n10 in
+      let e11 = ne-eqb code synthFunCode n11 in
+      let e12 = ne-eqb code constraintCode n12 in
       let functions = same-functions known t e11 in
       let defined = same-defined known t e10 in
       let zero : v .number ≡ 0 = ap (λ (w : Verdict). w .number) e in

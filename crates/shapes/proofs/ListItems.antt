@@ -10,10 +10,11 @@ use lib.ListN.{length}
 use Rattle.forest.specs.Forest.{count}
 use Rattle.words.specs.Trees.{Lexeme}
 use Rattle.lexemes.specs.Lists.{Items, after, inside, isSymbol, item}
-use Rattle.lexemes.specs.code.Table.{codeAt, nextAt}
+use Rattle.lexemes.specs.code.Table.{codeAt, nextAt, rowWidth as lexemeWidth}
 use Rattle.lexemes.specs.code.Standing.{Between, ItemAt, ListAt, Reached, Stands}
 use Rattle.lexemes.proofs.ByCode.{symbol-code}
 use Rattle.lexemes.proofs.Listed.{at-item, between, from-item, list-room}
+use Rattle.lexemes.specs.code.Codes.{firstCode}
 use Rattle.shapes.specs.code.Lists.{ItemOf, Long}
 
 module _ {lexemes : List ℕ} {list : ℕ} where
@@ -25,7 +26,7 @@ module _ {lexemes : List ℕ} {list : ℕ} where
   pub shorter : {n : ℕ} → Long lexemes list n → {m : ℕ} → m ≤ n → Long lexemes list m
   shorter l h = record { here = l .here; enough = λ x. omega (arith, l .enough x) }
 
-  pub room-of : {n : ℕ} → Long lexemes list n → 6 * list < length lexemes
+  pub room-of : {n : ℕ} → Long lexemes list n → lexemeWidth * list < length lexemes
   room-of l = list-room (l .here)
 
   module _ {n : ℕ} (counts : (x : ListAt lexemes list) → n ≡ count (x .operands)) {k : ℕ} where
@@ -70,5 +71,5 @@ module _ {lexemes : List ℕ} {list : ℕ} where
         → (x : ListAt lexemes list) → q ≡ shape (item n (x .operands)) (inside n (x .operands))
     part shape known x = known (the-item x)
 
-    pub part-symbol : {code : ℕ} → code ≡ codeAt lexemes r → (x : ListAt lexemes list) → leb 5 code ≡ isSymbol (item n (x .operands))
+    pub part-symbol : {code : ℕ} → code ≡ codeAt lexemes r → (x : ListAt lexemes list) → leb firstCode code ≡ isSymbol (item n (x .operands))
     part-symbol e x = rw (e, at-item (the-item x) .code) (sym (symbol-code (item n (x .operands))))

@@ -25,7 +25,7 @@ module _ {lexemes : List ℕ} {at : ℕ} where
 
     pub sort-test : {r : Bool} → ((x : ItemAt lexemes at) → r ≡ (isList (x .label) && indexed "BitVec" 1 (x .operands)))
         → (x : ItemAt lexemes at) → leb firstCode code || r ≡ sortShape (x .label) (x .operands)
-    sort-test known x = ap₂ _||_ (ap (leb 5) (code-of x) ∙ sym (symbol-code (x .label))) (known x)
+    sort-test known x = ap₂ _||_ (ap (leb firstCode) (code-of x) ∙ sym (symbol-code (x .label))) (known x)
 
     pub head-test : {r : Bool} → ((x : ItemAt lexemes at) → r ≡ (isList (x .label) && indexed "extract" 2 (x .operands)))
         → (x : ItemAt lexemes at)

@@ -5,7 +5,7 @@ use mathlib.Core.List.{List}
 use lib.ListN.{length}
 use Rattle.forest.specs.Forest.{count}
 use Rattle.lexemes.specs.code.Standing.{Between}
-use Rattle.lexemes.specs.code.Table.{nextAt}
+use Rattle.lexemes.specs.code.Table.{nextAt, rowWidth as lexemeWidth}
 use Rattle.lexemes.proofs.Listed.{item-ahead, item-room}
 use Rattle.written_sorts.specs.code.Places.{SortAt}
 use Rattle.written_sorts.specs.code.Headers.{SynthFunAt}
@@ -17,7 +17,7 @@ use Rattle.synth_fun.specs.code.Synthesizing.{HeaderOf}
 
 module _ {lexemes : List ℕ} {at : ℕ} {arguments : ℕ} (ea : arguments ≡ nextAt lexemes (at + 2)) where
   -- The arguments stand within the table of lexemes.
-  pub first-room : SynthFunAt lexemes at → 6 * arguments < length lexemes
+  pub first-room : SynthFunAt lexemes at → lexemeWidth * arguments < length lexemes
   first-room p = arguments-room (header p) ea
 
   module _ {result : ℕ} (er : result ≡ nextAt lexemes arguments) where
@@ -35,7 +35,7 @@ module _ {lexemes : List ℕ} {at : ℕ} {arguments : ℕ} (ea : arguments ≡ n
 
     module _ {declared : ℕ} (ed : declared ≡ nextAt lexemes result) where
       -- The non-terminals stand within the table of lexemes.
-      pub declared-room : SynthFunAt lexemes at → 6 * declared < length lexemes
+      pub declared-room : SynthFunAt lexemes at → lexemeWidth * declared < length lexemes
       declared-room p = item-room (grammar-pairs ea er ed p .here)
 
       module _ {next : ℕ} (en : next ≡ nextAt lexemes declared) where

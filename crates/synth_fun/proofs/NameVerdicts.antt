@@ -26,6 +26,7 @@ use Rattle.script.specs.declared.Progress.{Progress}
 use Rattle.script.specs.declared.Verdict.{Verdict}
 use Rattle.script.proofs.WordsBelow.{command-word}
 use Rattle.script.proofs.Verdicts.{says-limit, says-name}
+use Rattle.script.specs.code.Answers.{limitAnswer, nameAnswer}
 use Rattle.synth_fun.specs.code.Synthesizing.{Synthesized, Synthesizing, formsSaid, ruledBy}
 use Rattle.synth_fun.specs.code.SortTests.{Unsorted}
 use Rattle.synth_fun.specs.code.NameTests.{Gathering, NamesFound, ReadsHeader, Unnamed}
@@ -43,7 +44,7 @@ tables-long F = length-rows rawRow rawWidth (λ n. refl) (nodesOf F) ∙ sym (le
 module _ {text lexemes names raw places forms : List ℕ} {p : Progress} {i nowhere : ℕ}
     (d : Synthesizing text lexemes names raw places forms p i nowhere) where
   -- There are as many functions before the command as there may be.
-  pub full-refused : mostFunctions ≤ p .functions → Synthesized d names raw places forms (record { number = 4; place = i; rows = 0 })
+  pub full-refused : mostFunctions ≤ p .functions → Synthesized d names raw places forms (record { number = limitAnswer; place = i; rows = 0 })
   full-refused full =
       refused-so d (omega arith)
       (says-limit allowed nowhere (d .of .known) i (d .of .here .command) (After (d .of)) _
@@ -82,7 +83,7 @@ module _ {text lexemes names raw places forms : List ℕ} {p : Progress} {i nowh
 
       -- Something is past a limit.
       pub limit-refused : place < nowhere → {placesAfter : List ℕ}
-          → Synthesized d names rawAfter placesAfter forms (record { number = 4; place = place; rows = 0 })
+          → Synthesized d names rawAfter placesAfter forms (record { number = limitAnswer; place = place; rows = 0 })
       limit-refused past =
           refused-so d (omega arith)
           (says-limit allowed nowhere (d .of .known) i (d .of .here .command) (After (d .of)) _
@@ -161,7 +162,7 @@ module _ {text lexemes names raw places forms : List ℕ} {p : Progress} {g : Ga
         ∙ length-sets forms (nodeWidth * p .forms) (formsSaid (s .given .of .known) (s .given .of .here .command))
 
     -- A name is at fault.
-    pub names-refused : place < nowhere → Synthesized (s .given) namesAfter rawAfter places formsAfter (record { number = 7; place = place; rows = 0 })
+    pub names-refused : place < nowhere → Synthesized (s .given) namesAfter rawAfter places formsAfter (record { number = nameAnswer; place = place; rows = 0 })
     names-refused fault =
         refused-so (s .given) (omega arith)
         (says-name allowed nowhere (s .given .of .known) i (s .given .of .here .command) (After (s .given .of)) _ (s .limited)

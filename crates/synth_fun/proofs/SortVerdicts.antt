@@ -20,6 +20,7 @@ use Rattle.script.specs.code.Tables.{After, Tested}
 use Rattle.script.specs.declared.Progress.{Progress}
 use Rattle.script.specs.declared.Verdict.{Verdict}
 use Rattle.script.proofs.Verdicts.{says-grammar, says-passed, says-sorting}
+use Rattle.script.specs.code.Answers.{sortAnswer, grammarAnswer}
 use Rattle.synth_fun.specs.code.Synthesizing.{Synthesized, Synthesizing}
 use Rattle.synth_fun.specs.code.Rows.{Put}
 use Rattle.synth_fun.specs.code.SortTests.{Unsorted}
@@ -62,7 +63,7 @@ module _ {text lexemes names raw places forms : List ℕ} {p : Progress} {g : Ga
 
   -- a sort is at fault
   pub sorts-refused : place < nowhere → {placesAfter : List ℕ}
-      → Synthesized (s .given) names raw placesAfter forms (record { number = 8; place = place; rows = 0 })
+      → Synthesized (s .given) names raw placesAfter forms (record { number = sortAnswer; place = place; rows = 0 })
   sorts-refused found =
       refused-so (s .given) (omega arith)
       (says-sorting allowed nowhere (s .given .of .known) i (s .given .of .here .command) (After (s .given .of)) _ (s .limited) (s .named)
@@ -78,7 +79,7 @@ module _ {text lexemes names raw places forms : List ℕ} {p : Progress} {g : Ga
 
     -- its grammar is at fault
     pub rules-refused : misfit < nowhere → {placesAfter : List ℕ}
-        → Synthesized (s .given) names raw placesAfter forms (record { number = 9; place = misfit; rows = 0 })
+        → Synthesized (s .given) names raw placesAfter forms (record { number = grammarAnswer; place = misfit; rows = 0 })
     rules-refused found =
         refused-so (s .given) (omega arith)
         (says-grammar allowed nowhere (s .given .of .known) i (s .given .of .here .command) (After (s .given .of)) _ (s .limited) (s .named) sorts-pass

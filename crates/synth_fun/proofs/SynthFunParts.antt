@@ -15,6 +15,7 @@ use Rattle.lexemes.specs.Lists.{Items, inside, is, isList, isSymbol, item, name
 use Rattle.lexemes.specs.code.Table.{codeOf, nextAt}
 use Rattle.lexemes.proofs.ByCode.{codeFor, symbol-code, word-code}
 use Rattle.lexemes.proofs.Standing.{forward, here}
+use Rattle.lexemes.specs.code.Codes.{synthFunCode}
 use Rattle.shapes.specs.Shapes.{all, commandShape, groupShape, synthFunShape}
 use Rattle.written_sorts.specs.code.Headers.{SynthFunAt}
 use Rattle.written_sorts.specs.Written.{grammarSorts, headerPlace, leastIn, pairPlace, sortOf}
@@ -55,7 +56,7 @@ pub record Small (c : Items) (functions : ℕ) : Type 0 where
 
 module _ {text lexemes : List ℕ} {p : Progress} {i nowhere : ℕ} (of : CommandOf "synth-fun" text lexemes p i nowhere) where
   -- which command it is
-  pub synth-chosen : Chosen (of .here .command) 11
+  pub synth-chosen : Chosen (of .here .command) synthFunCode
   unfolding codeFor
   synth-chosen = chosen "synth-fun" refl (of .here .command) (of .by)
 

@@ -14,7 +14,7 @@ use Rattle.words.specs.Trees.{bytesOf}
 use Rattle.words.specs.Words.{Word, wordsOf}
 use Rattle.words.proofs.Chains.{entries-long}
 use Rattle.lexemes.specs.code.Standing.{Source, allOf}
-use Rattle.lexemes.specs.code.Table.{codeAt, lexemeRow, lexemeTable}
+use Rattle.lexemes.specs.code.Table.{codeAt, lexemeRow, lexemeTable, rowWidth as lexemeWidth}
 use Rattle.lexemes.proofs.Said.{Saying, say}
 use Rattle.lexemes.proofs.Standing.{coded}
 use Rattle.lexemes.proofs.WholeText.{whole-count}
@@ -49,7 +49,7 @@ module _ (limits : Limits) (text : List ℕ) (n : ℕ) (whole : readingOf limits
       inside : (i : ℕ) → 0 < codeAt lexemes i → i < length (wordsOf text)
       inside i h =
           let rows = entries (wordsOf text) 0 in
-          let long : length lexemes ≡ 6 * length rows = length-rows (lexemeRow text) 6 (λ e. refl) rows in
+          let long : length lexemes ≡ lexemeWidth * length rows = length-rows (lexemeRow text) lexemeWidth (λ e. refl) rows in
           omega (arith, coded lexemes i h, entries-long (wordsOf text) 0)
 
       known : (i : ℕ) → 0 < codeAt lexemes i → Known (allOf text) i

@@ -17,7 +17,7 @@ use Rattle.term_nodes.specs.code.Table.{operandsAt, rawRow, rawTable, ro
 use Rattle.term_nodes.specs.Terms.{Raw, firstWord}
 use Rattle.term_nodes.specs.code.Sizes.{Counted, Counting, PastTree, TreeAt, partTable}
 
-pub wide : (n : Node Raw) → length (rawRow n) ≡ 4
+pub wide : (n : Node Raw) → length (rawRow n) ≡ rowWidth
 wide n = refl
 
 skip : (a b c d : ℕ) (table : List ℕ) (i column : ℕ) → numberAt rowWidth (a ∷ b ∷ c ∷ d ∷ table) (suc i) column ≡ numberAt rowWidth table i column

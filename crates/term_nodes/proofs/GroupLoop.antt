@@ -11,7 +11,7 @@ use Rattle.forest.specs.Tables.{rows}
 use Rattle.forest.proofs.Bools.{and-left, and-right}
 use Rattle.lexemes.specs.Lists.{Items, after, inside, isList, item}
 use Rattle.lexemes.specs.code.Standing.{Between, ItemAt, Source, Stands}
-use Rattle.lexemes.specs.code.Table.{nextAt}
+use Rattle.lexemes.specs.code.Table.{nextAt, rowWidth as lexemeWidth}
 use Rattle.lexemes.proofs.Along.{Along, along-ahead, along-end, along-here, along-start, along-turn, item-of}
 use Rattle.lexemes.proofs.Listed.{at-item, from-item}
 use Rattle.lexemes.proofs.Standing.{forward, here-as}
@@ -32,7 +32,7 @@ record GroupRules (s : Source) (lexemes : List ℕ) (at : ℕ) (ops : Items) (li
   shaped : all ruleShape (inside 2 ops) ≡ true
   behind : at < list
   within : close < nextAt lexemes at
-  room : 6 * list < length lexemes
+  room : lexemeWidth * list < length lexemes
 
 -- a group has such rules
 group-rules : {lexemes : List ℕ} {at : ℕ} (x : ItemAt lexemes at) → groupShape (x .label) (x .operands) ≡ true → {list : ℕ} → list ≡ nextAt lexemes (at + 2)
@@ -119,7 +119,7 @@ module _ {lexemes : List ℕ} {first close nowhere most nodes : ℕ} {rawLent ru
       rules-next = rules-of (item-of a h (a .given)) (along-here a h (a .given))
 
       -- the word of their list is in the table
-      pub list-room : 6 * list < length lexemes
+      pub list-room : lexemeWidth * list < length lexemes
       list-room = rules-next .room
 
       module _ {inner : ℕ} (ei : inner ≡ nextAt lexemes list) where

@@ -94,7 +94,7 @@ module _ {lexemes raw : List ℕ} {first end most nowhere : ℕ} where
         pub x : Node Raw
         pub rest : Forest Raw
         pub begins : at ≡ firstWord (x .label)
-        pub tested : not (eqb head at) || not (eqb code 3) ≡ isNode (x .label)
+        pub tested : not (eqb head at) || not (eqb code numeralCode) ≡ isNode (x .label)
         pub nodes : nodeWord nowhere (most - counted) (x ∷ nodesOf (join (x .operands) rest)) ≡ nodeWord nowhere most (nodesOf (p .F))
         pub next : from (join (p .before) (p .F)) (node + 1) ≡ join (x .operands) rest
         pub say : AllSay (p .source) (join (x .operands) rest)
@@ -120,13 +120,13 @@ module _ {lexemes raw : List ℕ} {first end most nowhere : ℕ} where
             say = say-join (p .source) (t .ops) (t .rest) (says .1) (says .2);
           }
 
-      pub seek-finds : not (eqb head at) || not (eqb code 3) ≡ true → counted ≡ most → (p : TermNodes lexemes raw first end) → WordPast p most nowhere at
+      pub seek-finds : not (eqb head at) || not (eqb code numeralCode) ≡ true → counted ≡ most → (p : TermNodes lexemes raw first end) → WordPast p most nowhere at
       seek-finds e full p =
           let o = here p in
           let z : most - counted ≡ 0 = omega arith in
           o .begins ∙ sym (word-here nowhere (o .x) _ (sym (o .tested) ∙ e)) ∙ rw z at (o .nodes)
 
-      pub seek-counts : not (eqb head at) || not (eqb code 3) ≡ true → (counted ≡ most → ⊥) → {after : ℕ} → after ≡ counted + 1
+      pub seek-counts : not (eqb head at) || not (eqb code numeralCode) ≡ true → (counted ≡ most → ⊥) → {after : ℕ} → after ≡ counted + 1
           → Seeking lexemes raw first end most nowhere (node + 1) after
       seek-counts e more {after} more-is = record { few = omega (arith, seeking .few); reached = omega arith; each = goes }
         where
@@ -141,7 +141,7 @@ module _ {lexemes raw : List ℕ} {first end most nowhere : ℕ} where
                 same = sym (word-later nowhere (o .x) _ _ (sym (o .tested) ∙ e)) ∙ rw z at (o .nodes);
               }
 
-      pub seek-skips : not (eqb head at) || not (eqb code 3) ≡ false → {after : ℕ} → after ≡ counted
+      pub seek-skips : not (eqb head at) || not (eqb code numeralCode) ≡ false → {after : ℕ} → after ≡ counted
           → Seeking lexemes raw first end most nowhere (node + 1) after
       seek-skips e {after} same = record { few = omega (arith, seeking .few); reached = omega arith; each = goes }
         where

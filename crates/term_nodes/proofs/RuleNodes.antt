@@ -15,7 +15,7 @@ use Rattle.forest.proofs.Nodes.{length-nodes, nodes-join}
 use Rattle.words.specs.Trees.{wordOf}
 use Rattle.lexemes.specs.Lists.{inside, is, item}
 use Rattle.lexemes.specs.code.Standing.{ItemAt, Source, Stands, ends, word}
-use Rattle.lexemes.specs.code.Table.{nextAt}
+use Rattle.lexemes.specs.code.Table.{nextAt, rowWidth as lexemeWidth}
 use Rattle.lexemes.proofs.Standing.{by-itself, here}
 use Rattle.shapes.specs.Shapes.{isPattern}
 use Rattle.term_nodes.specs.code.Table.{rowWidth, uncounted, uncountedTable}
@@ -44,7 +44,7 @@ module _ {lexemes : List ℕ} {at : ℕ} {raw : List ℕ} {node : ℕ} where
   rule-end : (p : GatheringRule lexemes at raw node) → nextAt lexemes at ≡ p .end
   rule-end p = none-ends (here (p .same) (p .stands) .rest)
 
-  pub rule-room : (p : GatheringRule lexemes at raw node) → 6 * at < length lexemes
+  pub rule-room : (p : GatheringRule lexemes at raw node) → lexemeWidth * at < length lexemes
   rule-room p = here (p .same) (p .stands) .room
 
   pub row-room : (p : GatheringRule lexemes at raw node) → rowWidth * node + rowWidth ≤ length raw

@@ -18,6 +18,7 @@ use Rattle.lexemes.specs.Lists.{Items, inside, is, isAmong, isList, item}
 use Rattle.lexemes.specs.code.Standing.{Source, Stands, WordIs, bracketed, ends, word}
 use Rattle.lexemes.specs.code.Table.{symbolCode}
 use Rattle.lexemes.proofs.ByCode.{codeFor}
+use Rattle.lexemes.specs.code.Codes.{firstCode}
 use Rattle.shapes.specs.Shapes.{applicationShape, isPattern, ruleShape, sortShape, termShapes}
 use Rattle.term_nodes.specs.code.Says.{AllSay, Says}
 use Rattle.term_nodes.specs.Terms.{cutBy, headedBy, pattern, rawOf, rawRule, rawTerms, writtenOf}
@@ -84,7 +85,7 @@ unfolding isOneOf
 pattern-code name e = go (isWord "Constant" name) refl (isWord "Variable" name) refl e
   where
     coded : (w : String) → isKnown w ≡ true → isWord w name ≡ true → symbolCode name ≡ symbolCode (spelling w)
-    coded w known is-it = ap (λ (n : ℕ). 5 + n) (eqb-true (wordNumber name) (numberOf w) (sym (by-number w known name) ∙ is-it))
+    coded w known is-it = ap (λ (n : ℕ). firstCode + n) (eqb-true (wordNumber name) (numberOf w) (sym (by-number w known name) ∙ is-it))
 
     go : (a : Bool) → isWord "Constant" name ≡ a → (b : Bool) → isWord "Variable" name ≡ b → a || (b || false) ≡ true
         → symbolCode name ≡ symbolCode (cond (isWord "Constant" name) (spelling "Constant") (spelling "Variable"))

@@ -14,7 +14,7 @@ use Rattle.words.specs.Trees.{Lexeme, list, literal, numeral, symbol, wordOf}
 use Rattle.forest.specs.Lists.{sameBytes}
 use Rattle.lexemes.specs.Lists.{Items, after, inside, is, isList, item}
 use Rattle.lexemes.specs.code.Standing.{Between, ItemAt, Source, Stands}
-use Rattle.lexemes.specs.code.Table.{closeCode, codeAt, codeOf, nextAt, openCode}
+use Rattle.lexemes.specs.code.Table.{closeCode, codeAt, codeOf, nextAt, openCode, rowWidth as lexemeWidth}
 use Rattle.lexemes.proofs.ByCode.{codeFor, front-word, frontCode}
 use Rattle.lexemes.proofs.Listed.{at-item, is-list, item-room, no-list}
 use Rattle.lexemes.proofs.Standing.{front, here-as}
@@ -102,7 +102,7 @@ module _ {lexemes : List ℕ} {at : ℕ} (x : TermAt lexemes at) where
     stands = x .stands;
   }
 
-  pub term-room : 6 * at < length lexemes
+  pub term-room : lexemeWidth * at < length lexemes
   term-room = item-room term-item
 
   pub opened : isList (x .label) ≡ true → Opened x

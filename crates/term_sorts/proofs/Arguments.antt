@@ -9,6 +9,7 @@ use borrow.Author.Tests.{eq-eqb, ne-eqb}
 use lib.ListN.{drop, drop-of-length-le, getD, length}
 use Rattle.forest.proofs.Lists.{drop-next}
 use Rattle.forest.specs.code.Rows.{numberAt}
+use Rattle.forest.specs.Limits.{mostArguments}
 use Rattle.terms.specs.code.Nodes.{sizeAt}
 use Rattle.terms.specs.Sorts.{sameSorts}
 use Rattle.term_sorts.specs.code.Calls.{ArgumentsFit, Called, CalledFully, CalledGives}
@@ -49,7 +50,7 @@ module _ {forms signatures column : List ℕ} {place count row : ℕ} where
       fitting-some = let t = turn (f .owes e) (omega arith) in omega (arith, t .number-is)
 
       -- The next argument is one of eight.
-      pub fitting-few : k < 8
+      pub fitting-few : k < mostArguments
       fitting-few = omega (arith, e .full, e .called .row-is .few)
 
       -- The first of the arguments that are left.

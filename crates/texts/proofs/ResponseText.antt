@@ -21,6 +21,7 @@ use Rattle.script.specs.declared.Verdict.{Verdict}
 use Rattle.script.specs.Response.{Answered, answered, bodies, inScriptOrder, refused}
 use Rattle.response.specs.code.Answers.{Answers, Responded, Responding}
 use Rattle.script.specs.Outcome.{byAnswers, offsetOf, responseOutcome}
+use Rattle.script.specs.code.Answers.{failAnswer, infeasibleAnswer}
 use Rattle.texts.specs.code.Responses.{Ready, ResponseRead, ResponseTold}
 use Rattle.texts.specs.code.Lexed.{Worded}
 use Rattle.texts.proofs.Offsets.{offset-there}
@@ -54,7 +55,7 @@ module _ {text lexemes names raw places nodes : List ℕ} {p : Progress} {n : �
 
   -- the commands are read
   pub commands-told : {placesAfter nodesAfter : List ℕ} {v : Verdict} {offset : ℕ} → Responded responding placesAfter nodesAfter v
-      → offset ≡ cond (eqb (v .number) 10 || eqb (v .number) 11) 0 (offsetOf text (v .place))
+      → offset ≡ cond (eqb (v .number) failAnswer || eqb (v .number) infeasibleAnswer) 0 (offsetOf text (v .place))
       → ResponseRead ready text placesAfter nodesAfter (record { number = v .number; place = offset; rows = v .rows })
   unfolding responseOutcome
   commands-told {placesAfter} {nodesAfter} {v} {offset} done at =

@@ -30,6 +30,7 @@ use Rattle.script.specs.Response.{Answered, Body, answered, bodies, nothingBehi
 use Rattle.script.specs.Response.{responseView, withBody}
 use Rattle.response.specs.code.Functions.{bodyOf}
 use Rattle.script.specs.Outcome.{ResponseOutcome, byAnswers, byResponse, given, responseOutcome}
+use Rattle.script.specs.code.Answers.{failAnswer, headerAnswer, infeasibleAnswer, shapeAnswer}
 use Rattle.outcome.specs.code.Assured.{BodiesFit}
 use Rattle.outcome.proofs.Nodes.{few-nodes}
 
@@ -56,7 +57,7 @@ followed b (bodies others) h = (others, refl, cc)
 -- Behind the outer list nothing stands.
 nothing-behind : (items : Items) {bs : List Body} → nothingBehind items ≡ bodies bs → bs ≡ []
 nothing-behind none h = cc
-nothing-behind (tree l c more) h = never-bodies 5 (wordOf l) h
+nothing-behind (tree l c more) h = never-bodies shapeAnswer (wordOf l) h
 
 -- A `define-fun` past the last function gives no bodies.
 none-extra : (nowhere at : ℕ) (c : Items) {bs : List Body} → judgedExtra allowed nowhere at c ≡ bodies bs → ⊥
@@ -99,12 +100,12 @@ module _ (nowhere : ℕ) (defs : List Defined) where
       → ((cs : List Body) → after ≡ bodies cs → cs ≡ []) → judgedAll allowed nowhere defs close fs items after ≡ bodies bs → BodiesFit defs fs bs
   unfolding Below BodiesFit judgedAll
   judged-fit close [] none after bs below last h = rw (last bs h) tt
-  judged-fit close (f ∷ fs) none after bs below last h = never-bodies 12 close h
-  judged-fit close [] (tree l c more) after bs below last h = absurd (none-extra nowhere (wordOf l) c (only-bodies (isList l) 5 (wordOf l) h))
+  judged-fit close (f ∷ fs) none after bs below last h = never-bodies headerAnswer close h
+  judged-fit close [] (tree l c more) after bs below last h = absurd (none-extra nowhere (wordOf l) c (only-bodies (isList l) shapeAnswer (wordOf l) h))
   judged-fit close (f ∷ fs) (tree l c more) after bs below last h =
       let view = responseView defs f in
       let later = judgedAll allowed nowhere defs close fs more after in
-      let fine = no-faults f (wordOf l) c later (only-bodies (isList l) 5 (wordOf l) h) in
+      let fine = no-faults f (wordOf l) c later (only-bodies (isList l) shapeAnswer (wordOf l) h) in
       let next = followed (bodyOf defs f c) later (fine .is-first) in
       let some-word : 0 < nowhere = omega (arith, below .0 .first) in
       let first = item-below some-word 4 c (below .1) in
@@ -116,12 +117,12 @@ module _ (nowhere : ℕ) (defs : List Defined) where
   answered-fit : (fs : List Function) (items : Items) (bs : List Body) → Below nowhere items → answered allowed nowhere defs fs items ≡ bodies bs
       → BodiesFit defs fs bs
   unfolding Below answered
-  answered-fit fs none bs below h = never-bodies 5 nowhere h
+  answered-fit fs none bs below h = never-bodies shapeAnswer nowhere h
   answered-fit fs (tree l c more) bs below h =
       let alone = isAlone (tree l c more) in
-      let some-answer = not-refused (is "fail" l && alone) 10 0 h in
-      let feasible = not-refused (is "infeasible" l && alone) 11 0 (some-answer .1) in
-      let listed = only-bodies (isList l) 5 (wordOf l) (feasible .1) in
+      let some-answer = not-refused (is "fail" l && alone) failAnswer 0 h in
+      let feasible = not-refused (is "infeasible" l && alone) infeasibleAnswer 0 (some-answer .1) in
+      let listed = only-bodies (isList l) shapeAnswer (wordOf l) (feasible .1) in
       judged-fit (closeOf l) fs c (nothingBehind more) bs (below .1) (λ cs e. nothing-behind more e) listed
 
 -- A refusal gives nothing.

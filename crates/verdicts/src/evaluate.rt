@@ -24,6 +24,7 @@ ghost use Rattle.forest.specs.Limits.{mostVariables};
 ghost use Rattle.names.specs.code.Lookup.{Names};
 ghost use Rattle.names.specs.code.Table.{sortsFrom, variableRow};
 ghost use Rattle.outcome.specs.Evaluated.{ranOutcome};
+ghost use Rattle.outcome.specs.code.Texts.{pointsText};
 ghost use Rattle.verdicts.specs.code.Evaluate.{Constrained, ConstraintsRan, Evaluable, Evaluates};
 
 // The sorts of the variables, `count` of them, at the front.
@@ -61,11 +62,11 @@ fn run_constraints(
 
 // An answer that speaks of the points.
 fn points_answer(number: usize, place: usize, second: usize, units: u64) -> Outcome
-    ensures { λ r. ⌜ r ≡ record { number = number; text = 2; place = place; second = second; units = units } ⌝ }
+    ensures { λ r. ⌜ r ≡ record { number = number; text = pointsText; place = place; second = second; units = units } ⌝ }
 {
     Outcome {
         number,
-        text: 2,
+        text: outcome::POINTS,
         place,
         second,
         units,
@@ -81,7 +82,7 @@ fn run_outcome(ran: Ran, count: usize, budget: u64) -> Outcome
     match ran {
         Ran::Passed(_) => Outcome {
             number: ACCEPTED,
-            text: 3,
+            text: outcome::NONE,
             place: 0,
             second: count,
             units,

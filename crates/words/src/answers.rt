@@ -4,17 +4,32 @@ use word_kinds::Fault;
 ghost use mathlib.Core.Path.{_≡_};
 ghost use Rattle.words.specs.Answers.{faultNumber, numberOf, passed, placeOf};
 
+// A text is too long.
+pub const TOO_LONG: u8 = 1;
+
+// A bad word.
+pub const BAD_WORD: u8 = 2;
+
+// A bracket is closed too often, or never.
+pub const BRACKET: u8 = 3;
+
+// Past a limit.
+pub const PAST_LIMIT: u8 = 4;
+
+// Not carried.
+pub const NOT_CARRIED: u8 = 6;
+
 // The number of a fault in the table of answers; 0 where there is none.
 pub fn fault_number(fault: Fault) -> u8
     ensures { λ r. ⌜ r ≡ faultNumber fault ⌝ }
 {
     match fault {
         Fault::NoFault => 0,
-        Fault::TooLong => 1,
-        Fault::BadWord => 2,
-        Fault::Bracket => 3,
-        Fault::PastLimit => 4,
-        Fault::NotCarried => 6,
+        Fault::TooLong => TOO_LONG,
+        Fault::BadWord => BAD_WORD,
+        Fault::Bracket => BRACKET,
+        Fault::PastLimit => PAST_LIMIT,
+        Fault::NotCarried => NOT_CARRIED,
     }
 }
 

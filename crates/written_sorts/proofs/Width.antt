@@ -17,6 +17,7 @@ use Rattle.lexemes.specs.code.Table.{codeAt, openCode, valueAt}
 use Rattle.lexemes.specs.code.Standing.{ListAt, valueOf}
 use Rattle.lexemes.proofs.ByCode.{codeFor, list-code, symbol-code, word-code}
 use Rattle.lexemes.proofs.Listed.{at-item, from-item, is-list, list-from, no-list}
+use Rattle.lexemes.specs.code.Codes.{boolCode, firstCode}
 use Rattle.shapes.specs.Shapes.{sortShape}
 use Rattle.written_sorts.specs.code.Places.{SortAt}
 use Rattle.written_sorts.specs.Written.{sortOf, sortPlace}
@@ -89,7 +90,7 @@ module _ {lexemes : List ℕ} {at : ℕ} where
     sort-word other p = rw (no-list ec other (p .here))
 
     pub unknown : (nowhere : ℕ) (p : SortAt lexemes at)
-        → cond (leb 5 code && not (eqb code 38)) at nowhere ≡ sortPlace Unknown nowhere (p .here .label) (p .here .operands)
+        → cond (leb firstCode code && not (eqb code boolCode)) at nowhere ≡ sortPlace Unknown nowhere (p .here .label) (p .here .operands)
     unfolding codeFor
     unknown nowhere p =
         let l = p .here .label in
@@ -98,7 +99,7 @@ module _ {lexemes : List ℕ} {at : ℕ} where
     module _ {width : ℕ} (ew : width ≡ valueAt lexemes (at + 3)) (nowhere : ℕ) where
       -- a test of the width of a sort that is a list
       width-test : (test : ℕ → Bool) (p : SortAt lexemes at) (found word : ℕ) → (isList (p .here .label) ≡ true → found ≡ word)
-          → cond (eqb code 1 && test width) found nowhere ≡ cond (isList (p .here .label) && test (numeralOf (item 2 (p .here .operands)))) word nowhere
+          → cond (eqb code openCode && test width) found nowhere ≡ cond (isList (p .here .label) && test (numeralOf (item 2 (p .here .operands)))) word nowhere
       width-test test p found word same = rw (ec, at-item (p .here) .code, ← list-code (p .here .label)) (go (isList (p .here .label)) refl)
         where
           go : (b : Bool) → isList (p .here .label) ≡ b
@@ -107,9 +108,9 @@ module _ {lexemes : List ℕ} {at : ℕ} where
           go false l = refl
 
       pub too-wide : (p : SortAt lexemes at)
-          → cond (eqb code 1 && ltb maxWidth width) (at + 3) nowhere ≡ sortPlace TooWide nowhere (p .here .label) (p .here .operands)
+          → cond (eqb code openCode && ltb maxWidth width) (at + 3) nowhere ≡ sortPlace TooWide nowhere (p .here .label) (p .here .operands)
       too-wide p = width-test (ltb maxWidth) p (at + 3) _ (λ l. sym (width-of p l .place))
 
       pub empty : (p : SortAt lexemes at)
-          → cond (eqb code 1 && eqb width 0) at nowhere ≡ sortPlace Empty nowhere (p .here .label) (p .here .operands)
+          → cond (eqb code openCode && eqb width 0) at nowhere ≡ sortPlace Empty nowhere (p .here .label) (p .here .operands)
       empty p = width-test (λ (n : ℕ). eqb n 0) p at _ (λ l. sym (placed (p .here .stands)))

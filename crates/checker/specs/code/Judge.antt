@@ -9,12 +9,14 @@ use Rattle.script.specs.code.Places.{formsPlace}
 use Rattle.script.specs.declared.Progress.{Progress}
 use Rattle.script.specs.Response.{Body, inScriptOrder}
 use Rattle.script.specs.Outcome.{given, offsetOf, responseOutcome, said, scriptOutcome}
+use Rattle.script.specs.code.Answers.{underivedAnswer, pointsAnswer}
 use Rattle.verdicts.specs.code.Held.{Held}
 use Rattle.outcome.specs.Checked.{Checked, sizeAnswer, unshown}
 use Rattle.outcome.specs.Derived.{FirstUnderived, blankArea}
 use Rattle.outcome.specs.declared.Outcome.{Outcome}
 use Rattle.verdicts.specs.code.Derive.{AllShown, Derivable}
 use Rattle.verdicts.specs.code.Evaluate.{Evaluates}
+use Rattle.outcome.specs.code.Texts.{responseText}
 use Rattle.checker.specs.declared.judge.Told.{Told}
 
 -- Every size is right, and the area shows nothing.
@@ -49,7 +51,7 @@ pub record BodyUnderived {places nodes area : List ℕ} {p : Progress} (q : Deri
   pub j : ℕ
   pub body : Body
   pub first : FirstUnderived (inScriptOrder (q .tables .known .functions)) (q .tables .bodies) j body
-  pub answer : r ≡ record { number = 13; text = 1; place = offsetOf (q .tables .text) (body .first); second = j; units = 0 }
+  pub answer : r ≡ record { number = underivedAnswer; text = responseText; place = offsetOf (q .tables .text) (body .first); second = j; units = 0 }
   pub blanked : areaAfter ≡ blankArea
 
 -- Where the number is 0 every body is derived, and the area shows how; where it is another it is 13.
@@ -66,5 +68,5 @@ BodiesDerived places nodes p area r areaAfter = (q : Deriving places nodes p are
 pub record PointsJudged (names places terms : List ℕ) (p : Progress) (points : List ℕ) (budget : ℕ) (area : List ℕ) (r : Outcome)
     (areaAfter : List ℕ) : Type 0 where
   pub given : Evaluates names places terms p points budget r
-  pub bad! : r .number ≡ 16 → areaAfter ≡ unshown area
-  pub other! : (r .number ≡ 16 → ⊥) → areaAfter ≡ area
+  pub bad! : r .number ≡ pointsAnswer → areaAfter ≡ unshown area
+  pub other! : (r .number ≡ pointsAnswer → ⊥) → areaAfter ≡ area

@@ -18,13 +18,14 @@ use Rattle.term_faults.specs.Faults.{bodyFault}
 use Rattle.term_faults.specs.code.Bodies.{Signed}
 use Rattle.bodies.specs.code.Bodies.{Naming}
 use Rattle.script.specs.declared.Verdict.{Verdict}
+use Rattle.script.specs.code.Answers.{nameAnswer, sortAnswer}
 use Rattle.commands.specs.declared.TermTest.{TermTest}
 
 -- 7 at the least word whose name is at fault, else 8 at the least word whose sort is, else none and so many rows.
 abbrev pub verdictOf : (nowhere names sorts count : ℕ) → Verdict
 verdictOf nowhere names sorts count =
-    cond (ltb names nowhere) (record { number = 7; place = names; rows = 0 })
-    (cond (ltb sorts nowhere) (record { number = 8; place = sorts; rows = 0 })
+    cond (ltb names nowhere) (record { number = nameAnswer; place = names; rows = 0 })
+    (cond (ltb sorts nowhere) (record { number = sortAnswer; place = sorts; rows = 0 })
     (record { number = 0; place = 0; rows = count }))
 
 -- The nodes of a term are gathered that is to be of a sort, and the tables have the names and the signatures that it sees.

@@ -1,4 +1,5 @@
 use borrow.Author.Needs.{needs}
+use Rattle.terms.specs.code.Nodes.{rowWidth}
 use Rattle.derivation.proofs.Top.{masks-fit, show-pre, derive-no, derive-yes}
 use Rattle.derivation.specs.Answer.{unused}
 use Rattle.forest.specs.Limits.{listSize}
@@ -28,7 +29,7 @@ slice-aggregate-show : tie.Need-slice-aggregate-show
 slice-aggregate-show c =
     omega (
       arith,
-      length-take (length (c .before .before .before .before .before .before .before .args .body .now) / 4)
+      length-take (length (c .before .before .before .before .before .before .before .args .body .now) / rowWidth)
           (c .before .before .no-masks .result),
       masks-fit {n = length (c .before .before .before .before .before .before .before .args .body .now) / 4}
           refl (c .before .before .before .before .before .before .before .pre),

@@ -6,7 +6,7 @@ use lib.ListN.{drop, length}
 use Rattle.words.specs.Table.{wordTable, wordValues}
 use Rattle.words.specs.Trees.{bytesOf}
 use Rattle.words.specs.Words.{Word, wordsOf}
-use Rattle.lexemes.specs.code.Table.{kindCode}
+use Rattle.lexemes.specs.code.Table.{kindCode, rowWidth}
 
 -- The tables that are lent hold the words of a text and have room for its lexemes.
 pub record Numbering (text words values lexemes : List ℕ) (count : ℕ) : Type 0 where
@@ -15,7 +15,7 @@ pub record Numbering (text words values lexemes : List ℕ) (count : ℕ) : Type
   pub is-words : words ≡ wordTable (wordsOf text) ++ rest
   pub is-values : values ≡ wordValues (wordsOf text) ++ more
   pub counted : count ≡ length (wordsOf text)
-  pub room : 6 * count ≤ length lexemes
+  pub room : rowWidth * count ≤ length lexemes
 
 -- Word i of a text is among those that its word table holds.
 pub record WordsOf (text words : List ℕ) (i : ℕ) : Type 0 where

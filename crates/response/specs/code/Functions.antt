@@ -26,6 +26,7 @@ use Rattle.script.specs.code.Places.{argumentsIn, beforeIn, functionsPlace}
 use Rattle.script.specs.declared.Progress.{Progress}
 use Rattle.script.specs.declared.Verdict.{Verdict}
 use Rattle.script.specs.Response.{Answered, Body, inScriptOrder, judgedBody, refused, responseView, withBody}
+use Rattle.script.specs.code.Answers.{nameAnswer, sortAnswer, headerAnswer}
 use Rattle.response.specs.declared.Turn.{Turn}
 use Rattle.response.specs.code.Responding.{Gathered, Reading, OneMore}
 
@@ -36,9 +37,9 @@ matched nowhere defs f c later =
     let header = differing nowhere (wordsIn (headerOf c)) (headerTokens f) in
     let name = termNames nowhere view (item 4 c) (inside 4 c) in
     let sort = bodyFault nowhere view (f .result) (item 4 c) (inside 4 c) in
-    cond (ltb header nowhere) (refused 12 header)
-    (cond (ltb name nowhere) (refused 7 name)
-    (cond (ltb sort nowhere) (refused 8 sort)
+    cond (ltb header nowhere) (refused headerAnswer header)
+    (cond (ltb name nowhere) (refused nameAnswer name)
+    (cond (ltb sort nowhere) (refused sortAnswer sort)
     later))
 
 -- The body of a `define-fun` for the function f.

@@ -17,6 +17,7 @@ use Rattle.forest.specs.Limits.{Counts, allowed}
 use Rattle.script.specs.Limits.{nodePast}
 use Rattle.script.specs.declared.Verdict.{Verdict}
 use Rattle.script.specs.Response.{Answered, judgedExtra, refused}
+use Rattle.script.specs.code.Answers.{limitAnswer, shapeAnswer, uncarriedAnswer}
 use Rattle.response.specs.code.Responding.{Gathered}
 
 -- The word at which the body of the `define-fun` at word i begins.
@@ -27,10 +28,10 @@ bodyAt lexemes i = nextAt lexemes (nextAt lexemes (nextAt lexemes (i + 2)))
 unfoldable pub outlined : Counts → (nowhere at : ℕ) → Items → (later : Answered) → Answered
 outlined counts nowhere at c later =
     let limit = min (headerPast counts nowhere c) (nodePast counts nowhere (item 4 c) (inside 4 c)) in
-    cond (not (is "define-fun" (item 0 c))) (refused 5 at)
-    (cond (anyUncarried c) (refused 6 at)
-    (cond (not (defineFunShape c)) (refused 5 at)
-    (cond (ltb limit nowhere) (refused 4 limit)
+    cond (not (is "define-fun" (item 0 c))) (refused shapeAnswer at)
+    (cond (anyUncarried c) (refused uncarriedAnswer at)
+    (cond (not (defineFunShape c)) (refused shapeAnswer at)
+    (cond (ltb limit nowhere) (refused limitAnswer limit)
     later)))
 
 -- A list stands at word i of a text of so many words, and the table has a row for each of these.

@@ -12,6 +12,7 @@ use Rattle.term_faults.specs.code.Bodies.{Lawful}
 use Rattle.script.specs.Script.{readAll, nothingKnown}
 use Rattle.script.specs.code.Places.{placesLength}
 use Rattle.script.specs.declared.Progress.{Progress}
+use Rattle.script.specs.code.Answers.{shapeAnswer}
 use Rattle.script_reader.specs.declared.Step.{Step}
 use Rattle.script_reader.specs.code.Commands.{Reads, Roomy}
 
@@ -43,4 +44,4 @@ nothingSaid =
 
 -- The step at the end of a script, by whether there was a `check-synth`.
 abbrev pub lastStep : (nowhere : ℕ) → (ended : Bool) → Progress → Step
-lastStep nowhere ended p = record { number = cond ended 0 5; place = nowhere; progress = p }
+lastStep nowhere ended p = record { number = cond ended 0 shapeAnswer; place = nowhere; progress = p }

@@ -11,6 +11,8 @@ use Rattle.names.specs.Scopes.{namedSorts}
 use Rattle.script.specs.Script.{Known}
 use Rattle.script.specs.declared.Progress.{Progress}
 use Rattle.script.specs.Response.{Body}
+use Rattle.script.specs.code.Answers.{pointsAnswer}
+use Rattle.outcome.specs.code.Texts.{pointsText}
 use Rattle.verdicts.specs.code.Held.{Held}
 use Rattle.outcome.specs.Derived.{termsOf}
 use Rattle.outcome.specs.Evaluated.{ranOutcome, ranWith}
@@ -18,7 +20,7 @@ use Rattle.outcome.specs.declared.Outcome.{Outcome}
 
 -- 16: "point list not whole points, or value outside its sort", at "list length, or first bad index"; else what the run gives.
 abbrev pub pointsOutcome : Known → List Terms → (points : List ℕ) → (budget : ℕ) → PointList → Outcome
-pointsOutcome k ts points budget (Bad place) = record { number = 16; text = 2; place = place; second = 0; units = 0 }
+pointsOutcome k ts points budget (Bad place) = record { number = pointsAnswer; text = pointsText; place = place; second = 0; units = 0 }
 pointsOutcome k ts points budget (Good n) = ranOutcome n budget (ranWith k ts points n budget)
 
 -- What the points give.

@@ -1,6 +1,7 @@
 use native.Mathlib.Omega.{arith}
 use Prim.Native.Nat.{_*_, _<_}
 use lib.ListN.{length}
+use Rattle.lexemes.specs.code.Table.{rowWidth as lexemeWidth}
 use Rattle.names.proofs.ByWords.{head-word, pattern-within, sort-word}
 use borrow.Author.Needs.{needs}
 use Rattle.names.proofs.nodes.unknown_word.Statement.{statement}
@@ -16,7 +17,7 @@ is-pattern-requires : tie.Need-is-pattern-requires
 is-pattern-requires c κs = search needs
 
 add-result : tie.Need-add-result
-add-result c = let h : 6 * c .before .before .before .before .before .args .head < length (c .before .before .before .before .before .args .lexemes .now) = search pattern-within in omega arith
+add-result c = let h : lexemeWidth * c .before .before .before .before .before .args .head < length (c .before .before .before .before .before .args .lexemes .now) = search pattern-within in omega arith
 
 returns-2 : tie.Need-returns-2
 returns-2 c = search sort-word

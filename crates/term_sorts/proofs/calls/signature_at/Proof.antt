@@ -5,6 +5,7 @@ use native.Mathlib.Omega.{arith}
 use borrow.Author.Needs.{needs}
 use Rattle.term_sorts.proofs.calls.signature_at.Statement.{statement}
 use Rattle.term_sorts.proofs.calls.signature_at.Tie as tie
+use Rattle.term_sorts.specs.code.Signatures.{signatureWidth}
 
 mul-index : tie.Need-mul-index
 mul-index c = search needs
@@ -23,7 +24,7 @@ unfolding numberAt
 returns c = refl
 
 returns-2 : tie.Need-returns-2
-returns-2 c = past 10 _ _ _ (omega arith)
+returns-2 c = past signatureWidth _ _ _ (omega arith)
 
 pub signature-at-spec : {M : Type 1} → statement M
 signature-at-spec =
