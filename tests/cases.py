@@ -107,6 +107,13 @@ def beside(*commands):
     return script(function(), *commands)
 
 
+def judged(rules, bodies, arguments="", sort="Bool"):
+    """Cases of bodies against the rules of the function f, underived where they are marked."""
+    return [
+        case(script(function("f", arguments, sort, rules)), response(defined("f", arguments, sort, body)), underived(0) if MARK in body else accepted())
+        for body in bodies]
+
+
 def constraint(term):
     """A constraint."""
     return "(constraint %s)" % term
@@ -168,7 +175,7 @@ def refused_scripts():
             "(set-logic BV) ; end§", script("§(define-fun f () Bool)"), script("§(set-logic BV)"), "§"],
         6: [
             "§(set-logic LIA)", beside("§(assume true)"), beside("§(synth-fun g () Bool)"), beside("§(constraint (let ((x true)) x))"),
-            beside("(constraint §\"x\")"), beside("§(constraint (= #x00 (_ bv0 8)))")],
+            beside("(constraint §\"x\")"), beside("§(constraint (= #x00 (_ bv 8)))")],
         7: [
             beside("(declare-var §and Bool)"), beside("(declare-var §f Bool)"), beside("(declare-var x §Int)"), beside("(constraint §x)"),
             script("(define-fun d ((a Bool) (§a Bool)) Bool a)"), beside("(define-fun d () Bool §f)")],
@@ -472,12 +479,9 @@ def rings():
 
 
 def slips():
-    """Rules that are not to be taken by sort alone, at a wrong width, or by a literal's value."""
+    """Rules that are not to be taken by sort alone, at a wrong width, or at another value."""
     pair, header = "(x Bool) (y Bool)", "(p Bool) (x (_ BitVec 8)) (y (_ BitVec 9))"
-    conjunction = script(function("f", pair, "Bool", "x (and A A)"))
-    yield from named("same-words", [
-        case(conjunction, response(defined("f", pair, "Bool", "§(and x y)")), underived(0)),
-        case(conjunction, response(defined("f", pair, "Bool", "(and x (and x x))")), accepted())])
+    yield from named("same-words", judged("x (and A A)", ["§(and x y)", "(and x (and x x))"], pair))
     constants = script("(synth-fun f () (_ BitVec 8) ((A (_ BitVec 8)) (B (_ BitVec 4))) ((A (_ BitVec 8) ((Constant (_ BitVec 8)) (concat B B)))"
                        "(B (_ BitVec 4) ((Constant (_ BitVec 4))))))")
     yield from named("constant", [
@@ -488,10 +492,8 @@ def slips():
     yield from named("variable", [
         case(names, response(defined("f", header, "Bool", body)), underived(0) if MARK in body else accepted())
         for body in ("(= x x)", "§(= p p)", "§(= x #x00)", "(bvult ((_ extract 3 0) x) #x0)", "§(bvult ((_ extract 3 0) y) #x0)", "§(= y y)")])
-    written = script(function("f", "", bits(8), "#xAB (bvnot A)"))
-    yield from named("written", [
-        case(written, response(defined("f", "", bits(8), body)), underived(0) if MARK in body else accepted())
-        for body in ("#xAB", "(bvnot #xAB)", "§#xab", "§#b10101011", "§(bvnot #xaB)")])
+    bodies = ("#xAB", "(bvnot #xAB)", "#xab", "#b10101011", "(bvnot #xaB)", "§#xAA", "§#b10101010", "§(bvnot #xBA)")
+    yield from named("written", judged("#xAB (bvnot A)", bodies, sort=bits(8)))
 
 
 VALUES = [
@@ -504,7 +506,10 @@ VALUES = [
     ("((_ extract 63 63) #xFEDCBA9876543210)", "#b1"), ("((_ extract 0 0) #xFEDCBA9876543210)", "#b0"), ("(bvult #x01 #x02)", "true"),
     ("(bvult #x02 #x02)", "false"), ("(not true)", "false"), ("(and true false)", "false"), ("(or true false)", "true"), ("(xor true true)", "false"),
     ("(=> true false)", "false"), ("(=> false false)", "true"), ("(= #x01 #x02)", "false"), ("(distinct true false)", "true"),
-    ("(ite true #x01 #x02)", "#x01"), ("(ite false #x01 #x02)", "#x02")]
+    ("(ite true #x01 #x02)", "#x01"), ("(ite false #x01 #x02)", "#x02"),
+    ("(and true true false)", "false"), ("(or false false true)", "true"), ("(xor true true true)", "true"), ("(=> false true false)", "true"),
+    ("(=> true true false)", "false"), ("(= true false false)", "false"), ("(= #x01 #x01 #x01)", "true"), ("(= #x01 #x02 #x01)", "false"),
+    ("(distinct #x01 #x02 #x03)", "true"), ("(distinct #x01 #x02 #x01)", "false")]
 
 
 def values():

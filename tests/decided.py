@@ -2,8 +2,9 @@
 """The crate test_decided's tables of decided readings and of limits: tests/decided.py [--check]
 
 Writes crates/test_decided/proofs/Readings.antt from tests/readings.jsonl: the readings whose texts have no fault in a word and at most 200 printable bytes each, without
-comments. Writes proofs/Limits.antt from crates/test_vectors: the records at the limits on commands, arguments, non-terminals, rules and nodes, and one past them. Each is
-proved of the definitions by its answer's number and the index of the word at its place. With --check it says whether these files are what it would write.
+comments. Writes proofs/Limits.antt from crates/test_vectors: the records at the limits on commands, arguments, non-terminals, rules, nodes, operands, and digits and widths
+of constants, and one past them. Each is proved of the definitions by its answer's number and the index of the word at its place. With --check it says whether these
+files are what it would write.
 """
 import glob
 import json
@@ -26,7 +27,8 @@ SCRIPT, RESPONSE = 0, 1             # the texts that an answer speaks of
 NO_DERIVATION = 13
 
 # The records at a limit on what a script or a response says, and one past it; the table of each kind is proved by itself, since the prover's steps have a limit too.
-AT_LIMIT = re.compile(r"(functions|(?:defined-)?arguments|defined|variables|constraints|non-terminals|rules|nodes-\w+)-\d+")
+AT_LIMIT = re.compile(
+    r"(functions|(?:defined-)?arguments|defined|variables|constraints|non-terminals|rules|nodes-\w+|operands-(?:constraint|rule)|digits|constant-width)-\d+")
 
 # A word that is too large or of no form.
 FAULTY = re.compile(r"[^ ()]{65,}|(?<![^ ()])[0-9]{10,}|#x[0-9a-fA-F]{17,}|#b[01]{65,}|(?<![^ ()])(#x|#b|#)(?=[ ()]|$)|#[^xb]")
@@ -46,11 +48,11 @@ NAMED = {"Rattle.forest.specs.Limits": ["allowed"],
          "Rattle.script.specs.Script": ["Known", "Read", "passed", "refused", "nothingKnown"],
          "Rattle.script.specs.Response": ["Answered", "bodies", "refused as refusedBody"]}
 
-READINGS_HEAD = "-- Decided readings of document 01, computed from the definitions: one table under one statement. A place is a word.\n"
+READINGS_HEAD = "-- Decided readings of document 01 and of the requests, computed from the definitions: one table under one statement. A place is a word.\n"
 
 LIMITS_HEAD = """\
--- "The limit itself passes; one more is refused": texts at the limits on commands, arguments, non-terminals, rules and nodes and one past them, computed from the
--- definitions. A place is a word.
+-- "The limit itself passes; one more is refused": texts at the limits on commands, arguments, non-terminals, rules, nodes, operands, and digits and widths of constants
+-- and one past them, computed from the definitions. A place is a word.
 """
 
 HEAD = """\

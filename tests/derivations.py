@@ -1,8 +1,9 @@
 """Derivations of the bodies of a response by the grammars of a script, from their lists of words alone.
 
-`derivations` searches for the lists of rule numbers that could be shown, and `fault` replays a list; the two share no more than the grammar. Both take texts
-that document 01 passes: nothing is checked of them here.
+`derivations` searches for the lists of rule numbers that could be shown, and `fault` replays a list; the two share no more than the grammar and what a literal
+is. Both take texts that document 01 passes with request E3: nothing is checked of them here.
 """
+import re
 from collections import namedtuple
 
 import words
@@ -12,6 +13,10 @@ Tree = namedtuple("Tree", "start word items")
 
 # A rule: its non-terminal, and what it derives, a tree with non-terminals in it.
 Rule = namedtuple("Rule", "head form")
+
+# A literal: "its value and width". A Bool has the width 0, as its sort is written here.
+Literal = namedtuple("Literal", "value width")
+DECIMAL_FORM = re.compile(rb"bv(0|[1-9][0-9]*)")
 
 # The grammar of a function: its start, its non-terminals, its rules in order, and its arguments, each with its sort.
 Grammar = namedtuple("Grammar", "start names rules arguments")
@@ -34,25 +39,40 @@ def trees(text):
     return open_lists[0][1]
 
 
+def literal_word(word):
+    """The literal that a word is; None for any other word."""
+    if word in (b"true", b"false"):
+        return Literal(int(word == b"true"), 0)
+    if word[:2] == b"#x":
+        return Literal(int(word[2:], 16), 4 * (len(word) - 2))
+    return Literal(int(word[2:], 2), len(word) - 2) if word[:2] == b"#b" else None
+
+
+def literal(tree):
+    """The literal that a tree is, a word or a list `(_ bvN n)`; None for any other tree."""
+    if tree.items is None:
+        return literal_word(tree.word)
+    if len(tree.items) != 3 or tree.items[0].word != b"_" or tree.items[1].word is None:
+        return None
+    digits = DECIMAL_FORM.fullmatch(tree.items[1].word)
+    return Literal(int(digits.group(1)), int(tree.items[2].word)) if digits else None
+
+
+def leaf(tree):
+    """What a tree without operands is, a literal or another word; None for any other tree."""
+    return literal(tree) or tree.word
+
+
 def same(one, other):
-    """Whether two trees have the same words, compared as written."""
-    if one.items is None or other.items is None:
-        return one.word == other.word
+    """Whether two trees are the same: literals by value and width, other words as written."""
+    if leaf(one) or leaf(other):
+        return leaf(one) == leaf(other)
     return len(one.items) == len(other.items) and all(map(same, one.items, other.items))
 
 
 def sort_of(tree):
     """A sort: 0 for Bool, the width of a bit vector."""
     return 0 if tree.items is None else int(tree.items[2].word)
-
-
-def literal_sort(word):
-    """The sort of a literal; None for any other word."""
-    if word in (b"true", b"false"):
-        return 0
-    if word[:2] == b"#x":
-        return 4 * (len(word) - 2)
-    return len(word) - 2 if word[:2] == b"#b" else None
 
 
 def grammar_of(command):
@@ -83,7 +103,8 @@ def is_pattern(form, name):
 def derives_leaf(grammar, form, term):
     """Whether a rule `(Constant σ)` or `(Variable σ)` derives a term; None for any other rule."""
     if is_pattern(form, b"Constant"):
-        return term.items is None and literal_sort(term.word) == sort_of(form.items[1])
+        found = literal(term)
+        return found is not None and found.width == sort_of(form.items[1])
     if is_pattern(form, b"Variable"):
         return term.items is None and grammar.arguments.get(term.word) == sort_of(form.items[1])
     return None
@@ -108,12 +129,12 @@ def fault(grammar, body, numbers):
                 return "%s is used twice at one place" % form.word.decode()
             used.add((term.start, form.word))
             form, at = grammar.rules[numbers[at]].form, at + 1
-            leaf = derives_leaf(grammar, form, term)
-            if leaf is None:
+            derived = derives_leaf(grammar, form, term)
+            if derived is None:
                 left.append((form, term))
-            elif not leaf:
+            elif not derived:
                 return "rule %d does not derive what stands at %d" % (numbers[at - 1], term.start)
-        elif form.items is None or term.items is None:
+        elif leaf(form) or leaf(term):
             if not same(form, term):
                 return "a rule has another word than the body at %d" % term.start
         else:
@@ -141,7 +162,7 @@ def holes(grammar, form, term):
     """The non-terminals of a form, left to right, each with the part of the term at its place; None where the term is no instance of the form."""
     if form.items is None and form.word in grammar.names:
         return [(form.word, term)]
-    if form.items is None or term.items is None:
+    if leaf(form) or leaf(term):
         return [] if same(form, term) else None
     if not same(form.items[0], term.items[0]) or len(form.items) != len(term.items):
         return None
@@ -176,9 +197,9 @@ class Search:
 
     def of_form(self, form, term, used):
         """Derivations of a term from the form of a rule."""
-        leaf = derives_leaf(self.grammar, form, term)
-        if leaf is not None:
-            return [[]] if leaf else []
+        derived = derives_leaf(self.grammar, form, term)
+        if derived is not None:
+            return [[]] if derived else []
         parts = holes(self.grammar, form, term)
         if parts is None:
             return []

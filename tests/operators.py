@@ -1,11 +1,15 @@
 #!/usr/bin/env python3
-"""Prints the lines of the program crates/test_operators: for each width 1 to 64 a hash of the values of each operator.
+"""Prints the lines of the program crates/test_operators: for each width 1 to 64 a hash of the values of each operator, in the order of the operator table, with
+as many operands as it has, or two where it takes more; then of each that takes more, in the same order, a hash of its values with 3, with 4, with 5 and with 6
+operands.
 
 The values are computed here on Python's integers, from what SMT-LIB's theories Core and FixedSizeBitVectors say of the operators.
 Only the operands and the hash, which are said in the program's comments, are the program's.
 
   python3 tests/operators.py > crates/test_operators/stdout
 """
+import functools
+import itertools
 
 WORD = 2**64 - 1
 
@@ -82,6 +86,44 @@ VECTOR = [
 ]
 
 
+def implies(p, q):
+    return q if p else 1
+
+
+def grouped_left(f):
+    """Of any operands, grouped from the left."""
+    return lambda values: functools.reduce(f, values)
+
+
+def grouped_right(f):
+    """Of any operands, grouped from the right."""
+    return lambda values: functools.reduce(lambda right, left: f(left, right), reversed(values))
+
+
+def chained(f):
+    """Whether it holds of each operand and the next."""
+    return lambda values: all(f(a, b) for a, b in zip(values, values[1:]))
+
+
+def pairwise(f):
+    """Whether it holds of each operand and every later one."""
+    return lambda values: all(f(a, b) for a, b in itertools.combinations(values, 2))
+
+
+# "`and or xor` group from the left, `=>` from the right, `=` chains, `distinct` is pairwise": over the list of the operands' values, of a Bool 0 or 1.
+LOGIC = {
+    "and": grouped_left(lambda p, q: p & q),
+    "or": grouped_left(lambda p, q: p | q),
+    "xor": grouped_left(lambda p, q: p ^ q),
+    "=>": grouped_right(implies),
+}
+EQUALITY = {
+    "=": chained(lambda a, b: a == b),
+    "distinct": pairwise(lambda a, b: a != b),
+}
+COUNTS = (3, 4, 5, 6)
+
+
 def choice(n, x, y):
     return x % 2**n if x % 2 == 1 else y % 2**n
 
@@ -108,23 +150,54 @@ OPERATORS = (
 )
 
 
-def operands(n):
-    """All pairs of edge operands of width n, then 10,000 pseudo-random pairs, of which the second has any number of bits."""
-    edges = [0, 1, WORD, 2 ** (n - 1)]
-    yield from ((x, y) for x in edges for y in edges)
+def random_pairs(n, count):
+    """So many pairs of pseudo-random numbers, for the width n."""
     x = n
-    for _ in range(10_000):
+    for _ in range(count):
         y = following(x)
-        yield x, y >> (x >> 32) % 64
+        yield x, y
         x = following(y)
 
 
-for n in range(1, 65):
+def operands(n):
+    """All pairs of edge operands of width n, then 10,000 pseudo-random pairs, of which the second has any number of bits."""
+    edges = [0, 1, WORD, 2 ** (n - 1)]
+    yield from itertools.product(edges, edges)
+    yield from ((x, y >> (x >> 32) % 64) for x, y in random_pairs(n, 10_000))
+
+
+def many_operands(pairs, n):
+    """Of each pair six operands, n wide: the first number without some of its last bits, 0 or 1 of them where the second's highest bit is 0, else 0 to 7, as
+    three bits of the second say for each operand; so they are often alike, and often all different."""
+    for x, y in pairs:
+        most = 2 if y >> 63 == 0 else 8
+        yield [(x >> (y >> 3 * i) % most) % 2**n for i in range(6)]
+
+
+def hashed(values):
+    """The hash of values."""
+    return "%016x" % functools.reduce(folded, map(int, values), 0)
+
+
+def of_two(n):
+    """The hash of each operator at a width, with as many operands as it has, or two."""
     chosen = list(operands(n))
-    hashes = []
-    for f in OPERATORS:
-        total = 0
-        for x, y in chosen:
-            total = folded(total, int(f(n, x, y)))
-        hashes.append("%016x" % total)
-    print(n, *hashes)
+    return [hashed(f(n, x, y) for x, y in chosen) for f in OPERATORS]
+
+
+def of_many(n):
+    """The hashes of each operator that takes more than two operands at a width, with each number of operands."""
+    pairs = list(random_pairs(n, 1_000))
+    bools, vectors = list(many_operands(pairs, 1)), list(many_operands(pairs, n))
+    ways = [(f, bools) for f in LOGIC.values()] + [(f, vectors) for f in EQUALITY.values()]
+    return [hashed(f(values[:count]) for values in chosen) for f, chosen in ways for count in COUNTS]
+
+
+def main():
+    """Prints a line for each width."""
+    for n in range(1, 65):
+        print(n, *of_two(n), *of_many(n))
+
+
+if __name__ == "__main__":
+    main()

@@ -24,7 +24,7 @@ FOLDERS = ("crates", "docs", "include", "rust", "tests", "tools")
 ANY_CRATE = re.compile(r"crate(/|::)")
 VECTORS = re.compile(r"\bvectors?,? ([^;|]*)")
 RECORD = re.compile(r"`([a-z0-9-]+)`")
-READING = re.compile(r"\bR([0-9]+)(?: to R([0-9]+))?")
+READING = re.compile(r"\b(R|E[0-9]+\.)([0-9]+)(?: to \1([0-9]+))?")
 
 
 # What stands in crates/
@@ -121,14 +121,21 @@ def missing_records(text, names):
                 yield line_of(text, part.start()), "vector " + found.group(1)
 
 
+def reading_of(name):
+    """The reading that a record is, as the paper names it: R12 of document 01, E3.1 of a request."""
+    item = name.partition("-")[2]
+    return "R" + item if item.isdecimal() else item
+
+
 def missing_readings(text, names):
     """Each reading that the text names and that is not there, with its line, and each that it does not name."""
-    stored, named = {int(name[8:]) for name in names if name.startswith("reading-")}, set()
+    stored, named = [reading_of(name) for name in names if name.startswith("reading-")], set()
     for found in READING.finditer(text):
-        first, last = int(found.group(1)), int(found.group(2) or found.group(1))
-        named |= set(range(first, last + 1))
-        yield from ((line_of(text, found.start()), "R%d" % n) for n in range(first, last + 1) if n not in stored)
-    yield from ((line_of(text, len(text)), "no row has R%d" % n) for n in sorted(stored - named))
+        kind, first, last = found.group(1), int(found.group(2)), int(found.group(3) or found.group(2))
+        readings = ["%s%d" % (kind, n) for n in range(first, last + 1)]
+        named.update(readings)
+        yield from ((line_of(text, found.start()), reading) for reading in readings if reading not in stored)
+    yield from ((line_of(text, len(text)), "no row has " + reading) for reading in stored if reading not in named)
 
 
 def spans_of(text):
@@ -142,7 +149,7 @@ def main():
     with open(PAPER, encoding="utf-8") as file:
         text = file.read()
     with open(RECORDS, encoding="ascii") as lines:
-        names = {line.split()[0] for line in lines}
+        names = [line.split()[0] for line in lines]
     lost = [(line, name) for line, span in spans_of(text) for name in missing_of(span)]
     lost += [*missing_records(text, names), *missing_readings(text, names)]
     for line, name in lost:

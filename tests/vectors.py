@@ -1,10 +1,10 @@
 #!/usr/bin/env python3
 """The records of the program `test_vectors` and what it must write of them: tests/vectors.py [--check]
 
-It takes the readings of readings.jsonl, texts of its own whose words decide, and the cases of cases.py and limits.py, and writes crates/test_vectors/stdin and
-crates/test_vectors/stdout; with --check it only says whether these two files are what it would write, and replays every list of rules in them (derivations.py). What
-the words of a text are is said by words.py, which is held to each reading whose answer arises from words. The checker's answer is that of the reading, or is
-known from how a text is made; the list shown is the one derivation that there is.
+It takes the readings of readings.jsonl, texts of its own whose words decide, and the cases of cases.py, operands.py, constants.py and limits.py, and writes
+crates/test_vectors/stdin and crates/test_vectors/stdout; with --check it only says whether these two files are what it would write, and replays every list of
+rules in them (derivations.py). What the words of a text are is said by words.py, which is held to each reading whose answer arises from words. The checker's
+answer is that of the reading, or is known from how a text is made; the list shown is the one derivation that there is.
 """
 import json
 import os
@@ -14,13 +14,15 @@ sys.dont_write_bytecode = True
 import derivations
 import words
 from cases import AREA, Case, all_cases
+from constants import all_constants
 from limits import all_limits
+from operands import all_operands
 from words import RESPONSE, SCRIPT
 
 HERE = os.path.dirname(os.path.abspath(__file__))
 CRATE = os.path.join(HERE, "..", "crates", "test_vectors")
-MOST_INPUT = 2000000
-READINGS_FROM_WORDS = 35
+MOST_INPUT = 2400000
+READINGS_FROM_WORDS = 37
 
 # Answers to texts that both pass, and those of them that show derivations.
 JUDGED = (0, 13, 14, 15, 16)
@@ -68,7 +70,7 @@ def check_readings():
         is_of_words = answer[0] in (2, 3) or (answer[0] == 1 and answer[1] < 2)
         expected = tuple(answer[:3]) if found or is_of_words else None
         if found != expected:
-            sys.exit("reading %d: words.py has %s, the reading %s" % (reading["item"], found, answer))
+            sys.exit("reading %s: words.py has %s, the reading %s" % (reading["item"], found, answer))
         count += found is not None
     if count != READINGS_FROM_WORDS:
         sys.exit("%d readings arise from words, and %d are expected" % (count, READINGS_FROM_WORDS))
@@ -203,7 +205,7 @@ def answer_of_words(script, response):
 def records_of_readings():
     """The readings, each with its answer."""
     for reading, script, response in readings():
-        yield Case("reading-%d" % reading["item"], script, response, tuple(reading["points"]), reading["budget"], reading["area_len"], tuple(reading["answer"]))
+        yield Case("reading-%s" % reading["item"], script, response, tuple(reading["points"]), reading["budget"], reading["area_len"], tuple(reading["answer"]))
 
 
 def records_of_words():
@@ -222,6 +224,8 @@ def records():
     yield from records_of_readings()
     yield from records_of_words()
     yield from all_cases()
+    yield from all_operands()
+    yield from all_constants()
     yield from all_limits()
 
 

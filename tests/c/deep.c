@@ -4,7 +4,8 @@
 
 #include "calls.h"
 
-enum { STACK = 2 << 20, PAINT = 0xa5, MOST_WORDS = 4096, DEEPEST = 63, FUNCTIONS = 8, NON_TERMINALS = 16, LEAVES = 61 };
+enum { STACK = 2 << 20, PAINT = 0xa5, MOST_WORDS = 4096, DEEPEST = 63, FUNCTIONS = 8, NON_TERMINALS = 16, LEAVES = 61, OPERANDS = 8,
+       LEVELS = 31 };
 
 static struct text script, response;
 static struct answer given;
@@ -97,6 +98,44 @@ static int deepest(void)
     return measure("the deepest evaluation", nots % 2 == 0 ? SVERDHYLL_ACCEPTED : SVERDHYLL_FALSE, nots + count + 2);
 }
 
+/* Adds a name under so many `distinct`s of eight operands, of which it is the last: OPERANDS nodes and OPERANDS + 2 words each. */
+static void distinguished(struct text *text, size_t times, const char *name)
+{
+    for (size_t k = 0; k < times; k++) {
+        add(text, "(distinct ");
+        repeat(text, "false ", OPERANDS - 1);
+    }
+    add(text, "%s", name);
+    repeat(text, ")", times);
+}
+
+/* The widest evaluation: as the deepest, but each body is as many `distinct`s of eight operands as its 256 nodes allow, so that the values of seven operands wait
+   at each node of the path. */
+static int widest(void)
+{
+    const size_t beside = 8, level = OPERANDS + 2, after = 32 + 7 + LEVELS * level + 3;
+    size_t count = 0;
+    uint64_t units = 1;
+    char name[8] = "true";
+    begin();
+    while (script.words + beside + level + after <= MOST_WORDS) {
+        const size_t room = (MOST_WORDS - after - script.words - beside) / level, depth = room < LEVELS ? room : LEVELS;
+        add(&script, "(define-fun d%zu () Bool ", count);
+        distinguished(&script, depth, name);
+        add(&script, ")");
+        sprintf(name, "d%zu", count++);
+        units += depth * OPERANDS + 1;
+    }
+    add(&script, "(synth-fun f () Bool ((A Bool)) ((A Bool (%s false (distinct A A A A A A A A)))))(constraint (not ", name);
+    distinguished(&script, LEVELS, "f");
+    add(&script, "))");
+    add(&response, "(define-fun f () Bool ");
+    distinguished(&response, LEVELS, name);
+    add(&response, ")");
+    end();
+    return measure("the widest evaluation", SVERDHYLL_ACCEPTED, units + 2 * LEVELS * OPERANDS + 2);
+}
+
 /* As many words as both texts may have: eight functions, and constraints of 512 words and one of what is left. */
 static int most_words(void)
 {
@@ -143,5 +182,5 @@ static int most_rules(void)
 int main(void)
 {
     if (posix_memalign((void **)&stack, 4096, STACK)) return 1;
-    return !(deepest() & most_words() & most_rules());
+    return !(deepest() & widest() & most_words() & most_rules());
 }

@@ -7,7 +7,7 @@ use names::Target;
 use names::forms::write_forms;
 use term_faults::bodies::body_fault;
 use term_nodes::gather::gather_terms;
-use term_nodes::limits::node_past;
+use term_nodes::limits::word_past;
 use term_nodes::sizes::count_nodes;
 use terms::ROW;
 ghost use mathlib.Core.Path.{_≡_};
@@ -23,7 +23,7 @@ pub fn body_limit(lexemes: &[u64], at: usize, raw: &mut [u64], most: usize, nowh
     ensures { λ r. ⌜ ((p : TermAt (now (lexemes .entry)) (now (raw .entry)) at) → Limited p most nowhere (now (raw .exit)) r) ⌝ }
 {
     let rows = gather_terms(lexemes, at, next_at(lexemes, at), raw, 0);
-    let place = node_past(lexemes, raw, 0, rows, most, nowhere);
+    let place = word_past(lexemes, raw, 0, rows, most, nowhere);
     Body { rows, place }
 }
 

@@ -77,57 +77,51 @@ ring-only (s-leaf a d) = absurd (any-not-hole a 0 refl)
 pub ring-never : Simple ring [] start ringBody (0 ∷ 1 ∷ 0 ∷ 2 ∷ []) → ⊥
 ring-never d = let e = ring-only d in let z : _≡_ {A = ℕ} 1 2 = cc in omega arith
 
--- "Swap case, after document 000 example 3", however its literals are written
-module _ (written : (sort value : ℕ) → ℕ) where
-  -- a literal of a width
-  abbrev pub word : (width value : ℕ) → Label
-  word width value = literal width value (written width value)
+-- "Swap case, after document 000 example 3": operators over non-terminals
+abbrev over-one : Label → (A : ℕ) → Forest Item
+over-one o A = tree (the o) (hole A) none
 
-  -- operators over non-terminals
-  abbrev over-one : Label → (A : ℕ) → Forest Item
-  over-one o A = tree (the o) (hole A) none
+abbrev over-two : Label → (A : ℕ) → Forest Item
+over-two o A = tree (the o) (tree (nonTerminal A) none (hole A)) none
 
-  abbrev over-two : Label → (A : ℕ) → Forest Item
-  over-two o A = tree (the o) (tree (nonTerminal A) none (hole A)) none
+-- by their numbers in the operator table
+abbrev bvnot : Label
+bvnot = operator 8 0 0
 
-  -- by their numbers in the operator table
-  abbrev bvnot : Label
-  bvnot = operator 8 0 0
+abbrev bvand : Label
+bvand = operator 10 0 0
 
-  abbrev bvand : Label
-  bvand = operator 10 0 0
+abbrev bvor : Label
+bvor = operator 11 0 0
 
-  abbrev bvor : Label
-  bvor = operator 11 0 0
+abbrev concat : Label
+concat = operator 21 0 0
 
-  abbrev concat : Label
-  concat = operator 21 0 0
+abbrev extract : (i j : ℕ) → Label
+extract i j = operator 22 i j
 
-  abbrev extract : (i j : ℕ) → Label
-  extract i j = operator 22 i j
+-- BV32 is non-terminal 0, BV16 is 1
+abbrev pub swapRules : List Rule
+swapRules =
+    rule 0 (only (literal 32 0)) ∷ rule 0 (only (literal 32 1)) ∷ rule 0 (only (literal 32 4294967295)) ∷ rule 0 (only x)
+    ∷ rule 0 (over-two bvand 0) ∷ rule 0 (over-two bvor 0) ∷ rule 0 (over-one bvnot 0) ∷ rule 0 (over-two concat 1)
+    ∷ rule 1 (only (literal 16 0)) ∷ rule 1 (only (literal 16 1)) ∷ rule 1 (only (literal 16 65535))
+    ∷ rule 1 (over-two bvand 1) ∷ rule 1 (over-two bvor 1) ∷ rule 1 (over-one bvnot 1)
+    ∷ rule 1 (over-one (extract 31 16) 0) ∷ rule 1 (over-one (extract 15 0) 0) ∷ []
 
-  -- BV32 is non-terminal 0, BV16 is 1
-  abbrev pub swapRules : List Rule
-  swapRules =
-      rule 0 (only (word 32 0)) ∷ rule 0 (only (word 32 1)) ∷ rule 0 (only (word 32 4294967295)) ∷ rule 0 (only x)
-      ∷ rule 0 (over-two bvand 0) ∷ rule 0 (over-two bvor 0) ∷ rule 0 (over-one bvnot 0) ∷ rule 0 (over-two concat 1)
-      ∷ rule 1 (only (word 16 0)) ∷ rule 1 (only (word 16 1)) ∷ rule 1 (only (word 16 65535))
-      ∷ rule 1 (over-two bvand 1) ∷ rule 1 (over-two bvor 1) ∷ rule 1 (over-one bvnot 1)
-      ∷ rule 1 (over-one (extract 31 16) 0) ∷ rule 1 (over-one (extract 15 0) 0) ∷ []
+abbrev pub swap : Grammar
+swap = record { arguments = 32 ∷ []; rules = swapRules }
 
-  abbrev pub swap : Grammar
-  swap = record { arguments = 32 ∷ []; rules = swapRules }
+-- `(concat ((_ extract 15 0) x) #x0000)`
+abbrev pub swapBody : Terms
+swapBody = tree concat (tree (extract 15 0) (tree x none none) (tree (literal 16 0) none none)) none
 
-  -- `(concat ((_ extract 15 0) x) #x0000)`
-  abbrev pub swapBody : Terms
-  swapBody = tree concat (tree (extract 15 0) (tree x none none) (tree (word 16 0) none none)) none
-
-  -- "derivation 7, 15, 3, 8"
-  pub swap-shown : Simple swap [] start swapBody (7 ∷ 15 ∷ 3 ∷ 8 ∷ [])
-  unfolding headOf formOf Fresh
-  swap-shown =
-      let of-x : Simple swap [] (hole 0) (tree x none none) (3 ∷ []) = s-rule 3 (omega arith) refl tt (s-same (same-self x) s-done s-done) s-done in
-      let of-0 : Simple swap [] (hole 1) (tree (word 16 0) none none) (8 ∷ []) =
-      s-rule 8 (omega arith) refl tt (s-same (same-self (word 16 0)) s-done s-done) s-done in
-      s-rule 7 (omega arith) refl tt
-      (s-same (same-self concat) (s-rule 15 (omega arith) refl tt (s-same (same-self (extract 15 0)) of-x s-done) of-0) s-done) s-done
+-- "derivation 7, 15, 3, 8"
+pub swap-shown : Simple swap [] start swapBody (7 ∷ 15 ∷ 3 ∷ 8 ∷ [])
+unfolding headOf formOf Fresh
+swap-shown =
+    let of-x : Simple swap [] (hole 0) (tree x none none) (3 ∷ []) = s-rule 3 (omega arith) refl tt (s-same (same-self x) s-done s-done) s-done in
+    let of-0 : Simple swap [] (hole 1) (tree (literal 16 0) none none) (8 ∷ []) =
+    s-rule 8 (omega arith) refl tt (s-same (same-self (literal 16 0)) s-done s-done) s-done in
+    s-rule 7 (omega arith) refl tt
+    (s-same (same-self concat) (s-rule 15 (omega arith) refl tt (s-same (same-self (extract 15 0)) of-x s-done) of-0) s-done) s-done

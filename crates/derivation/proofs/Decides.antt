@@ -105,14 +105,14 @@ argument-complete arguments s k f = and-both (lt-ltb k (length arguments) (f .de
 
 -- whether a label is any literal or any argument of a sort
 literal? : ℕ → Label → Bool
-literal? s (literal t v w) = eqb s t && fit? t v
+literal? s (literal t v) = eqb s t && fit? t v
 literal? s (name t k) = false
 literal? s (operator o i j) = false
 literal? s (defined k) = false
 literal? s (function k) = false
 
 name? : (arguments : List ℕ) → ℕ → Label → Bool
-name? arguments s (literal t v w) = false
+name? arguments s (literal t v) = false
 name? arguments s (name t k) = eqb s t && argument? arguments t k
 name? arguments s (operator o i j) = false
 name? arguments s (defined k) = false
@@ -120,7 +120,7 @@ name? arguments s (function k) = false
 
 literal-sound : (arguments : List ℕ) (s : ℕ) (l : Label) → literal? s l ≡ true → AnyLeaf arguments (anyLiteral s) l
 unfolding literal?
-literal-sound arguments s (literal t v w) e = let p = and-true _ _ e in rw (eqb-true s t (p .0)) (constant (fit-sound t v (p .1)))
+literal-sound arguments s (literal t v) e = let p = and-true _ _ e in rw (eqb-true s t (p .0)) (constant (fit-sound t v (p .1)))
 literal-sound arguments s (name t k) e = apart e
 literal-sound arguments s (operator o i j) e = apart e
 literal-sound arguments s (defined k) e = apart e
@@ -128,15 +128,15 @@ literal-sound arguments s (function k) e = apart e
 
 name-sound : (arguments : List ℕ) (s : ℕ) (l : Label) → name? arguments s l ≡ true → AnyLeaf arguments (anyArgument s) l
 unfolding name?
-name-sound arguments s (literal t v w) e = apart e
+name-sound arguments s (literal t v) e = apart e
 name-sound arguments s (name t k) e = let p = and-true _ _ e in rw (eqb-true s t (p .0)) (variable (argument-sound arguments t k (p .1)))
 name-sound arguments s (operator o i j) e = apart e
 name-sound arguments s (defined k) e = apart e
 name-sound arguments s (function k) e = apart e
 
-literal-complete : (w : ℕ) {s v : ℕ} → Fit s v → literal? s (literal s v w) ≡ true
+literal-complete : {s v : ℕ} → Fit s v → literal? s (literal s v) ≡ true
 unfolding literal?
-literal-complete w {s} {v} f = and-both (eq-eqb s s refl) (fit-complete s v f)
+literal-complete {s} {v} f = and-both (eq-eqb s s refl) (fit-complete s v f)
 
 name-complete : {arguments : List ℕ} {s k : ℕ} → Argument arguments s k → name? arguments s (name s k) ≡ true
 unfolding name?
@@ -264,7 +264,7 @@ module _ (N : ℕ) (G : Grammar) (low : (r : ℕ) → r < length (G .rules) → 
   unfolding match? at? D none?
   match-complete done c-none = refl
   match-complete (use-rule {A = A} r h e d d2) (c-tree f a b) = and-both (f A _ (use-rule r h e d done)) (match-complete d2 b)
-  match-complete (leaf (constant {w = w} h) d) (c-tree f c-none b) = and-both (and-both (literal-complete w h) refl) (match-complete d b)
+  match-complete (leaf (constant h) d) (c-tree f c-none b) = and-both (and-both (literal-complete h) refl) (match-complete d b)
   match-complete (leaf (variable h) d) (c-tree f c-none b) = and-both (and-both (name-complete h) refl) (match-complete d b)
   match-complete (same {l = l} {m = m} e d d2) (c-tree f a b) = and-both (and-both (same-complete l m e) (match-complete d a)) (match-complete d2 b)
 
@@ -280,7 +280,7 @@ module _ (N : ℕ) (G : Grammar) (low : (r : ℕ) → r < length (G .rules) → 
       (or-second (S A) (someb (length (G .rules)) (adds s xs S A))
       (some-intro (length (G .rules)) (adds s xs S A) r h (and-both (eq-eqb (headOf (G .rules) r) A e) (head-complete S cl a d)))))
       refl
-  head-complete S cl c-none (leaf (constant {w = w} h) done) = and-both (and-both (literal-complete w h) refl) refl
+  head-complete S cl c-none (leaf (constant h) done) = and-both (and-both (literal-complete h) refl) refl
   head-complete S cl c-none (leaf (variable h) done) = and-both (and-both (name-complete h) refl) refl
   head-complete S cl a (same {l = l} {m = m} e d done) = and-both (and-both (same-complete l m e) (match-complete d a)) refl
 

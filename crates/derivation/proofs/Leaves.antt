@@ -33,7 +33,7 @@ module _ (arguments : List ℕ) where
 -- the label of a node that has a sort
 leaf-fits : (scope : Scope) (l : Label) (ss : List ℕ) {s : ℕ} → labelSort scope l ss ≡ some s → LeafFits (scope .names) l
 unfolding labelSort
-leaf-fits scope (literal t v w) ss h =
+leaf-fits scope (literal t v) ss h =
     let p = and-true _ _ (and-true _ _ (passed _ h .0) .0) in
     record { sort = leb-true _ _ (p .0); value = ltb-true _ _ (p .1) }
 leaf-fits scope (name t k) ss h =

@@ -6,18 +6,17 @@ use native.Mathlib.Omega.{arith}
 use mathlib.Core.Bool.{Bool, true, cond, _&&_, _||_, or-true as or-yes}
 use mathlib.Core.List.{List}
 use borrow.Author.Tests.{eq-eqb, eqb-true}
-use lib.Dec.{eqb, lit<}
+use lib.Dec.{eqb, lit<, lit≤}
 use Rattle.forest.specs.Forest.{Forest, count, join, none, tree}
 use Rattle.terms.specs.Labels.{Label, Terms, defined, function, literal, name, operator}
-use Rattle.terms.specs.code.Codes.{anyArgumentKind, anyLiteralKind, codeWith, headOf, kindOf, literalHead, literalKind, literalSort, nameKind, nonTerminalKind}
-use Rattle.terms.specs.code.Codes.{sortCount, writtenIn}
+use Rattle.terms.specs.code.Codes.{anyArgumentKind, anyLiteralKind, codeWith, headOf, kindCount, kindOf, literalKind, nameKind, nonTerminalKind}
 use Rattle.terms.specs.code.Nodes.{Plain, codeAt, codeOf, operandsAt, valueAt, valueOf}
-use Rattle.terms.proofs.CodeParts.{head-with, kind-with, literal-sort}
-use Rattle.terms.proofs.Bodies.{Says, label-of}
+use Rattle.terms.proofs.CodeParts.{head-with, kind-with}
+use Rattle.terms.proofs.Bodies.{Says, label-of, labelOf}
 use Rattle.derivation.specs.Derivation.{AnyLeaf, Item, SameLabel, anyArgument, anyLiteral, constant, nonTerminal, the, variable}
 use Rattle.derivation.specs.code.Tables.{itemCode, itemValue}
 use Rattle.derivation.specs.code.Admitted.{LeafFits, Proper}
-use Rattle.derivation.specs.code.Matching.{alike, argumentFits, literalFits}
+use Rattle.derivation.specs.code.Matching.{alike, argumentFits, leafFits, literalFits}
 use Rattle.derivation.proofs.PassedTests.{and-both, and-true, both-equal, equal-both, or-true}
 use Rattle.derivation.proofs.Same.{same-numbers, same-told}
 use Rattle.derivation.proofs.Reading.{ItemSays}
@@ -57,28 +56,28 @@ pub proper-bare : (k : ℕ) (i : Item) (ps qs : Forest Item) → Proper k (tree 
 unfolding Proper Bare
 proper-bare k (the l) ps qs p = tt
 proper-bare k (nonTerminal A) ps qs p = p .1
-proper-bare k (anyLiteral s) ps qs p = p .1
-proper-bare k (anyArgument s) ps qs p = p .1
+proper-bare k (anyLiteral s) ps qs p = p .0
+proper-bare k (anyArgument s) ps qs p = p .0
 
 proper-join : (k : ℕ) (ps qs : Forest Item) → Proper k ps → Proper k qs → Proper k (join ps qs)
 unfolding Proper join
 proper-join k none qs a b = b
 proper-join k (tree (the l) xs ys) qs a b = (a .0, a .1, proper-join k ys qs (a .2) b)
 proper-join k (tree (nonTerminal A) xs ys) qs a b = (a .0, a .1, proper-join k ys qs (a .2) b)
-proper-join k (tree (anyLiteral s) xs ys) qs a b = (a .0, a .1, proper-join k ys qs (a .2) b)
-proper-join k (tree (anyArgument s) xs ys) qs a b = (a .0, a .1, proper-join k ys qs (a .2) b)
+proper-join k (tree (anyLiteral s) xs ys) qs a b = (a .0, proper-join k ys qs (a .1) b)
+proper-join k (tree (anyArgument s) xs ys) qs a b = (a .0, proper-join k ys qs (a .1) b)
 
 -- and of what follows the first node
 pub proper-on : (k : ℕ) (i : Item) (ps qs : Forest Item) → Proper k (tree i ps qs) → Proper k (join ps qs)
 unfolding Proper join
 proper-on k (the l) ps qs p = proper-join k ps qs (p .1) (p .2)
 proper-on k (nonTerminal A) ps qs p = rw (p .1) (p .2)
-proper-on k (anyLiteral s) ps qs p = rw (p .1) (p .2)
-proper-on k (anyArgument s) ps qs p = rw (p .1) (p .2)
+proper-on k (anyLiteral s) ps qs p = rw (p .0) (p .1)
+proper-on k (anyArgument s) ps qs p = rw (p .0) (p .1)
 
 -- the kind of a label is none of those of the other items
 pub label-kind : (l : Label) → kindOf (codeOf l) < nonTerminalKind
-label-kind (literal s v w) = omega arith
+label-kind (literal s v) = omega arith
 label-kind (name s k) = omega arith
 label-kind (operator o i j) = omega arith
 label-kind (defined k) = omega arith
@@ -115,51 +114,55 @@ leaf-alike : {arguments : List ℕ} {i j : Item} {m l : Label} → i ≡ j → m
 leaf-alike {arguments} {j = j} {m = m} item label leaf f =
     subst (λ (x : Item). Alike arguments x m) (sym item) (subst (Alike arguments j) (sym label) (any (leaf (subst (LeafFits arguments) label f))))
 
+-- what the test of such codes tells: the item is the one of that kind and sort, and so is the label
+record LeafTold (whole leaf : ℕ) (i : Item) (m : Label) : Type 0 where
+  item : i ≡ itemOf (codeWith whole (headOf (codeOf m))) (itemValue i)
+  label : m ≡ labelOf (codeWith leaf (headOf (codeOf m))) (valueOf m)
+
+leaf-told : (whole leaf : ℕ) (i : Item) (m : Label) → nonTerminalKind ≤ whole → Plain m → leafFits whole leaf (itemCode i) (codeOf m) ≡ true
+    → LeafTold whole leaf i m
+unfolding leafFits
+leaf-told whole leaf i m high plain w =
+    let t = and-true _ _ w in
+    let kinds : (kindOf (itemCode i) ≡ whole) × (kindOf (codeOf m) ≡ leaf) = both-equal _ _ _ _ (t .0) in
+    let sorts : headOf (itemCode i) ≡ headOf (codeOf m) = eqb-true _ _ (t .1) in
+    let one : itemCode i ≡ codeWith whole (headOf (codeOf m)) = omega arith in
+    let two : codeOf m ≡ codeWith leaf (headOf (codeOf m)) = omega arith in
+    record {
+      item = sym (item-of i (omega arith)) ∙ ap (λ (code : ℕ). itemOf code (itemValue i)) one;
+      label = sym (label-of m plain) ∙ ap (λ (code : ℕ). labelOf code (valueOf m)) two;
+    }
+
 -- `(Constant σ)`, held against a literal
 literal-alike : {arguments : List ℕ} (i : Item) (m : Label) → Plain m → LeafFits arguments m → literalFits (itemCode i) (codeOf m) ≡ true → Alike arguments i m
-unfolding literalFits
 literal-alike i m plain f w =
-    let t = and-true _ _ w in
-    let kinds : (kindOf (itemCode i) ≡ anyLiteralKind) × (kindOf (codeOf m) ≡ literalKind) = both-equal _ _ _ _ (t .0) in
-    let sorts : headOf (itemCode i) ≡ literalSort (codeOf m) = eqb-true _ _ (t .1) in
-    let item : i ≡ anyLiteral (literalSort (codeOf m)) = sym (item-of i (omega arith)) ∙ rw (kinds .0, sorts) in
-    let label : m ≡ literal (literalSort (codeOf m)) (valueOf m) (writtenIn (codeOf m)) = sym (label-of m plain) ∙ rw (kinds .1) in
+    let t = leaf-told anyLiteralKind literalKind i m (lit≤ tt) plain w in
+    let s = headOf (codeOf m) in
+    let item : i ≡ anyLiteral s = t .item ∙ rw (kind-with anyLiteralKind s (lit< tt), head-with anyLiteralKind s (lit< tt)) in
+    let label : m ≡ literal s (valueOf m) = t .label ∙ rw (kind-with literalKind s (lit< tt), head-with literalKind s (lit< tt)) in
     leaf-alike item label constant f
 
 -- `(Variable σ)`, held against a name
 argument-alike : {arguments : List ℕ} (i : Item) (m : Label) → Plain m → LeafFits arguments m → argumentFits (itemCode i) (codeOf m) ≡ true
     → Alike arguments i m
-unfolding argumentFits
 argument-alike i m plain f w =
-    let t = and-true _ _ w in
-    let kinds : (kindOf (itemCode i) ≡ anyArgumentKind) × (kindOf (codeOf m) ≡ nameKind) = both-equal _ _ _ _ (t .0) in
-    let sorts : headOf (itemCode i) ≡ headOf (codeOf m) = eqb-true _ _ (t .1) in
-    let item : i ≡ anyArgument (headOf (codeOf m)) = sym (item-of i (omega arith)) ∙ rw (kinds .0, sorts) in
-    let label : m ≡ name (headOf (codeOf m)) (valueOf m) = sym (label-of m plain) ∙ rw (kinds .1) in
+    let t = leaf-told anyArgumentKind nameKind i m (lit≤ tt) plain w in
+    let s = headOf (codeOf m) in
+    let item : i ≡ anyArgument s = t .item ∙ rw (kind-with anyArgumentKind s (lit< tt), head-with anyArgumentKind s (lit< tt)) in
+    let label : m ≡ name s (valueOf m) = t .label ∙ rw (kind-with nameKind s (lit< tt), head-with nameKind s (lit< tt)) in
     leaf-alike item label variable f
 
--- the tests of the codes and values of an item and a label that are alike
-literal-passes : (s w : ℕ) → s < sortCount → literalFits (codeWith anyLiteralKind s) (codeWith literalKind (literalHead s w)) ≡ true
-unfolding literalFits
-literal-passes s w q =
-    let sorts : headOf (codeWith anyLiteralKind s) ≡ literalSort (codeWith literalKind (literalHead s w)) =
-    head-with anyLiteralKind s (lit< tt) ∙ sym (literal-sort s w q)
-    in
-    and-both (equal-both _ _ _ _ (kind-with anyLiteralKind s (lit< tt)) (kind-with literalKind (literalHead s w) (lit< tt))) (eq-eqb _ _ sorts)
-
-argument-passes : (s : ℕ) → argumentFits (codeWith anyArgumentKind s) (codeWith nameKind s) ≡ true
-unfolding argumentFits
-argument-passes s =
-    let sorts : headOf (codeWith anyArgumentKind s) ≡ headOf (codeWith nameKind s) =
-    head-with anyArgumentKind s (lit< tt) ∙ sym (head-with nameKind s (lit< tt))
-    in
-    and-both (equal-both _ _ _ _ (kind-with anyArgumentKind s (lit< tt)) (kind-with nameKind s (lit< tt))) (eq-eqb _ _ sorts)
+-- the test of the codes of an item and a label that are alike
+leaf-passes : (whole leaf s : ℕ) → whole < kindCount → leaf < kindCount → leafFits whole leaf (codeWith whole s) (codeWith leaf s) ≡ true
+unfolding leafFits
+leaf-passes whole leaf s a b =
+    and-both (equal-both _ _ _ _ (kind-with whole s a) (kind-with leaf s b)) (eq-eqb _ _ (head-with whole s a ∙ sym (head-with leaf s b)))
 
 alike-numbers : {arguments : List ℕ} (i : Item) (m : Label) → Plain m → Alike arguments i m
     → eqb (itemCode i) (codeOf m) && eqb (itemValue i) (valueOf m) || literalFits (itemCode i) (codeOf m) || argumentFits (itemCode i) (codeOf m) ≡ true
 alike-numbers i m q (labels {l} e) = let n = same-numbers l m e in rw (equal-both (codeOf l) (codeOf m) (valueOf l) (valueOf m) (n .0) (n .1))
-alike-numbers i m q (any (constant {s} {v} {w} f)) = rw (literal-passes s w q, or-yes)
-alike-numbers i m q (any (variable {s} {k} f)) = rw (argument-passes s, or-yes)
+alike-numbers i m q (any (constant {s} {v} f)) = rw (leaf-passes anyLiteralKind literalKind s (lit< tt) (lit< tt), or-yes)
+alike-numbers i m q (any (variable {s} {k} f)) = rw (leaf-passes anyArgumentKind nameKind s (lit< tt) (lit< tt), or-yes)
 
 module _ {forms : List ℕ} {p : ℕ} {i : Item} {ps : Forest Item} (x : ItemSays forms p i ps) {body : List ℕ} {j : ℕ} {m : Label} {ts : Terms}
     (y : Says body j m ts) (plain : Plain m) where

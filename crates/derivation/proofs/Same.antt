@@ -30,14 +30,14 @@ record Parts : Type 0 where
   three : ℕ
 
 parts : Label → Parts
-parts (literal s v w) = record { kind = 0; one = s; two = v; three = w }
+parts (literal s v) = record { kind = 0; one = s; two = v; three = 0 }
 parts (name s k) = record { kind = 1; one = s; two = k; three = 0 }
 parts (operator o i j) = record { kind = 2; one = o; two = i; three = j }
 parts (defined k) = record { kind = 3; one = k; two = 0; three = 0 }
 parts (function k) = record { kind = 4; one = k; two = 0; three = 0 }
 
 labelFrom : (kind one two three : ℕ) → Label
-labelFrom zero a b c = literal a b c
+labelFrom zero a b c = literal a b
 labelFrom (suc zero) a b c = name a b
 labelFrom (suc (suc zero)) a b c = operator a b c
 labelFrom (suc (suc (suc zero))) a b c = defined a
@@ -45,7 +45,7 @@ labelFrom (suc (suc (suc (suc k)))) a b c = function a
 
 from-parts : (l : Label) → labelFrom (parts l .kind) (parts l .one) (parts l .two) (parts l .three) ≡ l
 unfolding parts labelFrom
-from-parts (literal s v w) = refl
+from-parts (literal s v) = refl
 from-parts (name s k) = refl
 from-parts (operator o i j) = refl
 from-parts (defined k) = refl

@@ -18,7 +18,7 @@ pub data Item : Type 0 where
   -- `(Variable σ)`
   anyArgument : (sort : ℕ) → Item
 
--- "symbols and literals being compared as written": two labels are the same.
+-- "Apart from literals, derivations still compare terms as written" (E3): two labels are the same, and a literal's label is its width and value.
 abbrev pub SameLabel : Label → Label → Type 0
 SameLabel l m = l ≡ m
 
@@ -29,7 +29,7 @@ pub record Argument (arguments : List ℕ) (s k : ℕ) : Type 0 where
 
 -- "`(Constant σ)` derives any literal of sort σ; `(Variable σ)` any argument of that function of sort σ."
 pub data AnyLeaf (arguments : List ℕ) : Item → Label → Type 0 where
-  constant : {s v w : ℕ} → Fit s v → AnyLeaf arguments (anyLiteral s) (literal s v w)
+  constant : {s v : ℕ} → Fit s v → AnyLeaf arguments (anyLiteral s) (literal s v)
   variable : {s k : ℕ} → Argument arguments s k → AnyLeaf arguments (anyArgument s) (name s k)
 
 -- A rule of the non-terminal A.

@@ -1,6 +1,6 @@
 //! Whether a rule derives the tree at a node of the body, where the masks of the later nodes are known.
 ghost use mathlib.Core.Path.{_≡_};
-ghost use Rattle.derivation.specs.code.Matching.{alike, argumentFits, literalFits, Answers, AsksNoChain, AsksRule, Matched};
+ghost use Rattle.derivation.specs.code.Matching.{alike, leafFits, Answers, AsksNoChain, AsksRule, Matched};
 use crate::masks::has;
 use crate::masks::mask_at;
 use crate::rules::start_at;
@@ -12,25 +12,15 @@ use terms::codes::NAME;
 use terms::codes::NON_TERMINAL;
 use terms::codes::head_of;
 use terms::codes::kind_of;
-use terms::codes::literal_sort;
 use terms::operands_at;
 use terms::size_at;
 use terms::value_at;
 
-// Whether a node of a rule is `(Constant σ)`, and one of the body a literal of that sort.
-fn literal_fits(code: u64, found: u64) -> bool
-    ensures { λ r. ⌜ r ≡ literalFits code found ⌝ }
+// Whether a node of a rule is of the kind of any leaf of a sort, and one of the body of the kind of such a leaf, of that sort.
+fn leaf_fits(whole: u64, leaf: u64, code: u64, found: u64) -> bool
+    ensures { λ r. ⌜ r ≡ leafFits whole leaf code found ⌝ }
 {
-    (kind_of(code) == ANY_LITERAL)
-        & (kind_of(found) == LITERAL)
-        & (head_of(code) == literal_sort(found))
-}
-
-// Whether a node of a rule is `(Variable σ)`, and one of the body a name of that sort.
-fn argument_fits(code: u64, found: u64) -> bool
-    ensures { λ r. ⌜ r ≡ argumentFits code found ⌝ }
-{
-    (kind_of(code) == ANY_ARGUMENT) & (kind_of(found) == NAME) & (head_of(code) == head_of(found))
+    (kind_of(code) == whole) & (kind_of(found) == leaf) & (head_of(code) == head_of(found))
 }
 
 // Whether a node of a rule, which is no non-terminal, and a node of the body are alike.
@@ -40,7 +30,9 @@ fn alike(forms: &[u64], place: usize, body: &[u64], here: usize) -> bool
     let code = code_at(forms, place);
     let found = code_at(body, here);
     let same = (code == found) & (value_at(forms, place) == value_at(body, here));
-    let fits = same | literal_fits(code, found) | argument_fits(code, found);
+    let literal = leaf_fits(ANY_LITERAL, LITERAL, code, found);
+    let argument = leaf_fits(ANY_ARGUMENT, NAME, code, found);
+    let fits = same | literal | argument;
     (operands_at(forms, place) == operands_at(body, here)) & fits
 }
 

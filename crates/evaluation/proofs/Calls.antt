@@ -16,7 +16,7 @@ module _ (scope : Scope) where
   -- A label that has a sort applies a function that is known.
   label-known : (l : Label) (ss : List ℕ) {s : ℕ} → labelSort scope l ss ≡ some s → Callable (length (scope .defined)) (length (scope .functions)) l
   unfolding labelSort
-  label-known (literal s v w) ss h = tt
+  label-known (literal s v) ss h = tt
   label-known (name s k) ss h = tt
   label-known (operator o i j) ss h = tt
   label-known (defined k) ss h = called-within (scope .defined) k ss h

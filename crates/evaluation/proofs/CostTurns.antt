@@ -12,7 +12,7 @@ use Rattle.forest.specs.code.Cursors.{from, size}
 use Rattle.terms.proofs.Bodies.{Says, says}
 use Rattle.terms.specs.Costs.{BodyCosts, bodyCost, costOf, costs, definedCost, functionCost}
 use Rattle.terms.specs.Labels.{Label, Terms, defined, function, literal, name, operator}
-use Rattle.terms.specs.code.Codes.{literalHead, literalKind, nameKind, operatorKind}
+use Rattle.terms.specs.code.Codes.{literalKind, nameKind, operatorKind}
 use Rattle.terms.proofs.CodeParts.{kind-with}
 use Rattle.forest.specs.Limits.{mostDefined, mostFunctions}
 use Rattle.terms.specs.code.Nodes.{codeAt, codeOf, sizeAt, valueAt, valueOf}
@@ -38,14 +38,14 @@ a-price : {costs : List ℕ} {place p cost : ℕ} → place ≡ p → p < noPlac
 a-price e h l g = record { applied = λ q. (l, rw e g); other = λ q. absurd (omega arith) }
 
 -- A body costs something.
-body-some : {all : Terms} {bodies : List ℕ} {place cost : ℕ} {give : _} → Body all bodies place cost give → 1 ≤ cost
+body-some : {all : Terms} {bodies : List ℕ} {callable place cost : ℕ} {give : _} → Body all bodies callable place cost give → 1 ≤ cost
 body-some b = rw (b .cost-is, b .stands .is) (cost-some _ _ _ _)
 
 module _ {nodes bodies costs : List ℕ} {defs funs : List Definition} (h : BodiesHold nodes bodies defs funs) (priced : Priced costs defs funs) where
   -- The price of a label's body.
   label-price : (l : Label) → Callable (length defs) (length funs) l
       → Price costs (bodyPlace (codeOf l) (valueOf l)) (bodyCost (record { defined = definedCost defs; functions = functionCost defs funs }) l)
-  label-price (literal s v w) k = no-price costs (rw (kind-with literalKind (literalHead s w) (lit< tt)))
+  label-price (literal s v) k = no-price costs (rw (kind-with literalKind s (lit< tt)))
   label-price (name s n) k = no-price costs (rw (kind-with nameKind s (lit< tt)))
   label-price (operator o i j) k = no-price costs (rw (kind-with operatorKind o (lit< tt)))
   label-price (defined n) k =

@@ -52,7 +52,7 @@ module _ {meaning : Meaning} (suits : Suits meaning) where
   -- The value of a label is of its sort.
   label-fits : (l : Label) (vs : List Value) {v : Value} → Fits vs → labelValue meaning l vs ≡ some v → OfSort v
   unfolding labelValue
-  label-fits (literal s v w) vs f h = fit-when _ h (literal-fits s v (eqb (length vs) 0))
+  label-fits (literal s v) vs f h = fit-when _ h (literal-fits s v (eqb (length vs) 0))
   label-fits (name s k) vs f h = fit-when _ h (name-fits (meaning .names) s k (eqb (length vs) 0) (suits .names))
   label-fits (operator o i j) vs f h =
       fit-operator (operatorSort o i j (sortsIn vs)) (operatorValue o i j (sortsIn vs) (numbersIn vs)) h (λ s e. closed o i j f e)

@@ -1,38 +1,37 @@
 -- The value of a label over the values of its operands, by the label's code and value.
-use Prim.Native.Nat.{ℕ, suc, _-_, _≤_, _<_}
+use Prim.Native.Nat.{ℕ, _+_, _-_, _<_}
 use native.Mathlib.Omega.{arith}
-use mathlib.Core.Path.{_≡_, refl, ap}
-use mathlib.Core.Bool.{true, _&&_}
-use mathlib.Core.List.{List, [], _∷_}
+use mathlib.Core.Path.{_≡_, refl}
+use mathlib.Core.Bool.{_&&_}
+use mathlib.Core.List.{List, []}
 use mathlib.Core.Option.{Option, none as nothing, some}
-use borrow.Author.Tests.{eqb-true, lt-ltb, ltb-true}
+use borrow.Author.Tests.{lt-ltb, ltb-true}
 use lib.Dec.{eqb, leb, lit<, ltb}
 use lib.ListN.{getD, length}
-use Rattle.forest.proofs.Bools.{and-left, and-right, apart}
+use Rattle.forest.proofs.Bools.{and-left}
 use Rattle.forest.proofs.Options.{never, passed}
-use Rattle.operators.proofs.Table.{few-operands}
-use Rattle.operators.specs.Operators.{operatorAt, operatorCount, operatorSort, operatorValue}
+use Rattle.operators.specs.Operators.{operatorSort, operatorValue}
 use Rattle.operators.specs.Sorts.{maxWidth, valuesOf}
 use Rattle.terms.specs.Costs.{bodyCost, definedCost, functionCost}
 use Rattle.terms.specs.Labels.{Label, Terms, defined, function, literal, name, operator}
-use Rattle.terms.specs.code.Codes.{cutValue, headOf, kindOf, literalKind, literalSort, lowCount, nameKind, operatorKind}
+use Rattle.terms.specs.code.Codes.{cutValue, headOf, kindOf, literalKind, lowCount, nameKind, operatorKind}
 use Rattle.terms.specs.code.Nodes.{Plain, codeOf, valueOf}
-use Rattle.terms.proofs.CodeParts.{head-with, literal-sort}
-use Rattle.terms.specs.Sorts.{Definition, sameSorts}
+use Rattle.terms.proofs.CodeParts.{head-with}
+use Rattle.terms.specs.Sorts.{Definition}
 use Rattle.terms.specs.Values.{Meaning, definedValue, functionValue, labelValue, meaningAt, numbersIn, operatorGives, sortsIn, value, valuesAt, valuesIn}
 use Rattle.terms.specs.declared.Value.{Value}
 use Rattle.evaluation.specs.code.Tables.{BodiesHold, Callable, bodyPlace}
-use Rattle.forest.specs.Limits.{mostArguments, mostDefined, mostFunctions}
-use Rattle.evaluation.proofs.Bodies.{Body, held-defined, held-function}
+use Rattle.forest.specs.Limits.{mostDefined, mostFunctions}
+use Rattle.evaluation.proofs.Bodies.{Body, held-defined, held-function, same-body}
 
 -- The value of a literal is the one that its code and its value say.
 pub literal-label : (meaning : Meaning) (l : Label) (vs : List Value) {v : Value} → Plain l → kindOf (codeOf l) ≡ literalKind → labelValue meaning l vs ≡ some v
-    → value (literalSort (codeOf l)) (valueOf l) ≡ v
+    → value (headOf (codeOf l)) (valueOf l) ≡ v
 unfolding labelValue
-literal-label meaning (literal s n w) vs {v} p k h =
+literal-label meaning (literal s n) vs {v} p k h =
     let q = passed (leb s maxWidth && ltb n (valuesOf s) && eqb (length vs) 0) h in
     let is : value s n ≡ v = cc (q .1) in
-    rw (literal-sort s w p) is
+    rw (head-with literalKind s (lit< tt)) is
 literal-label meaning (name s n) vs p k h = absurd (omega arith)
 literal-label meaning (operator o i j) vs p k h = absurd (omega arith)
 literal-label meaning (defined n) vs p k h = absurd (omega arith)
@@ -42,7 +41,7 @@ literal-label meaning (function n) vs p k h = absurd (omega arith)
 pub name-label : (meaning : Meaning) (l : Label) (vs : List Value) {v : Value} → kindOf (codeOf l) ≡ nameKind → labelValue meaning l vs ≡ some v
     → (valueOf l < length (meaning .names)) × (value (headOf (codeOf l)) (getD (numbersIn (meaning .names)) (valueOf l) 0) ≡ v)
 unfolding labelValue
-name-label meaning (literal s n w) vs k h = absurd (omega arith)
+name-label meaning (literal s n) vs k h = absurd (omega arith)
 name-label meaning (name s n) vs {v} k h =
     let known = ltb n (length (meaning .names)) in
     let same = eqb (getD (sortsIn (meaning .names)) n 0) s in
@@ -76,31 +75,13 @@ operator-gives (some s) n h = (s, refl, cc)
 pub operator-label : (meaning : Meaning) (l : Label) (vs : List Value) {v : Value} → Plain l → kindOf (codeOf l) ≡ operatorKind
     → labelValue meaning l vs ≡ some v → Operator l vs v
 unfolding labelValue
-operator-label meaning (literal s n w) vs p k h = absurd (omega arith)
+operator-label meaning (literal s n) vs p k h = absurd (omega arith)
 operator-label meaning (name s n) vs p k h = absurd (omega arith)
 operator-label meaning (operator o i j) vs p k h =
     let g = operator-gives (operatorSort o i j (sortsIn vs)) _ h in
     record { o = o; i = i; j = j; sort = g .0; code = head-with operatorKind o (lit< tt); value-is = refl; small = p; sorted = g .1; is = g .2 }
 operator-label meaning (defined n) vs p k h = absurd (omega arith)
 operator-label meaning (function n) vs p k h = absurd (omega arith)
-
--- An operator's operands are few.
-pub operator-few : (o i j : ℕ) (ss : List ℕ) {s : ℕ} → operatorSort o i j ss ≡ some s → length ss ≤ mostArguments
-unfolding operatorSort
-operator-few o i j ss h =
-    let known = ltb o operatorCount in
-    let counts = eqb (length ss) (operatorAt o .operands) in
-    let p = passed (known && counts) h .0 in
-    let few = few-operands {o = o} (ltb-true o operatorCount (and-left known counts p)) in
-    omega (arith, few, eqb-true (length ss) (operatorAt o .operands) (and-right known counts p))
-
--- Lists of the same sorts are as long.
-pub same-length : (ss ts : List ℕ) → sameSorts ss ts ≡ true → length ss ≡ length ts
-unfolding sameSorts
-same-length [] [] h = refl
-same-length [] (t ∷ ts) h = apart h
-same-length (s ∷ ss) [] h = apart h
-same-length (s ∷ ss) (t ∷ ts) h = ap suc (same-length ss ts (and-right (eqb s t) (sameSorts ss ts) h))
 
 -- Where there are no synthesized functions, terms have the values that they have where these give nothing.
 pub no-functions : (defs : List Definition) (point : List Value) (t : Terms)
@@ -112,11 +93,13 @@ module _ {nodes bodies : List ℕ} {defs funs : List Definition} (h : BodiesHold
   -- The body of the function that a label applies.
   pub call-label : (l : Label) → (kindOf (codeOf l) ≡ literalKind → ⊥) → (kindOf (codeOf l) ≡ nameKind → ⊥) → (kindOf (codeOf l) ≡ operatorKind → ⊥)
       → Callable (length defs) (length funs) l
-      → Body (h .all) bodies (bodyPlace (codeOf l) (valueOf l)) (bodyCost (record { defined = definedCost defs; functions = functionCost defs funs }) l)
+      → Body (h .all) bodies (length defs + length funs) (bodyPlace (codeOf l) (valueOf l))
+      (bodyCost (record { defined = definedCost defs; functions = functionCost defs funs }) l)
       (labelValue (meaningAt defs funs point) l)
   unfolding labelValue
-  call-label (literal s n w) a b c k = absurd (a (omega arith))
+  call-label (literal s n) a b c k = absurd (a (omega arith))
   call-label (name s n) a b c k = absurd (b (omega arith))
   call-label (operator o i j) a b c k = absurd (c (omega arith))
-  call-label (defined n) a b c k = rw (lt-ltb n mostDefined (omega (arith, h .defined-most))) (held-defined h n k .body)
+  call-label (defined n) a b c k =
+      rw (lt-ltb n mostDefined (omega (arith, h .defined-most))) (same-body (omega arith) refl (λ vs. refl) (held-defined h n k .body))
   call-label (function n) a b c k = rw (lt-ltb n mostFunctions (omega (arith, h .functions-most))) (held-function h n k .body)

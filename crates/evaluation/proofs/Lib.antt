@@ -6,7 +6,8 @@ pub mod Sums
 pub mod CostTurns
 pub mod Prices
 pub mod Operators
-pub mod Arguments
+pub mod Stack
+pub mod Fronts
 pub mod Operands
 pub mod LabelValues
 pub mod Evaluating

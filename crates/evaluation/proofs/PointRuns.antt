@@ -1,22 +1,23 @@
 -- The loop over the points of a list, at each of which the terms are run.
 use Prim.Native.Nat.{ℕ, suc, _+_, _-_, _*_, _≤_, _<_}
 use native.Mathlib.Omega.{arith}
-use native.Mathlib.Nat.{add-mul, le-refl, mul-le-mul-right}
+use native.Mathlib.Nat.{add-mul, mul-le-mul-right}
 use mathlib.Core.Path.{_≡_, refl, sym, ap, _∙_}
 use mathlib.Core.Bool.{Bool, true, false, cond, not}
 use mathlib.Core.List.{List, [], _∷_}
 use borrow.Author.Tests.{not-false, not-true}
 use lib.ListN.{drop, length, length-drop, take}
-use lib.Seq.{take-take}
+use lib.Seq.{length-take-le}
+use Rattle.forest.specs.Limits.{mostNodes}
 use Rattle.operators.specs.Sorts.{AllFit}
 use Rattle.terms.specs.Labels.{Terms}
 use Rattle.terms.specs.Values.{numbersIn, sortsIn}
-use Rattle.evaluation.specs.code.Evaluator.{Names}
+use Rattle.evaluation.specs.code.Evaluator.{Names, Room}
 use Rattle.evaluation.specs.code.Costs.{Costing}
 use Rattle.evaluation.specs.code.Tables.{CallsKnown, TermStands}
 use Rattle.evaluation.specs.Points.{pointAt, pointCount, valuesBy}
 use Rattle.evaluation.specs.Running.{allPassed, leftOf, runPoints}
-use Rattle.evaluation.specs.code.Running.{PointsRunnable, PricedTo, Runnable, TermsCosting, TermsRan}
+use Rattle.evaluation.specs.code.Running.{Fronted, PointsRunnable, PricedTo, Runnable, TermsCosting, TermsRan, stackSize}
 use Rattle.evaluation.specs.declared.Ran.{Ran}
 use Rattle.evaluation.specs.declared.Ran.the-variants.{Passed}
 use Rattle.evaluation.proofs.TermCosts.{known-at}
@@ -105,45 +106,74 @@ module _ {nodes bodies costs places sorts numbers : List ℕ} (e : PointsRunnabl
       abbrev pub numbersHere : List ℕ
       numbersHere = take (p * length sorts + length sorts - p * length sorts) (drop (p * length sorts) numbers)
 
+      -- There is one for each variable.
+      pub here-counted : length numbersHere ≡ length sorts
+      here-counted =
+          let from-here = drop (p * length sorts) numbers in
+          let n : p * length sorts + length sorts - p * length sorts ≡ length sorts = omega arith in
+          ap (λ (m : ℕ). length (take m from-here)) n
+          ∙ length-take-le (length sorts) from-here (omega (arith, point-within, length-drop (p * length sorts) numbers))
+
       -- They are those of its values.
-      pub point-names : Names numbersHere (pointAt sorts numbers p)
-      point-names =
+      here-are : numbersHere ≡ numbersIn (pointAt sorts numbers p)
+      here-are =
           let from-here = drop (p * length sorts) numbers in
           let n : p * length sorts + length sorts - p * length sorts ≡ length sorts = omega arith in
           let room : length sorts ≤ length from-here = omega (arith, point-within, length-drop (p * length sorts) numbers) in
-          rw (length-by sorts from-here, n, take-take (length sorts) (length sorts) from-here (le-refl _)) (sym (numbers-by sorts from-here room))
+          ap (λ (m : ℕ). take m from-here) n ∙ sym (numbers-by sorts from-here room)
+
+      -- It has as many values.
+      pub point-counted : length (pointAt sorts numbers p) ≡ length sorts
+      point-counted = length-by sorts (drop (p * length sorts) numbers)
+
+      -- There is room for them on a stack.
+      pub point-room : (stack : List ℕ) → length stack ≡ stackSize → length numbersHere ≤ length stack
+      point-room stack long = omega (arith, here-counted, e .few-variables, long)
+
+      -- The stack has them once they are put there.
+      pub point-names : {stack after : List ℕ} → Fronted stack after numbersHere → Names after 0 (pointAt sorts numbers p)
+      point-names {after = after} put =
+          ap (λ (m : ℕ). take m after) (point-counted ∙ sym here-counted) ∙ put .front ∙ here-are
+
+      -- There is room behind them.
+      pub run-room : (stack : List ℕ) → length stack ≡ stackSize → Room stack (length sorts) mostNodes (e .defs) (e .funs)
+      run-room stack long = omega (arith, e .few-variables, e .holds .defined-most, e .holds .functions-most, long)
 
       -- Its values are of their sorts.
       pub point-fits : AllFit (sortsIn (pointAt sorts numbers p)) (numbersIn (pointAt sorts numbers p))
       point-fits = rw (sorts-by sorts (drop (p * length sorts) numbers)) (e .fits p point-there)
 
       -- The terms can be run at the point.
-      abbrev pub point-runnable : {prices : List ℕ} → PricedTo nodes bodies costs places prices (length places)
-          → Runnable nodes bodies prices places numbersHere
-      point-runnable told =
+      abbrev pub point-runnable : {prices stack after : List ℕ} → PricedTo nodes bodies costs places prices (length places) → length stack ≡ stackSize
+          → Fronted stack after numbersHere → Runnable nodes bodies prices places after (length sorts)
+      point-runnable {after = after} told long put =
           record {
             defs = e .defs;
             funs = e .funs;
             holds = e .holds;
             point = pointAt sorts numbers p;
-            names = point-names;
+            names = point-names put;
+            under = omega (arith, point-counted);
+            room = run-room after (put .as-long ∙ long);
             fits = point-fits;
             terms = e .terms;
             terms-at = e .terms-at;
+            small = e .small;
             valued = e .valued p point-there;
             as-many = omega (arith, e .few, told .as-long);
             priced = λ k l t s c. told .each k l (costing t s c);
           }
 
-      module _ {prices : List ℕ} (told : PricedTo nodes bodies costs places prices (length places)) {ran : Ran} {passed : Bool}
-          (got : TermsRan nodes bodies prices places numbersHere p left ran) (passed-is : passed ≡ allPassed ran) where
+      module _ {prices stack after : List ℕ} (told : PricedTo nodes bodies costs places prices (length places)) (long : length stack ≡ stackSize)
+          (put : Fronted stack after numbersHere) {ran : Ran} {passed : Bool} (got : TermsRan nodes bodies prices places after (length sorts) p left ran)
+          (passed-is : passed ≡ allPassed ran) where
         -- What running them finds, by what was found at the point.
         found : cond (allPassed ran) (runs (pointCount (length sorts) (length numbers) - (p + 1)) (p + 1) (leftOf ran)) ran
             ≡ runs (pointCount (length sorts) (length numbers)) 0 budget
         unfolding runPoints
         found =
             let one : pointCount (length sorts) (length numbers) - p ≡ suc (pointCount (length sorts) (length numbers) - (p + 1)) = omega arith in
-            rw (one, ← got (point-runnable told)) at (r .so-far)
+            rw (one, ← got (point-runnable told long put)) at (r .so-far)
 
         -- A point at which not all are true ends the work.
         pub point-stopped : not passed ≡ true → ran ≡ runs (pointCount (length sorts) (length numbers)) 0 budget

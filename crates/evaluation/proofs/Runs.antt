@@ -6,29 +6,36 @@ use mathlib.Core.Bool.{true, false, cond}
 use mathlib.Core.List.{List, [], _∷_}
 use borrow.Author.Tests.{eq-eqb, le-leb, lt-leb, ne-eqb}
 use lib.Dec.{eqb, leb}
-use lib.ListN.{drop, getD, length}
+use lib.ListN.{drop, getD, length, take}
 use lib.Seq.{drop-length}
 use Rattle.forest.proofs.Lists.{drop-next}
+use Rattle.forest.specs.Limits.{mostNodes}
+use Rattle.forest.specs.code.Cursors.{size}
 use Rattle.terms.specs.Costs.{costOf}
 use Rattle.terms.specs.Labels.{Terms}
 use Rattle.terms.specs.Values.{valuesAt}
 use Rattle.terms.specs.declared.Value.{Value}
 use Rattle.evaluation.specs.code.Budget.{held}
-use Rattle.evaluation.specs.code.Evaluator.{Evaluable, Evaluated}
+use Rattle.evaluation.specs.code.Evaluator.{Evaluable, Evaluated, Names, Room}
 use Rattle.evaluation.specs.code.Tables.{CallsKnown, TermStands}
 use Rattle.evaluation.specs.Running.{isTrue, runTerms}
-use Rattle.evaluation.specs.code.Running.{AllValued, HasTruth, Runnable, TermsAt}
+use Rattle.evaluation.specs.code.Running.{AllValued, HasTruth, Runnable, SmallTerms, TermsAt}
 use Rattle.evaluation.specs.declared.Ran.{Ran}
 use Rattle.evaluation.specs.declared.Ran.the-variants.{Ended, False, Passed}
 use Rattle.evaluation.proofs.ValuedTrees.{calls-known}
+use Rattle.evaluation.proofs.Stack.{below-same}
 use Rattle.evaluation.proofs.Sums.{cost-some}
 
--- What is to be run before term k, with `left` of the budget, is what was to be run.
-pub record TermsLeft {nodes bodies prices places env : List ℕ} (e : Runnable nodes bodies prices places env) (p budget left k : ℕ) : Type 0 where
+-- What is to be run before term k, with `left` of the budget, is what was to be run; the stack has the point's values as at the start.
+pub record TermsLeft {nodes bodies prices places stack : List ℕ} {width : ℕ} (e : Runnable nodes bodies prices places stack width) (now : List ℕ)
+    (p budget left k : ℕ) : Type 0 where
+  pub kept : take width now ≡ take width stack
+  pub as-long : length now ≡ length stack
   pub inside : k ≤ length places
   pub later : List Terms
   pub at : TermsAt (e .holds .all) (drop k places) later
   pub valued : AllValued (e .defs) (e .funs) (e .point) later
+  pub small : SmallTerms later
   pub so-far : runTerms (e .defs) (e .funs) (e .point) later p k left ≡ runTerms (e .defs) (e .funs) (e .point) (e .terms) p 0 budget
 
 -- A term stands at the first node of a list, and others at the rest.
@@ -51,12 +58,22 @@ unfolding TermsAt
 none-left all [] h = refl
 none-left all (t ∷ ts) h = absurd h
 
-module _ {nodes bodies prices places env : List ℕ} (e : Runnable nodes bodies prices places env) (p budget : ℕ) where
+module _ {nodes bodies prices places stack : List ℕ} {width : ℕ} (e : Runnable nodes bodies prices places stack width) (p budget : ℕ) where
   -- At the start all terms are.
-  pub terms-start : TermsLeft e p budget budget 0
-  terms-start = record { inside = omega arith; later = e .terms; at = e .terms-at; valued = e .valued; so-far = refl }
+  pub terms-start : TermsLeft e stack p budget budget 0
+  terms-start =
+      record {
+        kept = refl;
+        as-long = refl;
+        inside = omega arith;
+        later = e .terms;
+        at = e .terms-at;
+        valued = e .valued;
+        small = e .small;
+        so-far = refl;
+      }
 
-  module _ {left k : ℕ} (r : TermsLeft e p budget left k) where
+  module _ {now : List ℕ} {left k : ℕ} (r : TermsLeft e now p budget left k) where
     -- Past the last term all are true.
     pub terms-end : length places ≤ k → Passed left ≡ runTerms (e .defs) (e .funs) (e .point) (e .terms) p 0 budget
     unfolding runTerms
@@ -75,6 +92,19 @@ module _ {nodes bodies prices places env : List ℕ} (e : Runnable nodes bodies 
       values : HasTruth (e .defs) (e .funs) (e .point) (the-first .t) × AllValued (e .defs) (e .funs) (e .point) (the-first .others)
       unfolding AllValued
       values = rw (the-first .is) at (r .valued)
+
+      -- Term k is small, and so are those behind it.
+      smalls : (size (the-first .t) ≤ mostNodes) × SmallTerms (the-first .others)
+      unfolding SmallTerms
+      smalls = rw (the-first .is) at (r .small)
+
+      -- The stack has the values of its names.
+      pub the-names : Names now 0 (e .point)
+      the-names = below-same (length (e .point)) 0 width now stack (omega (arith, e .under)) (r .kept) ∙ e .names
+
+      -- It has room for the term.
+      pub the-room : Room now width (size (the-first .t)) (e .defs) (e .funs)
+      the-room = omega (arith, e .room, r .as-long, smalls .0)
 
       -- It has a value.
       pub the-value : HasTruth (e .defs) (e .funs) (e .point) (the-first .t)
@@ -116,43 +146,52 @@ module _ {nodes bodies prices places env : List ℕ} (e : Runnable nodes bodies 
         within-budget = omega (arith, price-is, some-cost)
 
         -- It can be evaluated.
-        abbrev pub term-evaluable : Evaluable nodes bodies env (getD places k 0) left
+        abbrev pub term-evaluable : Evaluable nodes bodies now 0 width (getD places k 0) left
         term-evaluable =
             record {
               defs = e .defs;
               funs = e .funs;
               holds = e .holds;
               point = e .point;
-              names = e .names;
+              names = the-names;
+              under = omega (arith, e .under);
               fits = e .fits;
               t = the-first .t;
               stands = the-first .stands;
               v = the-value .v;
               has = the-value .is;
               cost = within-budget;
+              room = the-room;
             }
 
         -- What is left once it is evaluated.
         after : left - getD prices k 0 - 1 ≡ left - costOf (e .defs) (e .funs) (the-first .t)
         after = omega (arith, price-is, some-cost)
 
-        module _ {v : Value} (got : Evaluated nodes bodies env (getD places k 0) left v) where
+        module _ {next : List ℕ} {v : Value} (got : Evaluated nodes bodies now next 0 width (getD places k 0) left v) where
           -- Whether it is true is whether its number is 1.
           truth : isTrue (valuesAt (e .defs) (e .funs) (e .point) (the-first .t)) ≡ eqb (v .number) 1
           unfolding isTrue
-          truth = rw (the-value .is, the-value .truth, got term-evaluable)
+          truth = rw (the-value .is, the-value .truth, got term-evaluable .is)
+
+          -- The stack is as long as before.
+          pub next-long : length next ≡ length stack
+          next-long = got term-evaluable .as-long ∙ r .as-long
 
           -- A false one ends the work, and is counted.
           pub term-false : (v .number ≡ 1 → ⊥) → False p k (left - getD prices k 0 - 1) ≡ runTerms (e .defs) (e .funs) (e .point) (e .terms) p 0 budget
           term-false q = rw after (rw (le-leb _ left within-budget, truth ∙ ne-eqb (v .number) 1 q) at found-is)
 
           -- Past a true one the terms behind it are run.
-          pub term-true : v .number ≡ 1 → TermsLeft e p budget (left - getD prices k 0 - 1) (k + 1)
+          pub term-true : v .number ≡ 1 → TermsLeft e next p budget (left - getD prices k 0 - 1) (k + 1)
           term-true q =
               record {
+                kept = got term-evaluable .kept ∙ r .kept;
+                as-long = next-long;
                 inside = omega arith;
                 later = the-first .others;
                 at = the-first .at;
                 valued = values .1;
+                small = smalls .1;
                 so-far = rw after (rw (le-leb _ left within-budget, truth ∙ eq-eqb (v .number) 1 q) at found-is);
               }

@@ -67,7 +67,7 @@ module _ (defs funs : List Definition) (point : List Value) where
       → labelValue (record { names = point; defined = definedValue defs; functions = functionValue defs funs }) l vs ≡ some v
       → Callable (length defs) (length funs) l
   unfolding labelValue
-  label-known (literal s v w) vs h = tt
+  label-known (literal s v) vs h = tt
   label-known (name s k) vs h = tt
   label-known (operator o i j) vs h = tt
   label-known (defined k) vs h = defined-known defs k vs h

@@ -3,7 +3,7 @@ use Prim.Native.Nat.{ℕ, zero, suc, _+_, _<_}
 use Prim.Native.String.{String}
 use native.Mathlib.Omega.{arith}
 use mathlib.Core.Path.{_≡_, refl, sym, ap, ap₂, _∙_}
-use mathlib.Core.Bool.{Bool, true, false, _&&_, _||_}
+use mathlib.Core.Bool.{Bool, true, false, _&&_, _||_, cond}
 use mathlib.Core.List.{List, [], _∷_, map}
 use lib.Dec.{eqb, leb, ltb}
 use borrow.Author.Tests.{eq-eqb, eqb-false, eqb-true, le-leb, le-ltb, leb-false, leb-true, lt-leb, lt-ltb, ltb-true, ne-eqb}
@@ -12,17 +12,19 @@ use Rattle.forest.specs.Lists.{among, sameBytes}
 use Rattle.forest.proofs.Bools.{and-left, and-right}
 use Rattle.forest.proofs.Lists.{amongAfter, one-by-one}
 use Rattle.words.specs.Trees.{Lexeme, list, literal, numeral, symbol}
+use Rattle.word_kinds.specs.Decimals.{isDecimal, isLong}
+use Rattle.word_kinds.specs.Kinds.{allIn}
 use Rattle.operators.specs.Operators.{operators}
 use Rattle.lexemes.specs.Reserved.{isOneOf, isWord}
-use Rattle.lexemes.specs.code.Codes.{firstCode, knownCount}
+use Rattle.lexemes.specs.code.Codes.{firstCode, knownCount, longDecimalCode, otherCode}
 use Rattle.lexemes.specs.code.Reserved.{knownWords, placeAmong, wordNumber}
-use Rattle.lexemes.proofs.Numbers.{by-number, isKnown, numberOf}
-use Rattle.lexemes.specs.Lists.{Items, after, is, isAmong, isList, isNumeral, isSymbol, item, nameOf}
-use Rattle.lexemes.specs.code.Table.{closeCode, codeOf, literalCode, numeralCode, openCode}
+use Rattle.lexemes.proofs.Numbers.{by-number, isKnown, numberOf, place-low}
+use Rattle.lexemes.specs.Lists.{Items, after, is, isAmong, isConstantWord, isList, isNumeral, isSymbol, item, nameOf}
+use Rattle.lexemes.specs.code.Table.{closeCode, codeOf, literalCode, numeralCode, openCode, symbolCode}
 
 -- the code of a known word; where this unfolds it computes
 unfoldable pub codeFor : String → ℕ
-unfolding knownWords operators placeAmong sameBytes wordNumber
+unfolding allIn isDecimal knownWords operators placeAmong sameBytes wordNumber
 codeFor word = firstCode + numberOf word
 
 pub code-for : (word : String) → codeFor word ≡ firstCode + numberOf word
@@ -30,7 +32,7 @@ unfolding codeFor
 code-for word = refl
 
 nothing-known : wordNumber [] ≡ knownCount
-unfolding knownWords operators placeAmong sameBytes wordNumber
+unfolding allIn isDecimal knownWords operators placeAmong sameBytes wordNumber
 nothing-known = refl
 
 known-below : (word : String) → isKnown word ≡ true → numberOf word < knownCount
@@ -54,7 +56,8 @@ no-word word k c h =
 
 -- an item is a known word just when it has the word's code
 pub word-code : (word : String) → isKnown word ≡ true → (l : Lexeme) → is word l ≡ eqb (codeOf l) (codeFor word)
-word-code word k (symbol at name) = by-number word k name ∙ same-codes (wordNumber name) (numberOf word) ∙ ap (eqb (firstCode + wordNumber name)) (sym (code-for word))
+word-code word k (symbol at name) =
+    by-number word k name ∙ same-codes (wordNumber name) (numberOf word) ∙ ap (eqb (firstCode + wordNumber name)) (sym (code-for word))
 word-code word k (list at close) = no-word word k openCode (omega arith)
 word-code word k (numeral at v) = no-word word k numeralCode (omega arith)
 word-code word k (literal at width v written) = no-word word k literalCode (omega arith)
@@ -107,6 +110,37 @@ by-front p q same past (suc n) (tree l ops more) = by-front p q same past n more
 
 pub front-word : (word : String) → isKnown word ≡ true → (n : ℕ) (F : Items) → is word (item n F) ≡ eqb (frontCode (after n F)) (codeFor word)
 front-word word k = by-front (is word) (λ (c : ℕ). eqb c (codeFor word)) (word-code word k) (no-word word k closeCode (omega arith))
+
+-- no bytes are no constant's word
+no-constant : isDecimal [] ≡ false
+unfolding isDecimal
+no-constant = refl
+
+-- whether an item is a constant's word, by its code
+pub constant-code : (l : Lexeme) → isConstantWord l ≡ ltb otherCode (codeOf l)
+unfolding knownWords operators wordNumber
+constant-code (symbol at name) = go (isDecimal name) refl (isLong name)
+  where
+    go : (d : Bool) → isDecimal name ≡ d → (long : Bool)
+        → d ≡ ltb otherCode (firstCode + cond d (knownCount + cond long 2 1) (placeAmong knownWords 0 name))
+    go true e true = refl
+    go true e false = refl
+    go false e long = sym (le-ltb otherCode (firstCode + placeAmong knownWords 0 name) (omega (arith, place-low name)))
+constant-code (list at close) = no-constant
+constant-code (numeral at v) = no-constant
+constant-code (literal at width v written) = no-constant
+
+pub front-constant : (n : ℕ) (F : Items) → isConstantWord (item n F) ≡ ltb otherCode (frontCode (after n F))
+front-constant = by-front isConstantWord (ltb otherCode) constant-code no-constant
+
+-- whether it has too many digits
+pub long-code : (name : List ℕ) → isDecimal name ≡ true → isLong name ≡ eqb (symbolCode name) longDecimalCode
+unfolding knownWords operators wordNumber
+long-code name e = rw e (go (isLong name))
+  where
+    go : (long : Bool) → long ≡ eqb (firstCode + (knownCount + cond long 2 1)) longDecimalCode
+    go true = refl
+    go false = refl
 
 -- whether all of the words are known
 abbrev pub allKnown : List String → Bool

@@ -10,13 +10,15 @@ use lib.ListN.{length, getD}
 use borrow.Author.Tests.{eq-eqb, eqb-true, eqb-false, lt-ltb, ltb-true}
 use Rattle.forest.specs.Lists.{sameBytes, spelling}
 use Rattle.forest.proofs.Bools.{and-left, and-right, apart, each}
+use Rattle.word_kinds.specs.Decimals.{isDecimal, isLong}
+use Rattle.word_kinds.specs.Kinds.{allIn}
 use Rattle.operators.specs.Operators.{operators}
 use Rattle.lexemes.specs.Reserved.{isWord}
 use Rattle.lexemes.specs.code.Codes.{knownCount}
 use Rattle.lexemes.specs.code.Reserved.{knownWords, placeAmong, wordNumber}
 
 -- lists of bytes that are the same are equal
-same-bytes : (u v : List ℕ) → sameBytes u v ≡ true → u ≡ v
+pub same-bytes : (u v : List ℕ) → sameBytes u v ≡ true → u ≡ v
 unfolding sameBytes
 same-bytes [] [] e = refl
 same-bytes [] (b ∷ v) e = apart e
@@ -37,6 +39,20 @@ place-from (w ∷ more) k name = go (isWord w name) (place-from more (k + 1) nam
     go : (here : Bool) → k + 1 ≤ placeAmong more (k + 1) name → k ≤ cond here k (placeAmong more (k + 1) name)
     go true h = omega arith
     go false h = omega arith
+
+-- and not past the last of the words
+place-within : (words : List String) (k : ℕ) (name : List ℕ) → placeAmong words k name ≤ k + length words
+unfolding placeAmong
+place-within [] k name = omega arith
+place-within (w ∷ more) k name = go (isWord w name) (place-within more (k + 1) name)
+  where
+    go : (here : Bool) → placeAmong more (k + 1) name ≤ k + 1 + length more → cond here k (placeAmong more (k + 1) name) ≤ k + suc (length more)
+    go true h = omega arith
+    go false h = omega arith
+
+pub place-low : (name : List ℕ) → placeAmong knownWords 0 name ≤ knownCount
+unfolding knownWords operators
+place-low name = place-within knownWords 0 name
 
 -- names that have one place are equal
 same-place : (words : List String) (k : ℕ) (u v : List ℕ) → placeAmong words k u ≡ placeAmong words k v → placeAmong words k v < k + length words → u ≡ v
@@ -65,9 +81,18 @@ numberOf word = wordNumber (spelling word)
 abbrev pub isKnown : String → Bool
 isKnown word = ltb (numberOf word) (length knownWords)
 
+-- a name that has a known word's number is no constant's word, and its number is its place
+placed : (name : List ℕ) → wordNumber name < length knownWords → wordNumber name ≡ placeAmong knownWords 0 name
+unfolding wordNumber
+placed name h = go (isDecimal name) h
+  where
+    go : (d : Bool) → cond d (length knownWords + cond (isLong name) 2 1) (placeAmong knownWords 0 name) < length knownWords
+        → cond d (length knownWords + cond (isLong name) 2 1) (placeAmong knownWords 0 name) ≡ placeAmong knownWords 0 name
+    go true h = absurd (omega arith)
+    go false h = refl
+
 -- a name is a known word just when it has the word's number
 pub by-number : (word : String) → isKnown word ≡ true → (name : List ℕ) → isWord word name ≡ eqb (wordNumber name) (numberOf word)
-unfolding wordNumber
 by-number word known name = go (isWord word name) refl (eqb (wordNumber name) (numberOf word)) refl
   where
     go : (a : Bool) → isWord word name ≡ a → (b : Bool) → eqb (wordNumber name) (numberOf word) ≡ b → a ≡ b
@@ -76,7 +101,10 @@ by-number word known name = go (isWord word name) refl (eqb (wordNumber name) (n
     go true ea false eb = absurd (eqb-false _ _ eb (ap wordNumber (sym (same-bytes _ name ea))))
     go false ea true eb =
         let below = ltb-true (numberOf word) (length knownWords) known in
-        let e : name ≡ spelling word = same-place knownWords 0 name (spelling word) (eqb-true _ _ eb) (omega arith) in
+        let same : wordNumber name ≡ numberOf word = eqb-true _ _ eb in
+        let here = placed name (omega arith) in
+        let there = placed (spelling word) below in
+        let e : name ≡ spelling word = same-place knownWords 0 name (spelling word) (sym here ∙ same ∙ there) (omega arith) in
         sym ea ∙ ap (isWord word) e ∙ same-self (spelling word)
 
 -- known word k
@@ -85,7 +113,7 @@ wordAt k = getD knownWords k ""
 
 -- no two known words are the same: each has the number of its place
 pub number-at : (k : ℕ) → k < knownCount → numberOf (wordAt k) ≡ k
-unfolding knownWords operators placeAmong sameBytes wordNumber
+unfolding allIn isDecimal knownWords operators placeAmong sameBytes wordNumber
 number-at k h = eqb-true _ _ (each knownCount (λ (j : ℕ). eqb (numberOf (wordAt j)) j) tt k h)
 
 -- a name is known word k just when its number is k

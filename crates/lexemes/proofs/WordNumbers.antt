@@ -1,20 +1,23 @@
 -- The number of a word, by the search through the words before the operators and the search through the operators.
-use Prim.Native.Nat.{ℕ, _+_, _≤_, _<_}
+use Prim.Native.Nat.{ℕ, _+_, _-_, _≤_, _<_}
+use native.Mathlib.Omega.{arith}
 use Prim.Native.String.{String}
 use mathlib.Core.Path.{_≡_, refl, sym, _∙_}
-use mathlib.Core.Bool.{cond}
+use mathlib.Core.Bool.{Bool, true, false, cond}
 use mathlib.Core.List.{List, [], _∷_, _++_, map}
 use lib.Dec.{ltb}
 use borrow.Author.Tests.{le-ltb, lt-ltb}
 use Rattle.forest.specs.Lists.{spelling}
 use Rattle.forest.specs.Search.{placeIn}
 use Rattle.forest.specs.code.Search.{wordsIn}
-use Rattle.forest.proofs.Searching.{joined, place-append, place-bound, place-later, startsOf, words-are}
+use Rattle.forest.proofs.Searching.{joined, place-append, place-later, startsOf, words-are}
+use Rattle.word_kinds.specs.Decimals.{isDecimal, isLong}
 use Rattle.operators.specs.Operators.{operatorOf, operators}
 use Rattle.operators.proofs.Naming.{named-spellings, spellings}
 use Rattle.lexemes.specs.Reserved.{carriedCommands, otherCommands, otherWords}
-use Rattle.lexemes.specs.code.Codes.{knownCount, wordsBefore}
+use Rattle.lexemes.specs.code.Codes.{decimalCode, firstCode, knownCount, longDecimalCode, wordsBefore}
 use Rattle.lexemes.specs.code.Reserved.{knownWords, placeAmong, unreservedWords, wordNumber}
+use Rattle.lexemes.proofs.Numbers.{place-low}
 
 -- the words before the operators
 abbrev pub firstWords : List String
@@ -30,18 +33,34 @@ unfolding placeAmong placeIn
 among-spellings [] k name = refl
 among-spellings (w ∷ words) k name = rw (among-spellings words (k + 1) name)
 
--- no word's number is past the last of the words
-pub number-bound : (name : List ℕ) {number : ℕ} → number ≡ wordNumber name → number ≤ knownCount
+-- no word's number is more than two past the last of the words
+pub number-bound : (name : List ℕ) {number : ℕ} → number ≡ wordNumber name → number ≤ knownCount + 2
 unfolding wordNumber knownWords operators
-number-bound name e = rw (e, among-spellings knownWords 0 name) (place-bound (map spelling knownWords) 0 name)
+number-bound name e = rw e (go (isDecimal name) (isLong name) (place-low name))
+  where
+    go : (d long : Bool) {place : ℕ} → place ≤ knownCount → cond d (knownCount + cond long 2 1) place ≤ knownCount + 2
+    go true true h = omega arith
+    go true false h = omega arith
+    go false long h = omega arith
 
-module _ (name : List ℕ) (place : ℕ) (found : place ≡ placeIn (wordsIn (joined firstSpellings) (startsOf firstSpellings)) 0 name) where
+-- the word of a constant
+module _ (name : List ℕ) {d long : Bool} (decimal : d ≡ isDecimal name) (digits : long ≡ isLong name) (is : d ≡ true) where
+  pub number-long : long ≡ true → longDecimalCode - firstCode ≡ wordNumber name
+  unfolding wordNumber knownWords operators
+  number-long h = rw (sym decimal ∙ is, sym digits ∙ h)
+
+  pub number-decimal : long ≡ false → decimalCode - firstCode ≡ wordNumber name
+  unfolding wordNumber knownWords operators
+  number-decimal h = rw (sym decimal ∙ is, sym digits ∙ h)
+
+module _ (name : List ℕ) {d : Bool} (decimal : d ≡ isDecimal name) (is : d ≡ false) (place : ℕ)
+    (found : place ≡ placeIn (wordsIn (joined firstSpellings) (startsOf firstSpellings)) 0 name) where
   -- the two searches, one after the other
   number-parts : wordNumber name ≡ cond (ltb place wordsBefore) place (placeIn (spellings operators) wordsBefore name)
   unfolding wordNumber knownWords operators
   number-parts =
       let first : placeIn firstSpellings 0 name ≡ place = sym (found ∙ rw (words-are firstSpellings)) in
-      among-spellings knownWords 0 name ∙ place-append firstSpellings (spellings operators) 0 name ∙ rw first
+      rw (sym decimal ∙ is) (among-spellings knownWords 0 name ∙ place-append firstSpellings (spellings operators) 0 name ∙ rw first)
 
   -- the word is one of those before the operators
   pub number-first : place < wordsBefore → place ≡ wordNumber name

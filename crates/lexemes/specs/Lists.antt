@@ -5,6 +5,7 @@ use mathlib.Core.Bool.{Bool, true, false, _&&_}
 use mathlib.Core.List.{List, []}
 use lib.Dec.{eqb}
 use Rattle.forest.specs.Forest.{Forest, count, none, tree}
+use Rattle.word_kinds.specs.Decimals.{isDecimal}
 use Rattle.words.specs.Trees.{Lexeme, list, literal, numeral, symbol, treesFrom}
 use Rattle.lexemes.specs.Reserved.{isOneOf, isWord}
 use lib.ListN.{length}
@@ -87,9 +88,21 @@ unfoldable pub allNumerals : Items → Bool
 allNumerals none = true
 allNumerals (tree l ops more) = isNumeral l && allNumerals more
 
+-- Whether items are `_`, a word that passes the test, and n numerals.
+abbrev pub indexedBy : (test : Lexeme → Bool) → (n : ℕ) → Items → Bool
+indexedBy test n items = is "_" (item 0 items) && test (item 1 items) && eqb (count (after 2 items)) n && allNumerals (after 2 items)
+
 -- Whether items are `_`, the word, and n numerals: "`(_ BitVec n)`", "`(_ extract i j)`".
 abbrev pub indexed : String → (n : ℕ) → Items → Bool
-indexed word n items = is "_" (item 0 items) && is word (item 1 items) && eqb (count (after 2 items)) n && allNumerals (after 2 items)
+indexed word n items = indexedBy (is word) n items
+
+-- Whether an item is the word `bvN` of a constant.
+abbrev pub isConstantWord : Lexeme → Bool
+isConstantWord l = isDecimal (nameOf l)
+
+-- Whether items are `_`, such a word, and a numeral: "Carry `(_ bv15 8)` too" (E3).
+abbrev pub isConstant : Items → Bool
+isConstant items = indexedBy isConstantWord 1 items
 
 -- The items of a text: its words in their lists.
 unfoldable pub itemsOf : (text : List ℕ) → Items

@@ -51,5 +51,10 @@ pub const FIRST_OPERATOR: u64 = VARIABLE + 1;
 
 pub const EXTRACT: u64 = FIRST_OPERATOR + operators::operators::EXTRACT as u64;
 
-// Any other symbol.
+// Any other symbol, but for the words of constants.
 pub const OTHER: u64 = FIRST_OPERATOR + OPERATORS as u64;
+
+// The word `bvN` of a constant `(_ bvN n)`, and one of too many digits.
+pub const DECIMAL: u64 = OTHER + 1;
+
+pub const LONG_DECIMAL: u64 = DECIMAL + 1;

@@ -1,13 +1,22 @@
 //! Reserved words: the number of a symbol among the words that the reader tells apart.
 use crate::SYMBOL;
+use crate::codes::DECIMAL;
 use crate::codes::FIRST_OPERATOR;
+use crate::codes::LONG_DECIMAL;
 use forest::search::find_word;
 use operators::operators::operator_of;
+use word_kinds::decimals::is_decimal;
+use word_kinds::decimals::is_long;
 ghost use mathlib.Core.Path.{_≡_};
 ghost use Rattle.lexemes.specs.code.Reserved.{wordNumber};
 
 // How many words there are before the operators.
 const BEFORE_OPERATORS: usize = (FIRST_OPERATOR - SYMBOL) as usize;
+
+// The number of the word of a constant, and of one of too many digits.
+const CONSTANT: usize = (DECIMAL - SYMBOL) as usize;
+
+const LONG_CONSTANT: usize = (LONG_DECIMAL - SYMBOL) as usize;
 
 // The words before the operators, one after the other.
 const NAMES: [u8; 504] =
@@ -63,10 +72,16 @@ const STARTS: [usize; BEFORE_OPERATORS + 1] = [
     504,
 ];
 
-// The number of a symbol among the known words; past the last of them where it is none.
+// The number of a symbol among the known words; past the last of them where it is none, and beyond that for the word of a constant.
 pub fn word_number(word: &[u8]) -> usize
     ensures { λ r. ⌜ r ≡ wordNumber (now (word .entry)) ⌝ }
 {
+    if is_decimal(word) {
+        if is_long(word) {
+            return LONG_CONSTANT;
+        }
+        return CONSTANT;
+    }
     let place = find_word(&NAMES, &STARTS, word);
     if place < BEFORE_OPERATORS {
         return place;

@@ -1,14 +1,15 @@
 pub mod Names
 pub mod NamePut
-pub mod Digits
 pub mod Lookup
 pub mod Symbols
 pub mod Bytes
 pub mod Patterns
 pub mod ByWords
+pub mod Constants
 pub mod NodeTurns
 pub mod PairNames
 pub mod Members
 pub mod NewNameTested
 pub mod Pair
 pub mod PairTurns
+pub mod Alike

@@ -38,7 +38,7 @@ named-append [] others n = refl
 named-append (m ∷ more) others n = rw (named-append more others n) (sym (or-assoc (sameBytes m n) (isNamed more n) (isNamed others n)))
 
 -- The order of names does not matter.
-named-in-order : (names : List (List ℕ)) (n : List ℕ) → isNamed (inOrder names) n ≡ isNamed names n
+pub named-in-order : (names : List (List ℕ)) (n : List ℕ) → isNamed (inOrder names) n ≡ isNamed names n
 unfolding isNamed inOrder
 named-in-order [] n = refl
 named-in-order (m ∷ earlier) n =

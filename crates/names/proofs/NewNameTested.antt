@@ -12,6 +12,8 @@ use Rattle.forest.specs.Forest.{none, tree}
 use Rattle.forest.specs.Lists.{sameBytes}
 use Rattle.forest.proofs.Bools.{apart}
 use Rattle.operators.specs.Operators.{Operator, operatorCount, operators}
+use Rattle.word_kinds.specs.Decimals.{isDecimal}
+use Rattle.word_kinds.specs.Kinds.{allIn}
 use Rattle.lexemes.specs.Reserved.{carriedCommands, isOneOf, isReserved, isWord, otherCommands, otherWords, reservedWords}
 use Rattle.lexemes.specs.code.Reserved.{knownWords, placeAmong, wordNumber}
 use Rattle.words.specs.Trees.{Lexeme, list, literal, numeral, symbol, wordOf}
@@ -55,7 +57,7 @@ two-ranges n = go (leb firstOperatorCode n) refl
 
 -- Whether a name is reserved, by its code.
 reserved-code : (name : List ℕ) → isReserved name ≡ leb setLogicCode (symbolCode name) && ltb (symbolCode name) otherCode
-unfolding codeFor isReserved item knownWords operators placeAmong reservedWords sameBytes wordNumber
+unfolding allIn codeFor isDecimal isReserved item knownWords operators placeAmong reservedWords sameBytes wordNumber
 reserved-code name =
     let F : Items = tree (symbol 0 name) none none in
     one-of-both operatorWords commandWords name

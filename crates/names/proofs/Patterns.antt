@@ -13,6 +13,8 @@ use Rattle.forest.specs.Lists.{sameBytes, spelling}
 use Rattle.forest.proofs.Bools.{and-left, and-right, apart}
 use Rattle.operators.specs.Operators.{operators}
 use Rattle.words.specs.Trees.{Lexeme, list, literal, numeral, symbol}
+use Rattle.word_kinds.specs.Decimals.{isDecimal}
+use Rattle.word_kinds.specs.Kinds.{allIn}
 use Rattle.lexemes.specs.Reserved.{isWord}
 use Rattle.lexemes.specs.code.Reserved.{knownWords, placeAmong, wordNumber}
 use Rattle.lexemes.specs.Lists.{Items, after, allNumerals, indexed, is, isList, isSymbol, item, numeralOf}
@@ -96,11 +98,11 @@ sort-is {i = i} (bracketed b inner rest) shape =
 
 -- A test as a number.
 constant-code : symbolCode (spelling "Constant") ≡ constantCode
-unfolding knownWords operators placeAmong sameBytes wordNumber
+unfolding allIn isDecimal knownWords operators placeAmong sameBytes wordNumber
 constant-code = refl
 
 variable-code : symbolCode (spelling "Variable") ≡ variableCode
-unfolding knownWords operators placeAmong sameBytes wordNumber
+unfolding allIn isDecimal knownWords operators placeAmong sameBytes wordNumber
 variable-code = refl
 
 -- The code of the word that says which of the two it is.

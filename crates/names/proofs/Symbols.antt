@@ -126,8 +126,8 @@ module _ (name : List ℕ) {code : ℕ} (coded : code ≡ symbolCode name) where
     where
       go : (t : Bool) → isWord "true" name ≡ t → (f : Bool) → isWord "false" name ≡ f → t || f ≡ true
           → SymbolMeans view name (record { known = true; code = codeWith literalKind 0; value = boolByte t })
-      go true et f ef h = stands-for (the (literal 0 1 0)) (rw et) (rw et)
-      go false et true ef h = stands-for (the (literal 0 0 0)) (rw (et, ef)) (rw (et, ef))
+      go true et f ef h = stands-for (the (literal 0 1)) (rw et) (rw et)
+      go false et true ef h = stands-for (the (literal 0 0)) (rw (et, ef)) (rw (et, ef))
       go false et false ef h = apart h
 
   module _ (no-literal : eqb code trueCode || eqb code falseCode ≡ false) where

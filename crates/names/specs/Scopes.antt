@@ -1,6 +1,6 @@
 -- Names in scope, and what they stand for.
 use Rattle.forest.specs.Search.{placeIn}
-use Prim.Native.Nat.{ℕ, _+_}
+use Prim.Native.Nat.{ℕ, _+_, _^_}
 use mathlib.Core.Bool.{Bool, true, false, cond, _&&_, _||_}
 use mathlib.Core.List.{List, [], _∷_, _++_, map}
 use mathlib.Core.Option.{Option, none as nothing, some}
@@ -8,13 +8,14 @@ use lib.Dec.{leb, ltb}
 use lib.ListN.{getD}
 use Rattle.forest.specs.Forest.{Forest, none, tree}
 use Rattle.forest.specs.Lists.{sameBytes, spelling}
+use Rattle.word_kinds.specs.Decimals.{decimalValue}
 use Rattle.operators.specs.Operators.{operatorCount, operatorOf}
 use Rattle.operators.specs.Sorts.{maxWidth}
 use Rattle.terms.specs.Labels.{defined, function, literal, name, operator}
 use Rattle.terms.specs.Sorts.{Definition, Signature}
 use Rattle.derivation.specs.Derivation.{Grammar, Item, anyArgument, anyLiteral, nonTerminal, the}
 use Rattle.lexemes.specs.Reserved.{isReserved, isWord}
-use Rattle.term_nodes.specs.Terms.{Raw, constant, cut, number, pattern, word}
+use Rattle.term_nodes.specs.Terms.{Raw, constant, cut, decimal, number, pattern, word}
 use Rattle.written_sorts.specs.Written.{sortOf}
 
 -- A variable, an argument or a non-terminal: its name and its sort.
@@ -94,8 +95,8 @@ isKnown view n = isWord "true" n || isWord "false" n || ltb (operatorOf n) opera
 -- What a symbol stands for in a term: a literal, an operator, or a name that is seen; nothing for any other, and for `extract` without its numbers.
 unfoldable pub symbolMeans : View → (n : List ℕ) → Option Item
 symbolMeans view n =
-    cond (isWord "true" n) (some (the (literal 0 1 0)))
-    (cond (isWord "false" n) (some (the (literal 0 0 0)))
+    cond (isWord "true" n) (some (the (literal 0 1)))
+    (cond (isWord "false" n) (some (the (literal 0 0)))
     (cond (ltb (operatorOf n) operatorCount) (cond (isWord "extract" n) nothing (some (the (operator (operatorOf n) 0 0))))
     (cond (isNamed (namesOf (view .names)) n) (some (the (name (getD (namedSorts (view .names)) k 0) k)))
     (cond (isNamed (definedNames (view .defined)) n) (some (the (defined (placeIn (inOrder (definedNames (view .defined))) 0 n))))
@@ -107,11 +108,14 @@ symbolMeans view n =
     k = placeIn (namesOf (view .names)) 0 n
 
 -- What a node stands for; a numeral stands for nothing ("a numeral as a term is 8"), and so does `(_ extract i j)` where not j ≤ i < 64: "where j ≤ i < n (else
--- 8)", of which n, the operand's width, is the sort rule's.
+-- 8)", of which n, the operand's width, is the sort rule's; and a constant `(_ bvN n)` beyond its width: "a numeral .. below 2^n, else answer 8, and n keeps a
+-- sort's range (0 is answer 8, above 64 answer 4)" (E3).
 abbrev pub means : View → Raw → Option Item
 means view (word at head n) = symbolMeans view n
 means view (number at v) = nothing
-means view (constant at width v written) = some (the (literal width v written))
+means view (constant at width v) = some (the (literal width v))
+means view (decimal at head n width) =
+    cond (leb 1 width && leb width maxWidth && ltb (decimalValue n) (2 ^ width)) (some (the (literal width (decimalValue n)))) nothing
 means view (cut at head i j) = cond (leb j i && ltb i maxWidth) (some (the (operator (operatorOf (spelling "extract")) i j))) nothing
 means view (pattern at c s held) = some (cond c (anyLiteral (sortOf s held)) (anyArgument (sortOf s held)))
 

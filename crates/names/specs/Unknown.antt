@@ -3,7 +3,7 @@ use Prim.Native.Nat.{ℕ, min}
 use mathlib.Core.Bool.{cond}
 use mathlib.Core.List.{List, [], _∷_}
 use Rattle.forest.specs.Forest.{Node}
-use Rattle.term_nodes.specs.Terms.{Raw, constant, cut, number, pattern, word}
+use Rattle.term_nodes.specs.Terms.{Raw, constant, cut, decimal, number, pattern, word}
 use Rattle.written_sorts.specs.Written.{sortPlace}
 use Rattle.written_sorts.specs.declared.Fault.the-variants.{Unknown}
 use Rattle.names.specs.Scopes.{View, isKnown}
@@ -12,7 +12,8 @@ use Rattle.names.specs.Scopes.{View, isKnown}
 abbrev pub unknownAt : (nowhere : ℕ) → View → Raw → ℕ
 unknownAt nowhere view (word at head n) = cond (isKnown view n) nowhere head
 unknownAt nowhere view (number at v) = nowhere
-unknownAt nowhere view (constant at width v written) = nowhere
+unknownAt nowhere view (constant at width v) = nowhere
+unknownAt nowhere view (decimal at head name width) = nowhere
 unknownAt nowhere view (cut at head i j) = nowhere
 unknownAt nowhere view (pattern at c s held) = sortPlace Unknown nowhere s held
 

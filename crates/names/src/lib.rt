@@ -1,7 +1,6 @@
 //! Names in scope: a table of them, what a symbol stands for, and the forms that terms say.
 //! New names: whether one is reserved or taken, and the names of arguments and non-terminals put in scope.
 pub mod forms;
-mod literals;
 mod meanings;
 pub mod new;
 mod nodes;

@@ -1,7 +1,6 @@
 //! What a node of a term stands for.
 use crate::Meaning;
 use crate::Seen;
-use crate::literals::written_of;
 use crate::meanings::NOTHING;
 use crate::meanings::known_as;
 use crate::meanings::symbol_means;
@@ -15,23 +14,26 @@ use lexemes::codes::CONSTANT;
 use lexemes::codes::VARIABLE;
 use lexemes::value_at;
 use lexemes::width_at;
+use operators::ones;
 use operators::operators::EXTRACT;
 use operators::rules::MAX_WIDTH;
+use term_nodes::is_constant;
 use terms::codes::ANY_ARGUMENT;
 use terms::codes::ANY_LITERAL;
 use terms::codes::KINDS;
+use terms::codes::LITERAL as LITERAL_KIND;
 use terms::codes::OPERATOR;
 use terms::codes::code_with;
 use terms::codes::cut_value;
-use terms::codes::literal_code;
+use word_kinds::decimals::decimal_value;
 ghost use mathlib.Core.Path.{_≡_};
 ghost use mathlib.Core.Bool.{cond};
 ghost use Prim.Native.Nat.{ℕ, _+_, _≤_, _<_};
-ghost use Rattle.term_nodes.specs.Terms.{constant, cut, pattern, writtenOf};
+ghost use Rattle.term_nodes.specs.Terms.{constant, cut, decimal, pattern};
 ghost use Rattle.operators.specs.Sorts.{maxWidth};
 ghost use Rattle.lexemes.specs.code.Table.{codeAt, valueAt, widthAt};
 ghost use Rattle.names.specs.Scopes.{View};
-ghost use Rattle.names.specs.code.Lookup.{bytesAt, mostWritten};
+ghost use Rattle.names.specs.code.Lookup.{bytesAt};
 ghost use Rattle.names.specs.code.Nodes.{NodeAt, NodeMeans, PatternAt, isPatternHead, patternKind, wordBy};
 
 // The code of `(_ extract i j)`: the last operator.
@@ -74,18 +76,32 @@ fn pattern_means(lexemes: &[u64], head: usize) -> Meaning
 }
 
 // What a `#x` or `#b` word stands for.
-fn literal_means(text: &[u8], lexemes: &[u64], word: usize) -> Meaning
-    requires { ⌜ writtenOf (bytesAt (now text) (now lexemes) word) < mostWritten ⌝ }
+fn literal_means(lexemes: &[u64], word: usize) -> Meaning
     requires { ⌜ widthAt (now lexemes) word ≤ maxWidth ⌝ }
     ensures { λ r. ⌜ ((view : View)
-        → NodeMeans view (constant word (widthAt (now (lexemes .entry)) word) (valueAt (now (lexemes .entry)) word)
-        (writtenOf (bytesAt (now (text .entry)) (now (lexemes .entry)) word))) r) ⌝ }
+        → NodeMeans view (constant word (widthAt (now (lexemes .entry)) word) (valueAt (now (lexemes .entry)) word)) r) ⌝ }
 {
-    let written = written_of(bytes_at(text, lexemes, word));
     known_as(
-        literal_code(width_at(lexemes, word), written),
+        code_with(LITERAL_KIND, width_at(lexemes, word)),
         value_at(lexemes, word),
     )
+}
+
+// What a constant `(_ bvN n)` stands for, by the word `bvN`.
+fn decimal_means(text: &[u8], lexemes: &[u64], word: usize) -> Meaning
+    requires { ⌜ 0 < codeAt (now lexemes) word ⌝ }
+    ensures { λ r. ⌜ ((view : View) (at : ℕ)
+        → NodeMeans view (decimal at word (bytesAt (now (text .entry)) (now (lexemes .entry)) word) (valueAt (now (lexemes .entry)) (word + 1))) r) ⌝ }
+{
+    let width = value_at(lexemes, word + 1);
+    if (width < 1) | (width > MAX_WIDTH) {
+        return known_as(NOTHING, 0);
+    }
+    let numeral = decimal_value(bytes_at(text, lexemes, word));
+    if numeral.fits & (numeral.value <= ones(width)) {
+        return known_as(code_with(LITERAL_KIND, width), numeral.value);
+    }
+    known_as(NOTHING, 0)
 }
 
 // What `(_ extract i j)` stands for, by the word that is i.
@@ -119,11 +135,14 @@ pub fn node_means(
     if is_pattern(first, head, code) {
         return pattern_means(lexemes, head);
     }
+    if is_constant(first, head, code) {
+        return decimal_means(text, lexemes, head);
+    }
     if code >= SYMBOL {
         return symbol_means(names, seen, code, bytes_at(text, lexemes, head));
     }
     if code == LITERAL {
-        return literal_means(text, lexemes, head);
+        return literal_means(lexemes, head);
     }
     if first < head {
         return cut_means(lexemes, head);

@@ -1,36 +1,48 @@
 -- What `apply` asks of the functions that it calls, and what it gives, at any row of the table.
-use Prim.Native.Nat.{ℕ, zero, suc, _≤_, _<_}
+use Prim.Native.Nat.{ℕ, zero, suc, _+_, _≤_, _<_}
 use native.Mathlib.Omega.{arith}
-use mathlib.Core.Path.{_≡_, _∙_}
-use mathlib.Core.Bool.{true, _&&_}
-use mathlib.Core.List.{[], _∷_}
+use mathlib.Core.Path.{_≡_, refl, sym, _∙_}
+use mathlib.Core.Bool.{Bool, true, false, not, _&&_, _||_}
+use mathlib.Core.List.{List, [], _∷_}
 use mathlib.Core.Option.{some}
-use lib.Dec.{eqb, ltb}
+use lib.Dec.{eqb, leb, ltb}
 use lib.ListN.{getD, length}
-use borrow.Author.Tests.{eqb-true}
-use Rattle.forest.proofs.Bools.{and-right}
+use borrow.Author.Tests.{eqb-true, leb-false, leb-true, lt-leb, ltb-false, ltb-true, ne-eqb, not-true}
+use Rattle.forest.proofs.Bools.{and-right, apart, each, or-other}
 use Rattle.forest.proofs.Options.{passed}
-use Rattle.operators.specs.Operators.{Operands, Operator, operatorAt, operatorCount, operatorSort, operatorValue}
+use Rattle.operators.specs.Operators.{Operands, Operator, operatorAt, operatorCount, operatorSort, operatorValue, operators, takes}
 use Rattle.operators.specs.Sorts.{cutting, joining, maxWidth, sortBy, width}
 use Rattle.operators.proofs.RuledOperands.{cut, pair, vectors}
-use Rattle.operators.specs.code.Operators.{Applied, Operable}
+use Rattle.operators.specs.code.Operators.{Applied, FixedApplied, FixedOperable, Operable}
 use Rattle.operators.specs.code.Vectors.{Joined, Width, Word, Words}
 use Rattle.operators.proofs.Table.{past}
 
--- The operands as `apply` has them: two widths and three values.
-abbrev pub given : (high low first second one two three : ℕ) → Operands
-given high low first second one two three = record { i = high; j = low; sorts = first ∷ second ∷ []; values = one ∷ two ∷ three ∷ [] }
+-- The operands as `apply` has them: two widths and the values.
+abbrev pub given : (high low first second : ℕ) (values : List ℕ) → Operands
+given high low first second values = record { i = high; j = low; sorts = first ∷ second ∷ []; values = values }
+
+-- The operands as `fixed_value` has them: two widths and three values.
+abbrev pub given-three : (high low first second one two three : ℕ) → Operands
+given-three high low first second one two three = given high low first second (one ∷ two ∷ three ∷ [])
 
 -- The same of operands of any number.
 abbrev pub firsts : Operands → Operands
-firsts x = given (x .i) (x .j) (getD (x .sorts) 0 0) (getD (x .sorts) 1 0) (getD (x .values) 0 0) (getD (x .values) 1 0) (getD (x .values) 2 0)
+firsts x = given-three (x .i) (x .j) (getD (x .sorts) 0 0) (getD (x .sorts) 1 0) (getD (x .values) 0 0) (getD (x .values) 1 0) (getD (x .values) 2 0)
 
-module _ {operator high low first second one two three k : ℕ} (at : operator ≡ k) (e : Operable operator high low first second one two three) where
-  -- The row has as many operands as there are, and its rule gives their sort.
-  taken : (eqb (length (e .sorts)) (operatorAt k .operands) ≡ true) × (sortBy (operatorAt k .rule) high low (e .sorts) ≡ some (e .result))
+-- The operands with the sorts of the first two alone.
+abbrev pub two-sorts : Operands → Operands
+two-sorts x = given (x .i) (x .j) (getD (x .sorts) 0 0) (getD (x .sorts) 1 0) (x .values)
+
+-- A row that has a fixed number of operands.
+fixed-count : (r : Operator) (n : ℕ) → r .many ≡ false → takes r n ≡ true → n ≡ r .operands
+fixed-count r n f h = eqb-true n (r .operands) (rw f at h)
+
+module _ {operator high low first second one two three k : ℕ} (at : operator ≡ k) (e : FixedOperable operator high low first second one two three) where
+  -- The row takes as many operands as there are, and its rule gives their sort.
+  taken : (takes (operatorAt k) (length (e .sorts)) ≡ true) × (sortBy (operatorAt k .rule) high low (e .sorts) ≡ some (e .result))
   unfolding operatorSort
   taken =
-      let counts = eqb (length (e .sorts)) (operatorAt k .operands) in
+      let counts = takes (operatorAt k) (length (e .sorts)) in
       let p = passed (ltb k operatorCount && counts) (rw at at (e .sorted)) in
       (and-right (ltb k operatorCount) counts (p .0), p .1)
 
@@ -45,7 +57,7 @@ module _ {operator high low first second one two three k : ℕ} (at : operator �
   -- Both operands of a row with the rule `width`.
   pub two-words : operatorAt k .rule ≡ width → operatorAt k .operands ≡ 2 → Words first one two
   two-words q l =
-      let counted : length (e .sorts) ≡ 2 = eqb-true _ _ (taken .0) ∙ l in
+      let counted : length (e .sorts) ≡ 2 = fixed-count (operatorAt k) _ (rw at at (e .fixed)) (taken .0) ∙ l in
       record { first = a-word q; second = rw (e .width-one, e .is-two) (vectors high low (e .fit) (rw q at (taken .1)) .second counted) }
 
   -- The operands of a row with the rule `joining`.
@@ -56,28 +68,97 @@ module _ {operator high low first second one two three k : ℕ} (at : operator �
   pub a-cut : operatorAt k .rule ≡ cutting → (low ≤ high) × (high < maxWidth)
   a-cut q = let h = cut high low (e .fit) (rw q at (taken .1)) in (h .order, h .most)
 
--- A row's value is the operator's value, where the row looks at no more of the operands than `apply` has.
-pub applied : {operator high low first second one two three k r : ℕ} → operator ≡ k
+-- A row's value is the operator's value, where the row looks at no more of the operands than `fixed_value` has.
+pub fixed-applied : {operator high low first second one two three k r : ℕ} → operator ≡ k
     → ((x : Operands) → operatorAt k .value (firsts x) ≡ operatorAt k .value x)
-    → r ≡ operatorAt k .value (given high low first second one two three) → Applied operator high low first second one two three r
+    → r ≡ operatorAt k .value (given-three high low first second one two three) → FixedApplied operator high low first second one two three r
 unfolding operatorValue
-applied {high = high} {low = low} at f h e =
+fixed-applied {high = high} {low = low} at f h e =
     rw (at, h, e .width-one, e .width-two, e .is-one, e .is-two, e .is-three)
     (f (record { i = high; j = low; sorts = e .sorts; values = e .values }))
 
--- o is none of the numbers below k.
-abbrev pub NoneBelow : (k o : ℕ) → Type 0
-NoneBelow zero o = Unit
-NoneBelow (suc k) o = NoneBelow k o × (o ≡ k → ⊥)
+-- A row's value is the operator's value, where the row looks at no more of the sorts than `apply` has.
+pub applied : {operator high low first second k r : ℕ} {values : List ℕ} → operator ≡ k
+    → ((x : Operands) → operatorAt k .value (two-sorts x) ≡ operatorAt k .value x)
+    → r ≡ operatorAt k .value (given high low first second values) → Applied operator high low first second values r
+unfolding operatorValue
+applied {high = high} {low = low} {values = values} at f h e =
+    rw (at, h, e .width-one, e .width-two) (f (record { i = high; j = low; sorts = e .sorts; values = values }))
 
--- So it is not below k.
-none-below : (k : ℕ) {o : ℕ} → NoneBelow k o → k ≤ o
-none-below zero h = omega arith
-none-below (suc k) h = omega (arith, none-below k (h .0), h .1)
+-- B, and o is none of the n numbers from `start` on.
+abbrev pub NoneOf : (B : Type 0) (start n o : ℕ) → Type 0
+NoneOf B start zero o = B
+NoneOf B start (suc n) o = NoneOf B start n o × (o ≡ start + n → ⊥)
+
+-- So it is past them, if it is not before them.
+none-of : (B : Type 0) (start n o : ℕ) → NoneOf B start n o → start ≤ o → start + n ≤ o
+none-of B start zero o h l = omega arith
+none-of B start (suc n) o h l = let g = none-of B start n o (h .0) l in omega (arith, g, h .1)
+
+-- And B.
+besides : (B : Type 0) (start n o : ℕ) → NoneOf B start n o → B
+besides B start zero o h = h
+besides B start (suc n) o h = besides B start n o (h .0)
+
+-- Operators 1 to 6 take any number of operands from two on.
+wide-rows : (o : ℕ) → 1 ≤ o → o ≤ 6 → operatorAt o .many ≡ true
+unfolding operatorAt operators
+wide-rows o l h =
+    or-other (eqb o 0) (operatorAt o .many) (ne-eqb o 0 (λ z. omega arith)) (each 7 (λ (k : ℕ). eqb k 0 || operatorAt k .many) tt o (omega arith))
+
+-- The others have a fixed number.
+fixed-rows : (o : ℕ) → (1 ≤ o → 7 ≤ o) → operatorAt o .many ≡ false
+unfolding operatorAt operators
+fixed-rows o f = by-case (ltb o operatorCount) refl
+  where
+    outside : (t : Bool) → leb 1 o ≡ t → (t && leb o 6) ≡ false
+    outside true e = lt-leb o 6 (omega (arith, f (leb-true 1 o e)))
+    outside false e = refl
+
+    by-case : (known : Bool) → ltb o operatorCount ≡ known → operatorAt o .many ≡ false
+    by-case true k =
+        let row = each operatorCount (λ (n : ℕ). leb 1 n && leb n 6 || not (operatorAt n .many)) tt o (ltb-true o operatorCount k) in
+        not-true (operatorAt o .many) (or-other (leb 1 o && leb o 6) (not (operatorAt o .many)) (outside (leb 1 o) refl) row)
+    by-case false k = sym (past (λ (r : Operator). r .many) (ltb-false o operatorCount k))
+
+-- So has an operator that is none of 1 to 6.
+pub fixed-row : (o : ℕ) → NoneOf Unit 1 6 o → operatorAt o .many ≡ false
+fixed-row o h = fixed-rows o (none-of Unit 1 6 o h)
+
+-- An operator that has a fixed number of operands and is none of 0 and 7 to 22 is past the last.
+pub fixed-rest : {o : ℕ} → operatorAt o .many ≡ false → NoneOf (Unit × (o ≡ 0 → ⊥)) 7 16 o → operatorCount ≤ o
+fixed-rest {o} f h = none-of (Unit × (o ≡ 0 → ⊥)) 7 16 o h (by-case (leb o 6) refl)
+  where
+    by-case : (t : Bool) → leb o 6 ≡ t → 7 ≤ o
+    by-case true e = apart (sym f ∙ wide-rows o (omega (arith, besides (Unit × (o ≡ 0 → ⊥)) 7 16 o h .1)) (leb-true o 6 e))
+    by-case false e = leb-false o 6 e
 
 -- Past the last operator the value is 0.
-pub applied-past : {operator high low first second one two three : ℕ} → NoneBelow operatorCount operator
-    → Applied operator high low first second one two three 0
+pub fixed-past : {operator high low first second one two three : ℕ} → operatorCount ≤ operator → FixedApplied operator high low first second one two three 0
 unfolding operatorValue
-applied-past {high = high} {low = low} h e =
-    past (λ (r : Operator). r .value (record { i = high; j = low; sorts = e .sorts; values = e .values })) (none-below operatorCount h)
+fixed-past {high = high} {low = low} h e =
+    past (λ (r : Operator). r .value (record { i = high; j = low; sorts = e .sorts; values = e .values })) h
+
+-- An operator that is none of 1 to 6, over the first three operands.
+module _ {operator high low first second one two three : ℕ} {values : List ℕ} (others : NoneOf Unit 1 6 operator) (is-one : one ≡ getD values 0 0)
+    (is-two : two ≡ getD values 1 0) (is-three : three ≡ getD values 2 0) where
+  -- `fixed_value` takes them.
+  abbrev pub fixed-operable : Operable operator high low first second values → FixedOperable operator high low first second one two three
+  fixed-operable e =
+      record {
+        fixed = fixed-row operator others;
+        sorts = e .sorts;
+        values = values;
+        result = e .result;
+        sorted = e .sorted;
+        fit = e .fit;
+        width-one = e .width-one;
+        width-two = e .width-two;
+        is-one = is-one;
+        is-two = is-two;
+        is-three = is-three;
+      }
+
+  -- Its value is the operator's.
+  pub fixed-gives : {r : ℕ} → FixedApplied operator high low first second one two three r → Applied operator high low first second values r
+  fixed-gives g e = g (fixed-operable e)

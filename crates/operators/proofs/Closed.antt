@@ -1,21 +1,22 @@
 -- The value of an operator over operands of their sorts is a value of the result's sort.
-use Prim.Native.Nat.{ℕ, zero, suc, _^_, _<_}
+use Prim.Native.Nat.{ℕ, zero, suc, _^_, _≤_, _<_}
 use Prim.Native.String.{String}
 use native.Mathlib.Omega.{arith}
-use mathlib.Core.Path.{_≡_, refl}
+use mathlib.Core.Path.{_≡_, refl, ap}
 use mathlib.Core.Bool.{Bool, true, false, cond, not, _&&_, _||_}
 use mathlib.Core.List.{List, [], _∷_}
 use mathlib.Core.Option.{some}
 use lib.Dec.{eqb, lit<, lit≤, ltb}
-use lib.ListN.{getD, length}
-use borrow.Author.Tests.{eqb-true}
+use lib.ListN.{drop, getD, length}
+use borrow.Author.Tests.{eqb-true, leb-true}
 use Rattle.forest.proofs.Options.{passed}
-use Rattle.operators.specs.Operators.{Operands, one, three, two, widthOfOne, widthOfTwo, Operator, noOperator, operatorAt, operatorCount, operatorSort}
-use Rattle.operators.specs.Operators.{operatorValue, operators, row}
+use Rattle.operators.specs.Operators.{Operands, one, others, three, two, widthOfOne, widthOfTwo, Operator, noOperator, operatorAt, operatorCount}
+use Rattle.operators.specs.Operators.{operatorSort, operatorValue, operators, row, takes, wide}
 use Rattle.forest.proofs.Bools.{and-right}
-use Rattle.operators.specs.Sorts.{AllFit, Fit, choice, cutting, joining, sortBy, width}
+use Rattle.operators.specs.Sorts.{AllFit, Fit, SortRule, choice, cutting, joining, sortBy, width}
+use Rattle.operators.specs.Sorts.AllFit.{no-more, also}
 use Rattle.operators.specs.code.Vectors.{Word, Words}
-use Rattle.operators.specs.Values.{concatValue, extractValue, holds, iteValue}
+use Rattle.operators.specs.Values.{chained, concatValue, differ, extractValue, groupLeft, groupRight, holds, iteValue, pairwise}
 use Rattle.operators.proofs.Below.{bvand-below, bvlshr-below, bvnot-below, bvor-below, bvshl-below, bvudiv-below, bvurem-below, bvxor-below}
 use Rattle.operators.proofs.Below.{concat-below, mod-below, truth-below}
 use Rattle.operators.proofs.RuledOperands.{chosen, cut, givesBool, pair, truths, vectors, word-fits}
@@ -38,13 +39,48 @@ a and b = (a, b)
 
 -- A row's value is one of the sort that its rule gives.
 record Closed (r : Operator) : Type 0 where
-  fits : (x : Operands) (s : ℕ) → AllFit (x .sorts) (x .values) → length (x .sorts) ≡ r .operands → sortBy (r .rule) (x .i) (x .j) (x .sorts) ≡ some s
+  fits : (x : Operands) (s : ℕ) → AllFit (x .sorts) (x .values) → takes r (length (x .sorts)) ≡ true → sortBy (r .rule) (x .i) (x .j) (x .sorts) ≡ some s
       → Fit s (r .value x)
 
 -- A row whose result is Bool.
 boolean : {r : Operator} → givesBool (r .rule) ≡ true → ((x : Operands) → r .value x < 2) → Closed r
 boolean {r} b f =
     record { fits = λ x s a l h. rw (← truths (r .rule) b (x .i) (x .j) (x .sorts) h) (record { sort = lit≤ tt; value = f x }) }
+
+-- As many sorts as values.
+all-counted : {ss vs : List ℕ} → AllFit ss vs → length ss ≡ length vs
+all-counted no-more = refl
+all-counted (also f more) = ap suc (all-counted more)
+
+-- A row of any number of operands from two on whose result is Bool.
+grouped : {name : String} {rule : SortRule} {value : Operands → ℕ} → givesBool rule ≡ true → ((x : Operands) → 2 ≤ length (x .values) → value x < 2)
+    → Closed (wide name rule value)
+grouped {rule = rule} b f =
+    record {
+      fits = λ x s a l h.
+          let two = leb-true 2 (length (x .sorts)) l in
+          rw (← truths rule b (x .i) (x .j) (x .sorts) h) (record { sort = lit≤ tt; value = f x (omega (arith, two, all-counted a)) });
+    }
+
+-- Numbers below 2, grouped from the left.
+left-below : {f : ℕ → ℕ → ℕ} → ((a b : ℕ) → f a b < 2) → (a : ℕ) (more : List ℕ) → a < 2 → groupLeft f a more < 2
+unfolding groupLeft
+left-below g a [] h = h
+left-below {f} g a (b ∷ more) h = left-below g (f a b) more (g a b)
+
+-- Two or more numbers, grouped from the left.
+grouped-left : {f : ℕ → ℕ → ℕ} → ((a b : ℕ) → f a b < 2) → (vs : List ℕ) → 2 ≤ length vs → groupLeft f (getD vs 0 0) (drop 1 vs) < 2
+unfolding groupLeft
+grouped-left g [] h = absurd (omega arith)
+grouped-left g (a ∷ []) h = absurd (omega arith)
+grouped-left {f} g (a ∷ b ∷ more) h = left-below g (f a b) more (g a b)
+
+-- From the right.
+grouped-right : {f : ℕ → ℕ → ℕ} → ((a b : ℕ) → f a b < 2) → (vs : List ℕ) → 2 ≤ length vs → groupRight f (getD vs 0 0) (drop 1 vs) < 2
+unfolding groupRight
+grouped-right g [] h = absurd (omega arith)
+grouped-right g (a ∷ []) h = absurd (omega arith)
+grouped-right g (a ∷ b ∷ more) h = g a _
 
 -- A row with one vector.
 unary : {name : String} {value : Operands → ℕ} → ((x : Operands) → Word (widthOfOne x) (one x) → value x < 2 ^ widthOfOne x) → Closed (row name 1 width value)
@@ -62,7 +98,7 @@ binary f =
     record {
       fits = λ x s a l h.
           let v = vectors (x .i) (x .j) a h in
-          rw (← v .result) (word-fits (v .first .width) (f x (record { first = v .first; second = v .second l })));
+          rw (← v .result) (word-fits (v .first .width) (f x (record { first = v .first; second = v .second (eqb-true _ _ l) })));
     }
 
 -- Of two values of a sort either is one.
@@ -72,7 +108,7 @@ either false f g = g
 
 -- `ite`
 choosing : {name : String} → Closed (row name 3 choice (λ x. iteValue (one x) (two x) (three x)))
-choosing = record { fits = λ x s a l h. let v = chosen (x .i) (x .j) a l h in either (holds (one x)) (v .second) (v .third) }
+choosing = record { fits = λ x s a l h. let v = chosen (x .i) (x .j) a (eqb-true _ _ l) h in either (holds (one x)) (v .second) (v .third) }
 
 -- `concat`
 joined : {name : String} → Closed (row name 2 joining (λ x. concatValue (widthOfTwo x) (one x) (two x)))
@@ -97,12 +133,12 @@ rows-closed : Each Closed operators
 unfolding operators
 rows-closed =
     boolean refl (λ x. truth-below (not (holds (one x))))
-    and boolean refl (λ x. truth-below (holds (one x) && holds (two x)))
-    and boolean refl (λ x. truth-below (holds (one x) || holds (two x)))
-    and boolean refl (λ x. truth-below (holds (one x) && not (holds (two x)) || not (holds (one x)) && holds (two x)))
-    and boolean refl (λ x. truth-below (not (holds (one x)) || holds (two x)))
-    and boolean refl (λ x. truth-below (eqb (one x) (two x)))
-    and boolean refl (λ x. truth-below (not (eqb (one x) (two x))))
+    and grouped refl (λ x h. grouped-left (λ a b. truth-below (holds a && holds b)) (x .values) h)
+    and grouped refl (λ x h. grouped-left (λ a b. truth-below (holds a || holds b)) (x .values) h)
+    and grouped refl (λ x h. grouped-left (λ a b. truth-below (holds a && not (holds b) || not (holds a) && holds b)) (x .values) h)
+    and grouped refl (λ x h. grouped-right (λ a b. truth-below (not (holds a) || holds b)) (x .values) h)
+    and grouped refl (λ x h. truth-below (chained eqb (one x) (others x)))
+    and grouped refl (λ x h. truth-below (pairwise differ (x .values)))
     and choosing
     and unary (λ x w. bvnot-below _ _)
     and unary (λ x w. mod-below _ _)
@@ -125,7 +161,7 @@ rows-closed =
 pub closed : (o i j : ℕ) {ss vs : List ℕ} {s : ℕ} → AllFit ss vs → operatorSort o i j ss ≡ some s → Fit s (operatorValue o i j ss vs)
 unfolding operatorSort operatorValue operatorAt
 closed o i j {ss} {vs} {s} a h =
-    let counts = eqb (length ss) (operatorAt o .operands) in
+    let counts = takes (operatorAt o) (length ss) in
     let p = passed (ltb o operatorCount && counts) h in
     let r = each-at Closed operators noOperator rows-closed (boolean refl (λ x. lit< tt)) o in
-    r .fits (record { i = i; j = j; sorts = ss; values = vs }) s a (eqb-true _ _ (and-right (ltb o operatorCount) counts (p .0))) (p .1)
+    r .fits (record { i = i; j = j; sorts = ss; values = vs }) s a (and-right (ltb o operatorCount) counts (p .0)) (p .1)

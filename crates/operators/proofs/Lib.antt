@@ -1,6 +1,7 @@
 pub mod Powers
 pub mod Table
 pub mod Naming
+pub mod Many
 pub mod RuledOperands
 pub mod Applying
 pub mod Below

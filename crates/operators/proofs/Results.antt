@@ -8,7 +8,7 @@ use lib.Dec.{eqb, leb, ltb}
 use lib.ListN.{getD, length}
 use borrow.Author.Tests.{leb-true, ltb-true}
 use Rattle.forest.proofs.Options.{never, passed}
-use Rattle.operators.specs.Operators.{operatorAt, operatorCount, operatorSort}
+use Rattle.operators.specs.Operators.{operatorAt, operatorCount, operatorSort, takes}
 use Rattle.operators.specs.Sorts.{SortRule, allAre, bool, choice, cutting, equality, joining, logic, maxWidth, order, sortBy, vector, width}
 use Rattle.operators.specs.code.RuleNumbers.{ruleNumber}
 use Rattle.operators.proofs.RuledOperands.{both, givesBool, ruled, truths}
@@ -79,7 +79,7 @@ cutting-sort i j (s ∷ more) h =
 by-rule : {operator high low first second : ℕ} (e : Sortable operator high low first second)
     → sortBy (operatorAt operator .rule) high low (e .sorts) ≡ some (e .result)
 unfolding operatorSort
-by-rule {operator} e = passed (ltb operator operatorCount && eqb (length (e .sorts)) (operatorAt operator .operands)) (e .sorted) .1
+by-rule {operator} e = passed (ltb operator operatorCount && takes (operatorAt operator) (length (e .sorts))) (e .sorted) .1
 
 module _ {operator high low first second rule k : ℕ} (rule-is : rule ≡ ruleNumber (operatorAt operator .rule)) (number : rule ≡ k) where
   -- The rule of the number gives the result.

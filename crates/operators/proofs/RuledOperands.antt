@@ -10,8 +10,8 @@ use lib.ListN.{getD, length}
 use borrow.Author.Tests.{eqb-true, leb-true, lt-ltb, ltb-true}
 use Rattle.forest.proofs.Bools.{and-left, and-right, apart}
 use Rattle.forest.proofs.Options.{never}
-use Rattle.operators.specs.Sorts.{AllFit, Fit, SortRule, allAre, bool, choice, cutting, equality, joining, logic, maxWidth, order, sortBy, vector, sortWhere}
-use Rattle.operators.specs.Sorts.{width}
+use Rattle.operators.specs.Sorts.{AllFit, Fit, SortRule, allAre, bool, choice, cutting, equality, joining, logic, maxWidth, order, sortBy, vector}
+use Rattle.operators.specs.Sorts.{sortWhere, width}
 use Rattle.operators.specs.Sorts.AllFit.{no-more, also}
 use Rattle.operators.specs.code.Vectors.{Joined, Width, Word}
 

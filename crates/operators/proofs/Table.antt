@@ -5,9 +5,6 @@ use mathlib.Core.Path.{_≡_, refl, sym, ap}
 use mathlib.Core.List.{_∷_, map}
 use lib.ListN.{drop, getD, length, List·getD-eq-default, List·getD-map}
 use lib.Seq.{drop-cons}
-use borrow.Author.Tests.{leb-true}
-use lib.Dec.{leb}
-use Rattle.forest.proofs.Bools.{each}
 use Rattle.operators.specs.Operators.{Operator, noOperator, operatorAt, operatorCount, operators}
 
 -- There are as many operators as rows.
@@ -24,11 +21,6 @@ column f o = List·getD-map f operators o noOperator
 pub past : {A : Type 0} (f : Operator → A) {o : ℕ} → operatorCount ≤ o → f noOperator ≡ f (operatorAt o)
 unfolding operatorAt operators
 past f h = ap f (sym (List·getD-eq-default operators noOperator h))
-
--- No operator has more than three operands.
-pub few-operands : {o : ℕ} → o < operatorCount → operatorAt o .operands ≤ 3
-unfolding operatorAt operators
-few-operands {o} h = leb-true _ _ (each operatorCount (λ (k : ℕ). leb (operatorAt k .operands) 3) tt o h)
 
 -- The rows from o on are operator o and the rows after it.
 pub next-row : {o : ℕ} → o < operatorCount → drop o operators ≡ operatorAt o ∷ drop (o + 1) operators

@@ -1,16 +1,16 @@
 -- The operator table. "Each operator's name, operand count and sort rule stand in one table."
 use Prim.Native.Nat.{ℕ, _+_}
 use Prim.Native.String.{String}
-use mathlib.Core.Bool.{cond, _&&_}
+use mathlib.Core.Bool.{Bool, true, false, cond, _&&_}
 use mathlib.Core.List.{List, [], _∷_}
 use mathlib.Core.Option.{Option, none as nothing}
-use lib.Dec.{eqb, ltb}
-use lib.ListN.{getD, length}
+use lib.Dec.{eqb, leb, ltb}
+use lib.ListN.{drop, getD, length}
 use Rattle.forest.specs.Lists.{sameBytes, spelling}
 use Rattle.operators.specs.Sorts.{SortRule, choice, cutting, equality, joining, logic, order, sortBy, width}
 use Rattle.operators.specs.Values.{andValue, bvaddValue, bvandValue, bvlshrValue, bvmulValue, bvnegValue, bvnotValue, bvorValue, bvshlValue, bvsubValue}
-use Rattle.operators.specs.Values.{bvudivValue, bvultValue, bvuremValue, bvxorValue, concatValue, distinctValue, equalValue, extractValue, impliesValue}
-use Rattle.operators.specs.Values.{iteValue, notValue, orValue, xorValue}
+use Rattle.operators.specs.Values.{bvudivValue, bvultValue, bvuremValue, bvxorValue, chained, concatValue, differ, extractValue, groupLeft, groupRight}
+use Rattle.operators.specs.Values.{impliesValue, iteValue, notValue, orValue, pairwise, truth, xorValue}
 
 -- What an operator's value is made of: the numbers of `(_ extract i j)`, and the sorts and the values of its operands.
 pub record Operands : Type 0 where
@@ -31,6 +31,10 @@ two x = getD (x .values) 1 0
 abbrev pub three : Operands → ℕ
 three x = getD (x .values) 2 0
 
+-- The values of the operands behind the first.
+abbrev pub others : Operands → List ℕ
+others x = drop 1 (x .values)
+
 -- The width of the first operand.
 abbrev pub widthOfOne : Operands → ℕ
 widthOfOne x = getD (x .sorts) 0 0
@@ -39,28 +43,39 @@ widthOfOne x = getD (x .sorts) 0 0
 abbrev pub widthOfTwo : Operands → ℕ
 widthOfTwo x = getD (x .sorts) 1 0
 
--- A row of the table: an operator's name, how many operands it has, its sort rule and its value. Its number is its place in the table.
+-- A row of the table: an operator's name, how many operands it has, whether it may have more, its sort rule and its value. Its number is its place in the
+-- table.
 pub record Operator : Type 0 where
   pub name : String
   pub operands : ℕ
+  pub many : Bool
   pub rule : SortRule
   pub value : Operands → ℕ
 
--- A row.
+-- A row of an operator that has as many operands as it says.
 abbrev pub row : String → ℕ → SortRule → (Operands → ℕ) → Operator
-row name operands rule value = record { name = name; operands = operands; rule = rule; value = value }
+row name operands rule value = record { name = name; operands = operands; many = false; rule = rule; value = value }
+
+-- A row of an operator "with two or more operands as Core says" (E3).
+abbrev pub wide : String → SortRule → (Operands → ℕ) → Operator
+wide name rule value = record { name = name; operands = 2; many = true; rule = rule; value = value }
+
+-- Whether an operator takes n operands.
+abbrev pub takes : Operator → ℕ → Bool
+takes r n = cond (r .many) (leb (r .operands) n) (eqb n (r .operands))
 
 -- "Operators, two operands each unless said: `not`(1) `and or xor => = distinct ite`(3); `bvnot`(1) `bvneg`(1) `bvand bvor bvxor bvadd bvsub bvmul bvudiv
--- bvurem bvshl bvlshr bvult concat`, `(_ extract i j)`(1)"
+-- bvurem bvshl bvlshr bvult concat`, `(_ extract i j)`(1)"; "`and or xor` group from the left, `=>` from the right, `=` chains, `distinct` is pairwise, each
+-- with two or more operands as Core says." (E3)
 unfoldable pub operators : List Operator
 operators =
     row "not" 1 logic (λ x. notValue (one x))
-    ∷ row "and" 2 logic (λ x. andValue (one x) (two x))
-    ∷ row "or" 2 logic (λ x. orValue (one x) (two x))
-    ∷ row "xor" 2 logic (λ x. xorValue (one x) (two x))
-    ∷ row "=>" 2 logic (λ x. impliesValue (one x) (two x))
-    ∷ row "=" 2 equality (λ x. equalValue (one x) (two x))
-    ∷ row "distinct" 2 equality (λ x. distinctValue (one x) (two x))
+    ∷ wide "and" logic (λ x. groupLeft andValue (one x) (others x))
+    ∷ wide "or" logic (λ x. groupLeft orValue (one x) (others x))
+    ∷ wide "xor" logic (λ x. groupLeft xorValue (one x) (others x))
+    ∷ wide "=>" logic (λ x. groupRight impliesValue (one x) (others x))
+    ∷ wide "=" equality (λ x. truth (chained eqb (one x) (others x)))
+    ∷ wide "distinct" equality (λ x. truth (pairwise differ (x .values)))
     ∷ row "ite" 3 choice (λ x. iteValue (one x) (two x) (three x))
     ∷ row "bvnot" 1 width (λ x. bvnotValue (widthOfOne x) (one x))
     ∷ row "bvneg" 1 width (λ x. bvnegValue (widthOfOne x) (one x))
@@ -105,7 +120,7 @@ operatorOf word = named operators 0 word
 
 -- The sort of operator o over operands of the sorts ss; none where there is no such operator, or their number or a sort is wrong.
 unfoldable pub operatorSort : (o i j : ℕ) → (ss : List ℕ) → Option ℕ
-operatorSort o i j ss = cond (ltb o operatorCount && eqb (length ss) (operatorAt o .operands)) (sortBy (operatorAt o .rule) i j ss) nothing
+operatorSort o i j ss = cond (ltb o operatorCount && takes (operatorAt o) (length ss)) (sortBy (operatorAt o .rule) i j ss) nothing
 
 -- The value of operator o over operands of the sorts ss and the values vs.
 unfoldable pub operatorValue : (o i j : ℕ) → (ss vs : List ℕ) → ℕ

@@ -1,6 +1,7 @@
 -- What the operators give, "As in SMT-LIB": on natural numbers below 2 ^ n, at any width n. A Bool is a number too: 0 is false, 1 is true.
 use Prim.Native.Nat.{ℕ, _+_, _*_, _-_, _/_, _%_, _^_}
-use mathlib.Core.Bool.{Bool, cond, not, _&&_, _||_}
+use mathlib.Core.Bool.{Bool, true, cond, not, _&&_, _||_}
+use mathlib.Core.List.{List, [], _∷_}
 use lib.Bits.{bitAnd, bitOr, bitXor}
 use lib.Dec.{eqb, ltb}
 
@@ -15,6 +16,35 @@ holds a = eqb a 1
 -- `not`
 abbrev pub notValue : ℕ → ℕ
 notValue a = truth (not (holds a))
+
+-- "`and or xor` group from the left" (E3): of one operand and those behind it.
+unfoldable pub groupLeft : (ℕ → ℕ → ℕ) → (first : ℕ) → (more : List ℕ) → ℕ
+groupLeft f a [] = a
+groupLeft f a (b ∷ more) = groupLeft f (f a b) more
+
+-- "`=>` from the right" (E3)
+unfoldable pub groupRight : (ℕ → ℕ → ℕ) → (first : ℕ) → (more : List ℕ) → ℕ
+groupRight f a [] = a
+groupRight f a (b ∷ more) = f a (groupRight f b more)
+
+-- "`=` chains" (E3): the test holds of each operand and the next.
+unfoldable pub chained : (ℕ → ℕ → Bool) → (first : ℕ) → (more : List ℕ) → Bool
+chained test a [] = true
+chained test a (b ∷ more) = test a b && chained test b more
+
+-- The test holds of a and each of the others.
+unfoldable pub withEach : (ℕ → ℕ → Bool) → (a : ℕ) → (others : List ℕ) → Bool
+withEach test a [] = true
+withEach test a (b ∷ more) = test a b && withEach test a more
+
+-- "`distinct` is pairwise" (E3): the test holds of each operand and each behind it.
+unfoldable pub pairwise : (ℕ → ℕ → Bool) → List ℕ → Bool
+pairwise test [] = true
+pairwise test (a ∷ more) = withEach test a more && pairwise test more
+
+-- Two values of one sort are not the same.
+abbrev pub differ : ℕ → ℕ → Bool
+differ a b = not (eqb a b)
 
 -- `and`
 abbrev pub andValue : ℕ → ℕ → ℕ
@@ -31,14 +61,6 @@ xorValue a b = truth (holds a && not (holds b) || not (holds a) && holds b)
 -- `=>`
 abbrev pub impliesValue : ℕ → ℕ → ℕ
 impliesValue a b = truth (not (holds a) || holds b)
-
--- `=`, of two values of one sort.
-abbrev pub equalValue : ℕ → ℕ → ℕ
-equalValue a b = truth (eqb a b)
-
--- `distinct`, of two values of one sort.
-abbrev pub distinctValue : ℕ → ℕ → ℕ
-distinctValue a b = truth (not (eqb a b))
 
 -- `ite`
 abbrev pub iteValue : (c a b : ℕ) → ℕ

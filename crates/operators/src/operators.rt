@@ -6,15 +6,17 @@ use crate::rules::JOINING;
 use crate::rules::LOGIC;
 use crate::rules::ORDER;
 use crate::rules::WIDTH;
-use crate::truth::and_of;
+use crate::truth::AND;
+use crate::truth::OR;
+use crate::truth::XOR;
+use crate::truth::all_alike;
+use crate::truth::all_differ;
 use crate::truth::bvult;
-use crate::truth::distinct;
-use crate::truth::equal;
-use crate::truth::implies;
+use crate::truth::group_left;
+use crate::truth::group_right;
 use crate::truth::ite;
 use crate::truth::not_of;
-use crate::truth::or_of;
-use crate::truth::xor_of;
+use crate::truth::operand;
 use crate::vectors::bvadd;
 use crate::vectors::bvand;
 use crate::vectors::bvlshr;
@@ -31,9 +33,9 @@ use crate::vectors::concat;
 use crate::vectors::extract;
 use forest::search::find_word;
 ghost use mathlib.Core.Path.{_≡_};
-ghost use Rattle.operators.specs.Operators.{operatorAt, operatorOf};
+ghost use Rattle.operators.specs.Operators.{operatorAt, operatorOf, takes};
 ghost use Rattle.operators.specs.code.RuleNumbers.{ruleNumber};
-ghost use Rattle.operators.specs.code.Operators.{Applied, Operable, ResultSort, Sortable};
+ghost use Rattle.operators.specs.code.Operators.{Applied, FixedApplied, FixedOperable, Operable, ResultSort, Sortable};
 
 // How many operators there are; also the number that stands for none.
 pub const OPERATORS: usize = 23;
@@ -73,7 +75,7 @@ const STARTS: [usize; OPERATORS + 1] = [
     105,
 ];
 
-// How many operands each operator has.
+// How many operands each operator has, or has at least.
 const OPERANDS: [usize; OPERATORS] = [
     1, // not
     2, // and
@@ -98,6 +100,33 @@ const OPERANDS: [usize; OPERATORS] = [
     2, // bvult
     2, // concat
     1, // extract
+];
+
+// Whether each operator takes any number of operands from that on.
+const MANY: [bool; OPERATORS] = [
+    false, // not
+    true, // and
+    true, // or
+    true, // xor
+    true, // =>
+    true, // =
+    true, // distinct
+    false, // ite
+    false, // bvnot
+    false, // bvneg
+    false, // bvand
+    false, // bvor
+    false, // bvxor
+    false, // bvadd
+    false, // bvsub
+    false, // bvmul
+    false, // bvudiv
+    false, // bvurem
+    false, // bvshl
+    false, // bvlshr
+    false, // bvult
+    false, // concat
+    false, // extract
 ];
 
 // The sort rule of each operator.
@@ -134,7 +163,7 @@ pub fn operator_of(word: &[u8]) -> usize
     find_word(&NAMES, &STARTS, word)
 }
 
-// How many operands an operator has; 0 past the last operator.
+// How many operands an operator has, or has at least; 0 past the last operator.
 pub fn operands_of(operator: usize) -> usize
     ensures { λ r. ⌜ r ≡ operatorAt operator .operands ⌝ }
 {
@@ -143,6 +172,28 @@ pub fn operands_of(operator: usize) -> usize
     } else {
         0
     }
+}
+
+// Whether an operator takes any number of operands from its number of operands on; not so past the last operator.
+fn many_of(operator: usize) -> bool
+    ensures { λ r. ⌜ r ≡ operatorAt operator .many ⌝ }
+{
+    if operator < OPERATORS {
+        MANY[operator]
+    } else {
+        false
+    }
+}
+
+// Whether an operator takes a number of operands.
+pub fn takes(operator: usize, count: usize) -> bool
+    ensures { λ r. ⌜ r ≡ takes (operatorAt operator) count ⌝ }
+{
+    let least = operands_of(operator);
+    if many_of(operator) {
+        return least <= count;
+    }
+    count == least
 }
 
 // The number of an operator's sort rule; 0 past the last operator.
@@ -172,9 +223,9 @@ pub fn result_sort(operator: usize, high: u64, low: u64, first: u64, second: u64
     }
 }
 
-// The value of an operator, with `high` and `low` the numbers of an `extract`, over operands of the values `one`, `two` and `three`, of which the first two
-// have the widths `first` and `second`; what is not there is 0.
-pub fn apply(
+// The value of an operator that takes one number of operands only, with `high` and `low` the numbers of an `extract`, over operands of the values `one`, `two`
+// and `three`, of which the first two have the widths `first` and `second`; what is not there is 0.
+fn fixed_value(
     operator: usize,
     high: u64,
     low: u64,
@@ -184,17 +235,11 @@ pub fn apply(
     two: u64,
     three: u64,
 ) -> u64
-    requires { ⌜ Operable operator high low first second one two three ⌝ }
-    ensures { λ r. ⌜ Applied operator high low first second one two three r ⌝ }
+    requires { ⌜ FixedOperable operator high low first second one two three ⌝ }
+    ensures { λ r. ⌜ FixedApplied operator high low first second one two three r ⌝ }
 {
     match operator {
         0 => not_of(one),
-        1 => and_of(one, two),
-        2 => or_of(one, two),
-        3 => xor_of(one, two),
-        4 => implies(one, two),
-        5 => equal(one, two),
-        6 => distinct(one, two),
         7 => ite(one, two, three),
         8 => bvnot(first, one),
         9 => bvneg(first, one),
@@ -210,7 +255,33 @@ pub fn apply(
         19 => bvlshr(first, one, two),
         20 => bvult(one, two),
         21 => concat(first, second, one, two),
-        22 => extract(high, low, one),
+        EXTRACT => extract(high, low, one),
         _ => 0,
+    }
+}
+
+// The value of an operator, with `high` and `low` the numbers of an `extract`, over operands of these values, of which the first two have the widths `first`
+// and `second`; a width that is not there is 0.
+pub fn apply(operator: usize, high: u64, low: u64, first: u64, second: u64, values: &[u64]) -> u64
+    requires { ⌜ Operable operator high low first second (now values) ⌝ }
+    ensures { λ r. ⌜ Applied operator high low first second (now (values .entry)) r ⌝ }
+{
+    match operator {
+        AND => group_left(AND, values),
+        OR => group_left(OR, values),
+        XOR => group_left(XOR, values),
+        4 => group_right(values), // =>
+        5 => all_alike(values), // =
+        6 => all_differ(values), // distinct
+        _ => fixed_value(
+            operator,
+            high,
+            low,
+            first,
+            second,
+            operand(values, 0),
+            operand(values, 1),
+            operand(values, 2),
+        ),
     }
 }

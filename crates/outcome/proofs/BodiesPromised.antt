@@ -1,5 +1,5 @@
 -- Terms of bodies and constraints: where no non-terminal is seen, the form that is read is a term, and has the sort of the form.
-use Prim.Native.Nat.{ℕ, _≤_}
+use Prim.Native.Nat.{ℕ, _^_, _≤_}
 use native.Mathlib.Omega.{arith}
 use mathlib.Core.Bool.{Bool, true, false, cond, _&&_}
 use mathlib.Core.List.{List, [], _∷_}
@@ -9,6 +9,7 @@ use lib.Dec.{leb, ltb}
 use borrow.Author.Tests.{eqb-true, le-ltb, ltb-true}
 use Rattle.forest.specs.Forest.{Forest, none, tree}
 use Rattle.forest.proofs.Bools.{apart}
+use Rattle.word_kinds.specs.Decimals.{decimalValue}
 use Rattle.operators.specs.Operators.{operatorCount, operatorOf, operatorSort}
 use Rattle.operators.specs.Sorts.{maxWidth}
 use Rattle.terms.specs.Labels.{Label}
@@ -18,7 +19,7 @@ use Rattle.derivation.specs.Sorts.{formSorts, itemSort}
 use Rattle.lexemes.specs.Reserved.{isWord}
 use Rattle.words.specs.Trees.{Lexeme, wordOf}
 use Rattle.lexemes.specs.Lists.{Items}
-use Rattle.term_nodes.specs.Terms.{Raw, constant, cut, number, pattern, rawTerm, word}
+use Rattle.term_nodes.specs.Terms.{Raw, constant, cut, decimal, number, pattern, rawTerm, word}
 use Rattle.names.specs.Scopes.{Named, View, definedNames, formsOf, functionNames, isNamed, itemOr, means, namesOf, namedSorts as sortsIn, symbolMeans}
 use Rattle.term_faults.specs.Faults.{bodyFault, oneSort, rawSorts, scopeOf, termFault}
 use Rattle.script.specs.Script.{labelOf, termOf, termsIn}
@@ -62,7 +63,9 @@ module _ (scope : Scope) where
       (either-labelled (isNamed (functionNames (view .functions)) name) the-labelled
       (either-labelled (isNamed (namesOf (view .nonTerminals)) name) (unseen-labelled _) nothing-labelled))))))
   node-labelled view (number at v) w = nothing-labelled
-  node-labelled view (constant at width v written) w = the-labelled
+  node-labelled view (constant at width v) w = the-labelled
+  node-labelled view (decimal at head n width) w =
+      either-labelled (leb 1 width && leb width maxWidth && ltb (decimalValue n) (2 ^ width)) the-labelled nothing-labelled
   node-labelled view (cut at head i j) w = either-labelled (leb j i && ltb i maxWidth) the-labelled nothing-labelled
   node-labelled view (pattern at c s held) w = absurd w
 

@@ -1,9 +1,8 @@
 -- Two areas that show derivations of the same bodies: they have the same entries where there is one list, and behind the lists.
 use Prim.Native.Nat.{ℕ, zero, suc, _+_, _-_, _*_, _≤_}
-use native.Mathlib.Nat.{mul-suc, mul-zero}
 use native.Mathlib.Omega.{arith}
-use mathlib.Core.List.{List, [], _∷_, _++_, append-assoc}
-use mathlib.Core.Path.{_≡_, refl, sym, ap, subst₂, _∙_}
+use mathlib.Core.List.{List, _++_, append-assoc}
+use mathlib.Core.Path.{_≡_, sym, ap, subst₂, _∙_}
 use lib.ListN.{drop, length, length-append, length-replicate, replicate, take}
 use lib.Seq.{drop-append-add, drop-at, take-at}
 use Rattle.forest.specs.Limits.{areaSize, listSize}

@@ -23,4 +23,5 @@ pub mod Limited
 pub mod Script
 pub mod BodiesAssured
 pub mod Nodes
+pub mod SmallTerms
 pub mod Promised

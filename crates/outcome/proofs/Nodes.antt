@@ -15,9 +15,9 @@ use Rattle.terms.specs.Sorts.{Scope, labelSort, sortsOf}
 use Rattle.terms.proofs.Sorted.{sorted}
 use Rattle.words.specs.Trees.{Lexeme}
 use Rattle.lexemes.specs.Lists.{Items, is, item}
-use Rattle.term_nodes.specs.Terms.{Raw, constant, cut, firstWord, isNode, nodeWord, number, pattern, rawOf, rawTerm, rawTerms, word}
+use Rattle.term_nodes.specs.Terms.{Raw, constant, cut, decimal, firstWord, isNode, nodeWord, number, pattern, rawOf, rawTerm, rawTerms, word, wordPast}
 use Rattle.names.specs.Scopes.{View, formsOf, itemOr, means}
-use Rattle.term_faults.proofs.Rising.{first-raw}
+use Rattle.term_nodes.proofs.GatheringWalk.{term-first}
 use Rattle.script.specs.Script.{labelOf, termOf, termsIn}
 use Rattle.script.proofs.WordsBelow.{Below, WordsBelow}
 use Rattle.script.proofs.TermsOfForms.{term-size}
@@ -47,7 +47,8 @@ module _ (view : View) (scope : Scope) where
   unfolding labelSort operatorSort
   sorted-node (word at head name) ss h = refl
   sorted-node (number at v) ss h = never h
-  sorted-node (constant at width v written) ss h = refl
+  sorted-node (constant at width v) ss h = refl
+  sorted-node (decimal at head name width) ss h = refl
   sorted-node (cut at head i j) ss h = refl
   sorted-node (pattern at c s held) ss h = refl
 
@@ -68,14 +69,14 @@ module _ (view : View) (scope : Scope) where
     items-counted false (tree l ops more) below h =
         let p = sorted scope _ _ _ h in
         let within = operands-counted (is "_" (item 0 ops)) (rawTerms true ops) (λ e. items-counted true ops (below .1) e) (p .ops-have) in
-        let low : firstWord (rawOf l ops) < nowhere = omega (arith, first-raw l ops, below .0 .first) in
+        let low : firstWord (rawOf l ops) < nowhere = omega (arith, term-first l ops, below .0 .first) in
         also-counted (sorted-node (rawOf l ops) (p .operands) (p .label)) low
         (counted-append within (items-counted false more (below .2) (p .rest-have)))
 
   -- A term that has a sort has no more nodes than the limit, where none is past it.
   pub few-nodes : {nowhere : ℕ} (most : ℕ) (l : Lexeme) (ops : Items) {ss : List ℕ} → WordsBelow nowhere l → Below nowhere ops → view .nonTerminals ≡ []
-      → sortsOf scope (termOf view l ops) ≡ some ss → nowhere ≤ nodeWord nowhere most (nodesOf (rawTerm l ops)) → size (termOf view l ops) ≤ most
+      → sortsOf scope (termOf view l ops) ≡ some ss → nowhere ≤ wordPast nowhere most (nodesOf (rawTerm l ops)) → size (termOf view l ops) ≤ most
   unfolding Below
   few-nodes most l ops first below closed sorts past =
       let counted = items-counted false (tree l ops none) (first, below, tt) sorts in
-      omega (arith, term-size view closed l ops, length-nodes (rawTerm l ops), few-counted most counted past)
+      omega (arith, term-size view closed l ops, length-nodes (rawTerm l ops), few-counted most counted (omega arith))

@@ -2,14 +2,12 @@
 use Prim.Native.Nat.{ℕ}
 use Prim.Native.String.{String}
 use mathlib.Core.Bool.{Bool, true, false}
-use mathlib.Core.List.{List, [], _∷_}
+use mathlib.Core.List.{List}
 use mathlib.Core.Path.{_≡_, refl, subst}
-use lib.Dec.{eqb}
-use borrow.Author.Tests.{eqb-true}
 use Rattle.forest.specs.Lists.{sameBytes, spelling}
-use Rattle.forest.proofs.Bools.{and-left, and-right, apart}
 use Rattle.lexemes.specs.Reserved.{isWord}
 use Rattle.lexemes.specs.Lists.{Items, is, item, nameOf}
+use Rattle.lexemes.proofs.Numbers.{same-bytes}
 
 -- The tests of a command's word: whether it declares a variable, defines a function, synthesizes one, constrains.
 pub record Tests (c : Items) (declared defined synthesized constrained : Bool) : Type 0 where
@@ -25,17 +23,6 @@ pub data Command (c : Items) : Type 0 where
   synthesizing : Tests c false false true false → Command c
   constraining : Tests c false false false true → Command c
   another : Tests c false false false false → Command c
-
--- Lists of bytes that are found the same are.
-same-bytes : (u v : List ℕ) → sameBytes u v ≡ true → u ≡ v
-unfolding sameBytes
-same-bytes [] [] h = refl
-same-bytes [] (b ∷ v) h = apart h
-same-bytes (a ∷ u) [] h = apart h
-same-bytes (a ∷ u) (b ∷ v) h =
-    let first = eqb-true a b (and-left (eqb a b) (sameBytes u v) h) in
-    let more = same-bytes u v (and-right (eqb a b) (sameBytes u v) h) in
-    cc
 
 -- A name that is one word is no other.
 other-word : (one other : String) → isWord other (spelling one) ≡ false → (name : List ℕ) → isWord one name ≡ true → isWord other name ≡ false

@@ -1,5 +1,5 @@
 -- Forms that have sorts: where the numbers that no sort tells are small, they are proper right sides of rules.
-use Prim.Native.Nat.{ℕ, _≤_, _<_}
+use Prim.Native.Nat.{ℕ, _^_, _≤_, _<_}
 use native.Mathlib.Omega.{arith}
 use mathlib.Core.Bool.{Bool, true, false, cond, _&&_}
 use mathlib.Core.List.{List, []}
@@ -11,8 +11,9 @@ use borrow.Author.Tests.{eqb-true, leb-true, ltb-true}
 use Rattle.forest.specs.Forest.{Forest, count, none, tree}
 use Rattle.forest.proofs.Bools.{and-left, and-right}
 use Rattle.forest.proofs.Options.{passed}
+use Rattle.word_kinds.specs.Decimals.{decimalValue}
 use Rattle.operators.specs.Operators.{operatorCount, operatorOf}
-use Rattle.operators.specs.Sorts.{maxWidth, valuesOf}
+use Rattle.operators.specs.Sorts.{maxWidth}
 use Rattle.terms.specs.Labels.{Label, defined, function, literal, name, operator}
 use Rattle.terms.specs.code.Nodes.{Plain}
 use Rattle.terms.specs.Sorts.{labelSort}
@@ -22,20 +23,19 @@ use Rattle.derivation.specs.Derivation.{Item, anyArgument, anyLiteral, nonTermi
 use Rattle.derivation.specs.code.Admitted.{Proper}
 use Rattle.lexemes.specs.Reserved.{isWord}
 use Rattle.term_sorts.specs.Forms.{FormScope, formSorts, itemSort}
-use Rattle.term_nodes.specs.Terms.{Raw, constant, cut, number, pattern, word}
+use Rattle.term_nodes.specs.Terms.{Raw, constant, cut, decimal, number, pattern, word}
 use Rattle.names.specs.Scopes.{View, definedNames, formsOf, functionNames, isNamed, itemOr, means, namesOf, symbolMeans}
-use Rattle.script.proofs.TermsOfForms.{AllWritten, Written, also-written}
 
--- The numbers of an item that its sort does not tell are small: j of `(_ extract i j)`, and σ of `(Constant σ)` and `(Variable σ)`.
+-- The number of an item that its sort does not tell is small: j of `(_ extract i j)`.
 abbrev pub Bounded : Item → Type 0
-Bounded (the (literal s v w)) = Unit {0}
+Bounded (the (literal s v)) = Unit {0}
 Bounded (the (name s k)) = Unit {0}
 Bounded (the (operator o i j)) = j < maxWidth
 Bounded (the (defined k)) = Unit {0}
 Bounded (the (function k)) = Unit {0}
 Bounded (nonTerminal A) = Unit {0}
-Bounded (anyLiteral s) = s ≤ maxWidth
-Bounded (anyArgument s) = s ≤ maxWidth
+Bounded (anyLiteral s) = Unit {0}
+Bounded (anyArgument s) = Unit {0}
 
 -- The same of every node.
 pub data AllBounded : Forest Item → Type 0 where
@@ -55,9 +55,9 @@ either-small false p q = q
 
 module _ (view : View) where
   -- What a node of a term stands for has small numbers.
-  node-small : (r : Raw) → Written r → Small (means view r)
+  node-small : (r : Raw) → Small (means view r)
   unfolding symbolMeans
-  node-small (word at head n) w =
+  node-small (word at head n) =
       either-small (isWord "true" n) (λ e. record { bounded = tt })
       (either-small (isWord "false" n) (λ e. record { bounded = tt })
       (either-small (ltb (operatorOf n) operatorCount)
@@ -66,21 +66,24 @@ module _ (view : View) where
       (either-small (isNamed (definedNames (view .defined)) n) (λ e. record { bounded = tt })
       (either-small (isNamed (functionNames (view .functions)) n) (λ e. record { bounded = tt })
       (either-small (isNamed (namesOf (view .nonTerminals)) n) (λ e. record { bounded = tt }) (record { bounded = omega arith })))))))
-  node-small (number at v) w = record { bounded = omega arith }
-  node-small (constant at width v written) w = record { bounded = tt }
-  node-small (cut at head i j) w =
+  node-small (number at v) = record { bounded = omega arith }
+  node-small (constant at width v) = record { bounded = tt }
+  node-small (decimal at head n width) =
+      either-small (leb 1 width && leb width maxWidth && ltb (decimalValue n) (2 ^ width)) (λ e. record { bounded = tt }) (record { bounded = omega arith })
+  node-small (cut at head i j) =
       let both = leb j i && ltb i maxWidth in
       either-small both (λ e. record {
         bounded = omega (arith, leb-true j i (and-left (leb j i) (ltb i maxWidth) e), ltb-true i maxWidth (and-right (leb j i) (ltb i maxWidth) e));
       })
       (record { bounded = omega arith })
-  node-small (pattern at c s held) w = absurd w
+  node-small (pattern at true s held) = record { bounded = tt }
+  node-small (pattern at false s held) = record { bounded = tt }
 
   -- So have the forms that terms say.
-  pub terms-bounded : (F : Forest Raw) → AllWritten F → AllBounded (formsOf view F)
+  pub terms-bounded : (F : Forest Raw) → AllBounded (formsOf view F)
   unfolding formsOf
-  terms-bounded none w = none-bounded
-  terms-bounded (tree r ops more) (also-written w o m) = also-bounded (node-small r w .bounded) (terms-bounded ops o) (terms-bounded more m)
+  terms-bounded none = none-bounded
+  terms-bounded (tree r ops more) = also-bounded (node-small r .bounded) (terms-bounded ops) (terms-bounded more)
 
 -- ---- forms that have sorts
 
@@ -104,10 +107,7 @@ module _ (scope : FormScope) where
   -- A label that has a sort is told by its numbers.
   label-plain : (l : Label) → Bounded (the l) → (ss : List ℕ) {s : ℕ} → labelSort (scope .terms) l ss ≡ some s → Plain l
   unfolding labelSort
-  label-plain (literal s v w) b ss h =
-      let test = leb s maxWidth && ltb v (valuesOf s) in
-      let fits = and-left test (eqb (length ss) 0) (passed (test && eqb (length ss) 0) h .0) in
-      omega (arith, leb-true s maxWidth (and-left (leb s maxWidth) (ltb v (valuesOf s)) fits))
+  label-plain (literal s v) b ss h = tt
   label-plain (name s k) b ss h = tt
   label-plain (operator o i j) b ss h = b
   label-plain (defined k) b ss h = tt
@@ -124,8 +124,8 @@ module _ (scope : FormScope) where
         let low = ltb-true A (length (scope .nonTerminals)) (and-left _ (eqb (length ss) 0) test) in
         let bare = eqb-true (length ss) 0 (and-right (ltb A (length (scope .nonTerminals))) _ test) in
         (omega arith, no-forms ops (c ∙ bare), q)
-    tree-proper (anyLiteral s) ops rest ss h c b p q = (omega arith, no-forms ops (c ∙ eqb-true (length ss) 0 (passed _ h .0)), q)
-    tree-proper (anyArgument s) ops rest ss h c b p q = (omega arith, no-forms ops (c ∙ eqb-true (length ss) 0 (passed _ h .0)), q)
+    tree-proper (anyLiteral s) ops rest ss h c b p q = (no-forms ops (c ∙ eqb-true (length ss) 0 (passed _ h .0)), q)
+    tree-proper (anyArgument s) ops rest ss h c b p q = (no-forms ops (c ∙ eqb-true (length ss) 0 (passed _ h .0)), q)
 
     -- Forms that have sorts, of small numbers, are proper.
     pub sorted-proper : (F : Forest Item) {ss : List ℕ} → formSorts scope F ≡ some ss → AllBounded F → Proper most F

@@ -1,4 +1,4 @@
--- A script that passes: its sorts, its grammars and its variables.
+-- A script that passes: its sorts, its grammars, its variables and its terms.
 use Prim.Native.Nat.{ℕ, _≤_, _<_}
 use native.Mathlib.Omega.{arith}
 use mathlib.Core.Bool.{Bool, true, false}
@@ -10,7 +10,7 @@ use Rattle.derivation.specs.Derivation.{formOf}
 use Rattle.derivation.specs.code.Admitted.{Admitted}
 use Rattle.lexemes.specs.Lists.{Items, inside}
 use Rattle.term_nodes.specs.Rules.{itemPast, rulePast, rulesIn}
-use Rattle.written_sorts.specs.Written.{grammarSorts, groupPlace, leastIn, pairPlace}
+use Rattle.written_sorts.specs.Written.{grammarSorts}
 use Rattle.written_sorts.specs.declared.Fault.the-variants.{TooWide}
 use Rattle.names.specs.Scopes.{Defined, Function, Named}
 use Rattle.headers.specs.Heads.{headerPast}
@@ -28,9 +28,10 @@ use Rattle.script.specs.Outcome.{said, scriptOutcome}
 use Rattle.script.proofs.Keeping.{script-keeps}
 use Rattle.outcome.proofs.Promised.{script-sorted}
 use Rattle.outcome.proofs.Variables.{variables-small}
+use Rattle.outcome.proofs.SmallTerms.{script-few}
 use Rattle.outcome.specs.code.Assured.{AllAdmitted, Assured}
 use Rattle.outcome.proofs.Proper.{AllBounded, sorted-proper, sorts-counted}
-use Rattle.outcome.proofs.Limited.{groups-bounded, rules-few, said-bounded}
+use Rattle.outcome.proofs.Limited.{rules-few, said-bounded}
 
 -- The grammar of a function is within its limits.
 record Limited (f : Function) : Type 0 where
@@ -78,7 +79,6 @@ module _ {nowhere : ℕ} (k : Known) (at : ℕ) (c : Items) (some-word : 0 < now
       let in-groups = inside-below nowhere 5 c below in
       let past = past-none _ (headerPast allowed nowhere c) (grammarPast allowed nowhere c) fits .2 in
       let parts = past-none (itemPast nowhere mostNonTerminals pairs) (grammarSorts TooWide nowhere c) _ past in
-      let sorts = past-neither (leastIn nowhere (pairPlace TooWide nowhere) pairs) (leastIn nowhere (groupPlace TooWide nowhere) groups) (parts .1) in
       let listed = past-neither (rulePast nowhere mostRules (rulesIn 0 groups)) _ (parts .2) in
       let few = items-few nowhere mostNonTerminals pairs some-word (inside-below nowhere 4 c below) (parts .0) in
       let placed = groups-placed {most = count groups} 0 groups (omega arith) in-groups in
@@ -88,7 +88,7 @@ module _ {nowhere : ℕ} (k : Known) (at : ℕ) (c : Items) (some-word : 0 < now
           record {
             rules = rw length-map (rules-few mostRules placed (listed .0));
             nonTerminals = omega (arith, named-long pairs);
-            sides = said-bounded (viewOf k c) (groups-bounded (viewOf k c) some-word 0 groups in-groups (sorts .1));
+            sides = said-bounded (viewOf k c) (rulesIn 0 groups);
           },
           within .functions,
         );
@@ -107,11 +107,16 @@ module _ {nowhere : ℕ} (k : Known) (at : ℕ) (c : Items) (some-word : 0 < now
   after-command (constraining t) = after-other t
   after-command (another t) = after-other t
 
--- A script that passes has its sorts, its grammars are those that document 01 admits, and its variables are at most 64 wide.
+-- A script that passes has its sorts, its grammars are those that document 01 admits, its variables are at most 64 wide, and its terms have few nodes.
 pub script-assured : (text : List ℕ) {k : Known} → scriptOutcome text ≡ said k → Assured k
 unfolding AllLimited
 script-assured text {k} e =
-    let within = script-keeps Within (λ nowhere k at c some-word below limited h. after-command k at c some-word below limited h (command c)) text e
+    let within = script-keeps Within (λ nowhere k at c some-word below limited sorted h. after-command k at c some-word below limited h (command c)) text e
     (record { functions = tt }) in
     let sorted = script-sorted text e in
-    record { sorted = sorted; admitted = all-admitted (k .defined) (k .functions) (sorted .functions) (within .functions); small = variables-small text e }
+    record {
+      sorted = sorted;
+      admitted = all-admitted (k .defined) (k .functions) (sorted .functions) (within .functions);
+      small = variables-small text e;
+      few = script-few text e;
+    }

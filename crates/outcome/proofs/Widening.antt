@@ -52,7 +52,7 @@ module _ {a b : Scope} (wider : Wider a b) where
   -- A label keeps its sort.
   label-wider : (l : Label) (ss : List ℕ) {s : ℕ} → labelSort a l ss ≡ some s → labelSort b l ss ≡ some s
   unfolding labelSort
-  label-wider (literal t v w) ss h = h
+  label-wider (literal t v) ss h = h
   label-wider (name t k) ss h =
       let low = and-left _ _ (and-left _ _ (passed _ h .0)) in
       let there = wider .names k (ltb-true k (length (a .names)) low) in

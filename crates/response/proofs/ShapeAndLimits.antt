@@ -17,7 +17,7 @@ use Rattle.lexemes.proofs.Listed.{between, first-code}
 use Rattle.shapes.specs.Carried.{anyUncarried}
 use Rattle.shapes.specs.Shapes.{defineFunShape}
 use Rattle.written_sorts.specs.code.Headers.{HeaderAt}
-use Rattle.term_nodes.specs.Terms.{nodeWord, rawTerm}
+use Rattle.term_nodes.specs.Terms.{rawTerm, wordPast}
 use Rattle.bodies.specs.code.Bodies.{Limited, TermAt}
 use Rattle.bodies.specs.declared.Body.{Body as Rows}
 use Rattle.headers.specs.Heads.{headerPast}
@@ -31,7 +31,7 @@ use Rattle.response.proofs.BodyItem.{body-item, body-shaped, head-of, n
 
 -- The least word past a limit.
 abbrev limitOf : (nowhere : ℕ) → Items → ℕ
-limitOf nowhere c = min (headerPast allowed nowhere c) (nodeWord nowhere mostNodes (nodesOf (rawTerm (item 4 c) (inside 4 c))))
+limitOf nowhere c = min (headerPast allowed nowhere c) (wordPast nowhere mostNodes (nodesOf (rawTerm (item 4 c) (inside 4 c))))
 
 module _ {lexemes raw : List ℕ} {at nowhere : ℕ} where
   -- A refusal is one.

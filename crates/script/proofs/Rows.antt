@@ -12,18 +12,17 @@ use Rattle.forest.specs.Limits.{Counts, allowed}
 use Rattle.forest.proofs.Bools.{apart}
 use Rattle.forest.proofs.Lists.{drop-more, stands, within}
 use Rattle.word_kinds.specs.declared.Fault.{Fault}
-use Rattle.word_kinds.specs.declared.Fault.the-variants.{BadWord, Bracket, NoFault, NotCarried, PastLimit, TooLong}
+use Rattle.word_kinds.specs.declared.Fault.the-variants.{BadWord, Bracket, NoFault, NotCarried, PastLimit}
 use Rattle.word_kinds.specs.declared.Kind.{Kind}
 use Rattle.words.specs.Reading.{closeFault, depthAfter, faultAt, foundFrom, lesser, limitFault, ownFault, readingOf}
 use Rattle.words.specs.Words.{Word, wordAt, wordsOf}
-use Rattle.words.specs.Trees.{wordOf}
 use Rattle.words.specs.Table.{closes as closing, opens as opening}
 use Rattle.words.specs.Answers.{faultNumber}
 use Rattle.words.specs.Limits.{responseLimits, scriptLimits}
 use Rattle.words.specs.declared.Limits.{Limits}
 use Rattle.words.specs.declared.Reading.{Reading}
 use Rattle.words.specs.declared.Reading.the-variants.{Whole, Refused}
-use Rattle.lexemes.specs.Lists.{Items, closeOf, inside, is, isList, item, itemsOf}
+use Rattle.lexemes.specs.Lists.{Items, inside, is, isList, item, itemsOf}
 use Rattle.lexemes.proofs.Said.{found}
 use Rattle.lexemes.proofs.WholeText.{text-stands, whole-count}
 use Rattle.shapes.specs.Carried.{anyUncarried, notCarried}
@@ -34,10 +33,14 @@ use Rattle.term_faults.specs.Faults.{bodyFault}
 use Rattle.names.specs.Scopes.{Defined, Function}
 use Rattle.script.specs.Limits.{nodePast}
 use Rattle.script.specs.Naming.{termNames}
-use Rattle.script.specs.Script.{Known, Read, andThen, grammarPlace, judged, limitPlace, namePlace, outOfPlace, passed, readAll, refused, sortingPlace, nothingKnown, tested}
-use Rattle.script.specs.Response.{Answered, Body, answered, bodies, nothingBehind, inScriptOrder, isAlone, judgedAll, judgedBody, judgedExtra, refused as declined, responseView, withBody}
-use Rattle.script.specs.Outcome.{ResponseOutcome, ScriptOutcome, byAnswers, byCommands, byResponse, byWords, given, offsetOf, responseOutcome, said, scriptOutcome, startOf}
-use Rattle.script.specs.Rows.{AtWord, ResponseRow, ScriptRow, TextRow, bad-name, bad-word, closed-too-often, ends-early, fail, grammar-fault, header-differs, infeasible, never-closed, not-carried, past-limit, shape-unknown, sort-fault, too-long}
+use Rattle.script.specs.Script.{Known, Read, andThen, grammarPlace, judged, limitPlace, namePlace, outOfPlace, passed, readAll, refused, sortingPlace}
+use Rattle.script.specs.Script.{nothingKnown, tested}
+use Rattle.script.specs.Response.{Answered, Body, answered, bodies, nothingBehind, inScriptOrder, isAlone, judgedAll, judgedBody, judgedExtra}
+use Rattle.script.specs.Response.{refused as declined, responseView, withBody}
+use Rattle.script.specs.Outcome.{ResponseOutcome, ScriptOutcome, byAnswers, byCommands, byResponse, byWords, given, offsetOf, responseOutcome, said}
+use Rattle.script.specs.Outcome.{scriptOutcome, startOf}
+use Rattle.script.specs.Rows.{AtWord, ResponseRow, ScriptRow, TextRow, bad-name, bad-word, closed-too-often, ends-early, fail, grammar-fault}
+use Rattle.script.specs.Rows.{header-differs, infeasible, never-closed, not-carried, past-limit, shape-unknown, sort-fault, too-long}
 use Rattle.script.proofs.WordFaults.{OwnFault, OwnKind, a-literal, a-numeral, a-symbol, closes, faulty, kind-own, opens}
 use Rattle.script.proofs.WordsBelow.{Below, item-below, stands-below}
 use Rattle.script.specs.code.Answers.{failAnswer, infeasibleAnswer, shapeAnswer}

@@ -1,7 +1,6 @@
 -- Terms of bodies and constraints: where no non-terminal is seen, the forms that are read are terms, whose nodes have the same rows, and whose
 -- labels are told by their numbers.
-use Prim.Native.Nat.{ℕ}
-use native.Mathlib.Omega.{arith}
+use Prim.Native.Nat.{ℕ, _^_}
 use mathlib.Core.Bool.{Bool, true, false, cond, _&&_}
 use mathlib.Core.List.{List, []}
 use mathlib.Core.Option.{Option, none as nothing, some}
@@ -11,6 +10,7 @@ use Rattle.forest.specs.Forest.{Forest, count, nodesOf, none, tree}
 use Rattle.forest.specs.code.Cursors.{size}
 use Rattle.forest.specs.Tables.{rows}
 use Rattle.forest.proofs.Rows.{rows-append}
+use Rattle.word_kinds.specs.Decimals.{decimalValue}
 use Rattle.operators.specs.Operators.{operatorCount, operatorOf}
 use Rattle.operators.specs.Sorts.{maxWidth}
 use Rattle.terms.specs.Labels.{Label, defined, function, literal, name as label-name, operator}
@@ -20,11 +20,11 @@ use Rattle.derivation.specs.code.Tables.{formTable, itemCode, itemRow, itemValu
 use Rattle.lexemes.specs.Reserved.{isWord}
 use Rattle.term_sorts.specs.Forms.{FormScope}
 use Rattle.term_sorts.specs.code.Signatures.{AllReal, Real}
-use Rattle.words.specs.Trees.{Lexeme, list, literal as literal-word, numeral, symbol}
-use Rattle.lexemes.specs.Lists.{Items, inside, is, item}
+use Rattle.words.specs.Trees.{Lexeme, list, literal as literal-word, numeral, symbol, wordOf}
+use Rattle.lexemes.specs.Lists.{Items, inside, is, isConstantWord, item, nameOf, numeralOf}
 use Rattle.lexemes.specs.code.Standing.{Source}
 use Rattle.term_nodes.specs.code.Says.{AllSay}
-use Rattle.term_nodes.specs.Terms.{Raw, constant, cut, cutBy, headedBy, number, pattern, rawOf, rawTerm, rawTerms, word}
+use Rattle.term_nodes.specs.Terms.{Raw, constant, cut, cutBy, decimal, headedBy, number, pattern, rawOf, rawTerm, rawTerms, word}
 use Rattle.term_nodes.specs.code.Table.{operandsOf}
 use Rattle.names.specs.Scopes.{Named, View, definedNames, formsOf, functionNames, isNamed, itemOr, means, namesOf, symbolMeans}
 use Rattle.term_faults.specs.Faults.{scopeOf}
@@ -36,7 +36,8 @@ use Rattle.script.specs.Script.{labelOf, termOf, termsIn}
 abbrev pub Written : Raw → Type 0
 Written (word at head name) = Unit {0}
 Written (number at v) = Unit {0}
-Written (constant at width v written) = Unit {0}
+Written (constant at width v) = Unit {0}
+Written (decimal at head n width) = Unit {0}
 Written (cut at head i j) = Unit {0}
 Written (pattern at c s held) = ⊥
 
@@ -47,11 +48,13 @@ pub data AllWritten : Forest Raw → Type 0 where
 
 -- The node of a list is none.
 headed-written : (at : ℕ) (l : Lexeme) (held ops : Items) → Written (headedBy at l held ops)
-headed-written at (symbol head name) held ops = go (is "_" (symbol head name))
+headed-written at (symbol head name) held ops = go (is "_" (symbol head name)) (isConstantWord (item 1 ops))
   where
-    go : (b : Bool) → Written (cond b (cutBy at ops) (word at head name))
-    go true = tt
-    go false = tt
+    go : (b c : Bool)
+        → Written (cond b (cond c (decimal at (wordOf (item 1 ops)) (nameOf (item 1 ops)) (numeralOf (item 2 ops))) (cutBy at ops)) (word at head name))
+    go true true = tt
+    go true false = tt
+    go false c = tt
 headed-written at (list head close) held ops = tt
 headed-written at (numeral head v) held ops = tt
 headed-written at (literal-word head width v written) held ops = tt
@@ -112,7 +115,9 @@ module _ (view : View) (closed : view .nonTerminals ≡ []) where
       (either-labelled (isNamed (functionNames (view .functions)) n) the-labelled
       (unseen-labelled (view .nonTerminals) closed n _))))))
   node-labelled (number at v) w = nothing-labelled
-  node-labelled (constant at width v written) w = the-labelled
+  node-labelled (constant at width v) w = the-labelled
+  node-labelled (decimal at head n width) w =
+      either-labelled (leb 1 width && leb width maxWidth && ltb (decimalValue n) (2 ^ width)) the-labelled nothing-labelled
   node-labelled (cut at head i j) w = either-labelled (leb j i && ltb i maxWidth) the-labelled nothing-labelled
   node-labelled (pattern at c s held) w = absurd w
 
@@ -168,7 +173,7 @@ labels-table (tree i ops more) (also-labels e o m) =
 
 -- A label that a reader makes is told by its numbers.
 label-plain : (scope : FormScope) (l : Label) → Real scope (the l) → Plain l
-label-plain scope (literal s v w) real = omega (arith, real .sort)
+label-plain scope (literal s v) real = tt
 label-plain scope (label-name s k) real = tt
 label-plain scope (operator o i j) real = real
 label-plain scope (defined k) real = tt

@@ -6,11 +6,11 @@ use Rattle.forest.specs.Forest.{nodesOf}
 use Rattle.words.specs.Trees.{Lexeme}
 use Rattle.lexemes.specs.Lists.{Items}
 use Rattle.forest.specs.Limits.{Counts}
-use Rattle.term_nodes.specs.Terms.{nodeWord, rawTerm}
+use Rattle.term_nodes.specs.Terms.{rawTerm, wordPast}
 
--- The node past the limit of a term.
+-- The word past a limit of a term: its nodes, or a constant.
 abbrev pub nodePast : Counts → (nowhere : ℕ) → Lexeme → Items → ℕ
-nodePast counts nowhere l ops = nodeWord nowhere (counts .nodes) (nodesOf (rawTerm l ops))
+nodePast counts nowhere l ops = wordPast nowhere (counts .nodes) (nodesOf (rawTerm l ops))
 
 -- The command itself, where there are as many of its kind before it as there may be.
 abbrev pub commandPast : (nowhere most before at : ℕ) → ℕ

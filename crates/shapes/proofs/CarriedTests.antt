@@ -4,14 +4,15 @@ use native.Mathlib.Omega.{arith}
 use mathlib.Core.Path.{_≡_, refl, sym, ap, _∙_}
 use mathlib.Core.Bool.{Bool, true, false, _&&_, _||_, not}
 use mathlib.Core.List.{List, [], _∷_}
-use lib.Dec.{eqb}
+use lib.Dec.{eqb, ltb}
 use borrow.Author.Tests.{eqb-true, ne-eqb}
 use Rattle.forest.specs.Forest.{count}
-use Rattle.lexemes.specs.code.Codes.{bangCode, bitVecCode, bvCode, existsCode, extractCode, forallCode, letCode, setLogicCode, synthFunCode, underscoreCode}
+use Rattle.lexemes.specs.code.Codes.{bangCode, bitVecCode, bvCode, existsCode, extractCode, forallCode, letCode, otherCode, setLogicCode, synthFunCode}
+use Rattle.lexemes.specs.code.Codes.{underscoreCode}
 use Rattle.lexemes.specs.Lists.{after, is}
-use Rattle.lexemes.specs.code.Table.{codeAt}
+use Rattle.lexemes.specs.code.Table.{codeAt, numeralCode}
 use Rattle.lexemes.specs.code.Standing.{ListAt}
-use Rattle.lexemes.proofs.ByCode.{codeFor, front-word, front-words, frontCode}
+use Rattle.lexemes.proofs.ByCode.{codeFor, front-constant, front-word, front-words, frontCode}
 use Rattle.lexemes.proofs.Standing.{front}
 use Rattle.lexemes.proofs.Listed.{first-code, held}
 use Rattle.lexemes.proofs.Spelt.{behind-word}
@@ -20,7 +21,7 @@ use Rattle.shapes.specs.Carried.{noGrammar, otherLogic, uncarriedStart}
 
 module _ {lexemes : List ℕ} {at : ℕ} where
   -- the second word of a list whose first is no bracket
-  second-code : (x : ListAt lexemes at) → 3 ≤ frontCode (x .operands) → codeAt lexemes (at + 2) ≡ frontCode (after 1 (x .operands))
+  second-code : (x : ListAt lexemes at) → numeralCode ≤ frontCode (x .operands) → codeAt lexemes (at + 2) ≡ frontCode (after 1 (x .operands))
   second-code x h =
       let l = held x in
       let e : at + 1 + 1 ≡ at + 2 = omega arith in
@@ -29,7 +30,7 @@ module _ {lexemes : List ℕ} {at : ℕ} where
   module _ {first : ℕ} (ef : first ≡ codeAt lexemes (at + 1)) {second : ℕ} (es : second ≡ codeAt lexemes (at + 2)) where
     pub start-test : (x : ListAt lexemes at)
         → eqb first letCode || eqb first existsCode || eqb first forallCode || eqb first bangCode
-        || eqb first underscoreCode && not (eqb second bitVecCode || eqb second extractCode) ≡ uncarriedStart (x .operands)
+        || eqb first underscoreCode && not (eqb second bitVecCode || eqb second extractCode || ltb otherCode second) ≡ uncarriedStart (x .operands)
     unfolding after codeFor
     start-test x =
         rw (
@@ -38,6 +39,7 @@ module _ {lexemes : List ℕ} {at : ℕ} where
           front-words ("let" ∷ "exists" ∷ "forall" ∷ "!" ∷ []) refl 0 (x .operands),
           front-word "_" refl 0 (x .operands),
           front-words ("BitVec" ∷ "extract" ∷ []) refl 1 (x .operands),
+          front-constant 1 (x .operands),
         )
         (ap (λ (t : Bool). eqb f letCode || eqb f existsCode || eqb f forallCode || eqb f bangCode || t) (go (eqb f underscoreCode) refl))
       where
@@ -48,7 +50,8 @@ module _ {lexemes : List ℕ} {at : ℕ} where
         s = frontCode (after 1 (x .operands))
 
         go : (b : Bool) → eqb f underscoreCode ≡ b
-            → b && not (eqb second bitVecCode || eqb second extractCode) ≡ b && not (eqb s bitVecCode || eqb s extractCode)
+            → b && not (eqb second bitVecCode || eqb second extractCode || ltb otherCode second)
+            ≡ b && not (eqb s bitVecCode || eqb s extractCode || ltb otherCode s)
         go true e = rw (es, second-code x (omega (arith, eqb-true f underscoreCode e)))
         go false e = refl
 

@@ -1,43 +1,52 @@
 -- The walk into the lists of terms.
 use Prim.Native.Nat.{ℕ, _+_, _-_, _≤_, _<_}
 use native.Mathlib.Omega.{arith}
-use mathlib.Core.Path.{_≡_, sym, ap, _∙_}
-use mathlib.Core.Bool.{Bool, true, false, _&&_, cond, not, and-assoc, and-true}
+use mathlib.Core.Path.{_≡_, refl, sym, ap, _∙_}
+use mathlib.Core.Bool.{Bool, true, false, _&&_, _||_, cond, not, and-assoc, and-true}
 use mathlib.Core.List.{List, [], _∷_}
 use lib.Dec.{leb}
 use borrow.Author.Tests.{leb-true}
 use Rattle.forest.specs.Forest.{count}
 use Rattle.forest.proofs.Bools.{and-left, and-right, apart}
-use Rattle.lexemes.specs.Lists.{Items, indexed, inside, is, isList, item}
+use Rattle.lexemes.specs.Lists.{Items, indexed, inside, is, isConstant, isList, item}
 use Rattle.lexemes.specs.code.Table.{codeAt, nextAt, openCode}
 use Rattle.lexemes.specs.code.Standing.{Between, ItemAt, ListAt}
 use Rattle.lexemes.proofs.Listed.{as-item}
 use Rattle.lexemes.proofs.Pending.{DownAny, at-a-list, behind-less, down-behind, down-end, down-skip, down-start, down-word}
-use Rattle.shapes.specs.Shapes.{applicationShape, headShape, termShapes}
+use Rattle.shapes.specs.Shapes.{applicationShape, headShape, indexedShape, termShapes}
 
 -- whether a list is a term
 abbrev listTerm : Items → Bool
-listTerm ops = cond (is "_" (item 0 ops)) (indexed "extract" 2 ops) (applicationShape ops && termShapes true ops)
+listTerm ops = cond (is "_" (item 0 ops)) (indexedShape ops) (applicationShape ops && termShapes true ops)
 
--- it is `(_ extract i j)`, or a head and operands, or no term
+-- it is a list begun by `_`, or a head and operands, or no term
 module _ (F : Items) where
-  extract-term : indexed "extract" 2 F ≡ true → listTerm F ≡ true
-  extract-term t = go (is "_" (item 0 F)) (indexed "extract" 2 F) (λ i. and-left _ _ (and-left _ _ (and-left _ _ i))) t
+  indexed-term : indexedShape F ≡ true → listTerm F ≡ true
+  indexed-term t = go (is "_" (item 0 F)) (indexedShape F) first t
     where
+      either : (a b : Bool) → (a ≡ true → is "_" (item 0 F) ≡ true) → (b ≡ true → is "_" (item 0 F) ≡ true) → a || b ≡ true → is "_" (item 0 F) ≡ true
+      either true b f g e = f refl
+      either false b f g e = g e
+
+      first : indexedShape F ≡ true → is "_" (item 0 F) ≡ true
+      first =
+          either (indexed "extract" 2 F) (isConstant F) (λ i. and-left _ _ (and-left _ _ (and-left _ _ i)))
+          (λ i. and-left _ _ (and-left _ _ (and-left _ _ i)))
+
       go : (u i : Bool) → (i ≡ true → u ≡ true) → i ≡ true → cond u i (applicationShape F && termShapes true F) ≡ true
       go u i first t = rw (first t, t)
 
   headed-term : not (is "_" (item 0 F)) && applicationShape F ≡ true → listTerm F ≡ termShapes true F
   headed-term = go (is "_" (item 0 F)) (applicationShape F)
     where
-      go : (u a : Bool) → not u && a ≡ true → cond u (indexed "extract" 2 F) (a && termShapes true F) ≡ termShapes true F
+      go : (u a : Bool) → not u && a ≡ true → cond u (indexedShape F) (a && termShapes true F) ≡ termShapes true F
       go true a t = apart t
       go false a t = rw t
 
-  no-term : indexed "extract" 2 F ≡ false → not (is "_" (item 0 F)) && applicationShape F ≡ false → listTerm F ≡ false
+  no-term : indexedShape F ≡ false → not (is "_" (item 0 F)) && applicationShape F ≡ false → listTerm F ≡ false
   no-term e = go (is "_" (item 0 F)) (applicationShape F)
     where
-      go : (u a : Bool) → not u && a ≡ false → cond u (indexed "extract" 2 F) (a && termShapes true F) ≡ false
+      go : (u a : Bool) → not u && a ≡ false → cond u (indexedShape F) (a && termShapes true F) ≡ false
       go true a t = e
       go false a t = rw t
 
@@ -64,11 +73,11 @@ module _ {lexemes : List ℕ} {first end : ℕ} where
       unfolding termShapes
       terms-word other = down-word d h ec other (λ b x source no-list outer known. rw no-list at known) (λ b next outer known. known)
 
-      module _ (opens : code ≡ openCode) {r : Bool} (extract : (x : ItemAt lexemes at) → r ≡ (isList (x .label) && indexed "extract" 2 (x .operands))) where
+      module _ (opens : code ≡ openCode) {r : Bool} (by : (x : ItemAt lexemes at) → r ≡ (isList (x .label) && indexedShape (x .operands))) where
         pub terms-skip : r ≡ true → {next : ℕ} → next ≡ nextAt lexemes at → DownAny lexemes first end next Terms
         unfolding termShapes
         terms-skip t e =
-            down-skip d h ec opens e (λ b x source outer known. rw (extract-term (x .operands) (sym (extract (as-item x)) ∙ t)) at known)
+            down-skip d h ec opens e (λ b x source outer known. rw (indexed-term (x .operands) (sym (by (as-item x)) ∙ t)) at known)
 
         module _ (other : r ≡ false) {q : Bool}
             (application : (x : ListAt lexemes at) → q ≡ (not (is "_" (item 0 (x .operands))) && applicationShape (x .operands))) where
@@ -96,4 +105,4 @@ module _ {lexemes : List ℕ} {first end : ℕ} where
           terms-miss t b =
               let v = at-a-list d h ec opens b in
               let x = v .list-here in
-              rw (no-term (x .operands) (sym (extract (as-item x)) ∙ other) (sym (application x) ∙ t)) at (v .known)
+              rw (no-term (x .operands) (sym (by (as-item x)) ∙ other) (sym (application x) ∙ t)) at (v .known)

@@ -9,16 +9,26 @@ use borrow.Author.Tests.{le-leb, lt-leb}
 use Rattle.forest.specs.Forest.{count}
 use Rattle.lexemes.specs.code.Table.{openCode, codeAt, codeOf}
 use Rattle.lexemes.specs.code.Codes.{constantCode, falseCode, firstCode, trueCode, underscoreCode, variableCode}
-use Rattle.lexemes.specs.Lists.{after, indexed, inside, is, isAmong, isList, item}
+use Rattle.lexemes.specs.Lists.{after, indexed, inside, is, isAmong, isConstant, isList, item}
 use Rattle.lexemes.specs.code.Standing.{ItemAt, ListAt}
 use Rattle.lexemes.proofs.ByCode.{codeFor, front-words, list-code, symbol-code, word-code, words-code}
 use Rattle.lexemes.proofs.Standing.{front}
 use Rattle.lexemes.proofs.Listed.{at-item}
-use Rattle.shapes.specs.Shapes.{applicationShape, headShape, isPattern, sortShape}
+use Rattle.shapes.specs.Shapes.{applicationShape, headShape, indexedShape, isPattern, sortShape}
 use Rattle.shapes.specs.code.Lists.{ItemOf}
 use Rattle.shapes.proofs.ListItems.{the-item}
 
 module _ {lexemes : List ℕ} {at : ℕ} where
+  -- a term that is a list begun by `_`
+  pub indexed-test : {r q : Bool} → ((x : ItemAt lexemes at) → r ≡ (isList (x .label) && indexed "extract" 2 (x .operands)))
+      → ((x : ItemAt lexemes at) → q ≡ (isList (x .label) && isConstant (x .operands)))
+      → (x : ItemAt lexemes at) → r || q ≡ isList (x .label) && indexedShape (x .operands)
+  indexed-test extract constant x = ap₂ _||_ (extract x) (constant x) ∙ go (isList (x .label)) (indexed "extract" 2 (x .operands)) (isConstant (x .operands))
+    where
+      go : (l a b : Bool) → l && a || l && b ≡ l && (a || b)
+      go true a b = refl
+      go false a b = refl
+
   module _ {code : ℕ} (ec : code ≡ codeAt lexemes at) where
     code-of : (x : ItemAt lexemes at) → code ≡ codeOf (x .label)
     code-of x = ec ∙ at-item x .code

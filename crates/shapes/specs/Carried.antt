@@ -3,14 +3,16 @@ use mathlib.Core.Bool.{Bool, false, _&&_, _||_, not}
 use mathlib.Core.List.{[], _∷_}
 use lib.Dec.{eqb}
 use Rattle.forest.specs.Forest.{count, none, tree}
-use Rattle.lexemes.specs.Lists.{Items, is, isAmong, isList, item}
+use Rattle.lexemes.specs.Lists.{Items, is, isAmong, isConstantWord, isList, item}
 use Rattle.lexemes.specs.Reserved.{carriedCommands, otherCommands}
 use Rattle.shapes.specs.Shapes.{setLogicShape}
 
--- A list begun by "`let`, `exists`, `forall`, `!`, or by `_` and then neither `BitVec` nor `extract`".
+-- A list begun by "`let`, `exists`, `forall`, `!`, or by `_` and then neither `BitVec` nor `extract`"; "Carry `(_ bv15 8)` too .. Answer 6 gives way to
+-- it" (E3): nor the word of a constant.
 abbrev pub uncarriedStart : Items → Bool
 uncarriedStart ops =
-    isAmong ("let" ∷ "exists" ∷ "forall" ∷ "!" ∷ []) (item 0 ops) || is "_" (item 0 ops) && not (isAmong ("BitVec" ∷ "extract" ∷ []) (item 1 ops))
+    isAmong ("let" ∷ "exists" ∷ "forall" ∷ "!" ∷ []) (item 0 ops)
+    || is "_" (item 0 ops) && not (isAmong ("BitVec" ∷ "extract" ∷ []) (item 1 ops) || isConstantWord (item 1 ops))
 
 -- Whether any list among the items, or within one, begins so.
 unfoldable pub anyUncarried : Items → Bool

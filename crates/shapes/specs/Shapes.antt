@@ -4,7 +4,7 @@ use mathlib.Core.List.{[], _∷_}
 use lib.Dec.{eqb, leb}
 use Rattle.forest.specs.Forest.{count, none, tree}
 use Rattle.words.specs.Trees.{Lexeme}
-use Rattle.lexemes.specs.Lists.{Items, indexed, inside, is, isAmong, isList, isSymbol, item}
+use Rattle.lexemes.specs.Lists.{Items, indexed, inside, is, isAmong, isConstant, isList, isSymbol, item}
 
 -- A sort is a symbol or `(_ BitVec n)`.
 abbrev pub sortShape : Lexeme → Items → Bool
@@ -19,13 +19,17 @@ headShape l ops = isSymbol l && not (isAmong ("true" ∷ "false" ∷ "Constant" 
 abbrev pub applicationShape : Items → Bool
 applicationShape ops = headShape (item 0 ops) (inside 0 ops) && leb 2 (count ops)
 
--- Terms, one after the other, behind a head or not: words that are no brackets; `(_ extract i j)`; or lists of a head and terms.
+-- A term that is a list begun by `_`: `(_ extract i j)`, or a constant `(_ bvN n)` (E3).
+abbrev pub indexedShape : Items → Bool
+indexedShape ops = indexed "extract" 2 ops || isConstant ops
+
+-- Terms, one after the other, behind a head or not: words that are no brackets; lists begun by `_`; or lists of a head and terms.
 unfoldable pub termShapes : (headed : Bool) → Items → Bool
 termShapes headed none = true
 termShapes headed (tree l ops more) =
     (headed
     || not (isList l)
-    || cond (is "_" (item 0 ops)) (indexed "extract" 2 ops) (applicationShape ops && termShapes true ops))
+    || cond (is "_" (item 0 ops)) (indexedShape ops) (applicationShape ops && termShapes true ops))
     && termShapes false more
 
 -- The item is a term.

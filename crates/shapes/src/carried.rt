@@ -11,6 +11,7 @@ use lexemes::codes::EXISTS;
 use lexemes::codes::EXTRACT;
 use lexemes::codes::FORALL;
 use lexemes::codes::LET;
+use lexemes::codes::OTHER;
 use lexemes::codes::SET_LOGIC;
 use lexemes::codes::SYNTH_FUN;
 use lexemes::codes::TRUE;
@@ -28,7 +29,8 @@ fn uncarried_start(lexemes: &[u64], at: usize) -> bool
     let first = code_at(lexemes, at + 1);
     let second = code_at(lexemes, at + 2);
     let binder = (first == LET) | (first == EXISTS) | (first == FORALL) | (first == BANG);
-    binder | ((first == UNDERSCORE) & !((second == BIT_VEC) | (second == EXTRACT)))
+    binder
+        | ((first == UNDERSCORE) & !((second == BIT_VEC) | (second == EXTRACT) | (second > OTHER)))
 }
 
 // Whether any list among the items from a word on to another, or within one, begins so.

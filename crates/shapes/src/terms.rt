@@ -9,15 +9,16 @@ use lexemes::code_at;
 use lexemes::codes::CONSTANT;
 use lexemes::codes::EXTRACT;
 use lexemes::codes::FALSE;
+use lexemes::codes::OTHER;
 use lexemes::codes::TRUE;
 use lexemes::codes::UNDERSCORE;
 use lexemes::codes::VARIABLE;
 use lexemes::next_at;
 ghost use mathlib.Core.Path.{_≡_};
 ghost use mathlib.Core.Bool.{false, not, _&&_};
-ghost use Rattle.lexemes.specs.Lists.{indexed, is, isList, item};
+ghost use Rattle.lexemes.specs.Lists.{indexed, is, isConstant, isList, item};
 ghost use Rattle.lexemes.specs.code.Standing.{Between, ItemAt, ListAt};
-ghost use Rattle.shapes.specs.Shapes.{applicationShape, headShape, termShape, termShapes};
+ghost use Rattle.shapes.specs.Shapes.{applicationShape, headShape, indexedShape, termShape, termShapes};
 
 // Whether an item is `(_ extract i j)`.
 fn is_extract(lexemes: &[u64], at: usize) -> bool
@@ -30,6 +31,26 @@ fn is_extract(lexemes: &[u64], at: usize) -> bool
         & (code_at(lexemes, at + 3) == NUMERAL)
         & (code_at(lexemes, at + 4) == NUMERAL)
         & (code_at(lexemes, at + 5) == CLOSE)
+}
+
+// Whether an item is a constant `(_ bvN n)`.
+fn is_constant(lexemes: &[u64], at: usize) -> bool
+    requires { ⌜ ItemAt (now lexemes) at ⌝ }
+    ensures { λ r. ⌜ ((here : ItemAt (now (lexemes .entry)) at) → r ≡ (isList (here .label) && isConstant (here .operands))) ⌝ }
+{
+    (code_at(lexemes, at) == OPEN)
+        & (code_at(lexemes, at + 1) == UNDERSCORE)
+        & (code_at(lexemes, at + 2) > OTHER)
+        & (code_at(lexemes, at + 3) == NUMERAL)
+        & (code_at(lexemes, at + 4) == CLOSE)
+}
+
+// Whether an item is a term that is a list begun by `_`.
+fn is_indexed(lexemes: &[u64], at: usize) -> bool
+    requires { ⌜ ItemAt (now lexemes) at ⌝ }
+    ensures { λ r. ⌜ ((here : ItemAt (now (lexemes .entry)) at) → r ≡ (isList (here .label) && indexedShape (here .operands))) ⌝ }
+{
+    is_extract(lexemes, at) | is_constant(lexemes, at)
 }
 
 // Whether an item may head a term.
@@ -63,7 +84,7 @@ fn term_shapes(lexemes: &[u64], first: usize, end: usize) -> bool
     while at < end {
         if code_at(lexemes, at) != OPEN {
             at += 1;
-        } else if is_extract(lexemes, at) {
+        } else if is_indexed(lexemes, at) {
             at = next_at(lexemes, at);
         } else if has_head(lexemes, at) {
             at = next_at(lexemes, at + 1);

@@ -8,17 +8,21 @@ use mathlib.Core.List.{List, [], _∷_, _++_, append-assoc, append-nil}
 use lib.Dec.{leb, ltb}
 use borrow.Author.Tests.{leb-false, le-ltb, ltb-true}
 use Rattle.forest.specs.Forest.{Forest, Node, count, join, nodesOf, none, tree}
-use Rattle.words.specs.Trees.{Lexeme, wordOf}
-use Rattle.lexemes.specs.Lists.{Items, inside, isList, item, numeralOf}
+use Rattle.forest.proofs.Bools.{apart}
+use Rattle.word_kinds.specs.Decimals.{isDecimal, isLong}
+use Rattle.words.specs.Trees.{Lexeme, list, literal, numeral, symbol, wordOf}
+use Rattle.lexemes.specs.Lists.{Items, inside, is, isConstantWord, isList, item, nameOf, numeralOf}
 use Rattle.lexemes.specs.code.Standing.{Source, Stands, bracketed, ends, word}
 use Rattle.lexemes.proofs.Standing.{forward, here}
 use Rattle.shapes.specs.Shapes.{isPattern}
 use Rattle.written_sorts.specs.Written.{groupPlace, leastIn, pairPlace, rulePlace, sortPlace}
 use Rattle.written_sorts.specs.declared.Fault.the-variants.{TooWide}
-use Rattle.term_nodes.specs.Terms.{Raw, firstWord, isNode, nodeWord}
+use Rattle.term_nodes.specs.Terms.{Raw, constantPast, constantsPast, cutBy, decimal, firstWord, headedBy, isNode, nodeWord, pattern, rawOf, rawTerm, rawTerms}
+use Rattle.term_nodes.specs.Terms.{word as rawWord}
+use Rattle.term_nodes.specs.code.Table.{operandsOf}
 use Rattle.term_faults.specs.code.Grammars.{AllSingle}
 use Rattle.term_faults.specs.code.Bodies.{Rising}
-use Rattle.term_nodes.specs.Rules.{Ruled, itemPast, nodesPast, rulePast, sides}
+use Rattle.term_nodes.specs.Rules.{Ruled, itemPast, nodesPast, rulePast, rulesIn, rulesOf, sides}
 use Rattle.headers.specs.Heads.{headerPast}
 use Rattle.forest.specs.Limits.{allowed, mostArguments, mostFunctions, mostNodes, mostNonTerminals, mostRules}
 use Rattle.operators.specs.Sorts.{maxWidth}
@@ -61,6 +65,11 @@ module _ {n nowhere : ℕ} (low : n ≤ nowhere) where
   number-ahead k none h a = absurd (omega arith)
   number-ahead zero (tree l ops more) h a = a .0
   number-ahead (suc k) (tree l ops more) h a = number-ahead k more h (a .2)
+
+  -- A rule that is no term has no constants.
+  pattern-constant : (at : ℕ) (c : Bool) (sort : Lexeme) (held : Items) → n ≤ constantsPast nowhere (nodesOf (tree (pattern at c sort held) none none))
+  unfolding constantsPast nodesOf
+  pattern-constant at c sort held = omega arith
 
   -- And what one of them holds.
   inside-ahead : (k : ℕ) (F : Items) → Ahead n F → Ahead n (inside k F)
@@ -121,20 +130,97 @@ module _ {n nowhere : ℕ} (low : n ≤ nowhere) where
       let others = nodes-ahead ops (suc (firstWord r)) mid (omega arith) inner (nodesOf more ++ rest) last in
       node-ahead (record { label = r; operands = ops }) (nodesOf ops ++ nodesOf more ++ rest) (omega arith) (λ m. rw append-assoc (others m))
 
-  -- The rule past the limit, and the nodes past that of a rule.
-  rules-ahead : (rules : List Ruled) (from to : ℕ) → n ≤ from → AllSingle rules → Rising from to (sides rules) → (rulesMost nodesMost : ℕ)
+  -- So is the word of a constant.
+  word-ahead : (k : ℕ) (F : Items) → isConstantWord (item k F) ≡ true → Ahead n F → n ≤ wordOf (item k F)
+  unfolding Ahead isDecimal item
+  word-ahead k none h a = apart h
+  word-ahead zero (tree l ops more) h a = a .0
+  word-ahead (suc k) (tree l ops more) h a = word-ahead k more h (a .2)
+
+  -- The word past a limit of a node, and of those of items.
+  headed-constant : (at : ℕ) (l : Lexeme) (held ops : Items) → Ahead n ops → n ≤ constantPast nowhere (headedBy at l held ops)
+  headed-constant at (symbol head name) held ops a = go (is "_" (symbol head name)) (isConstantWord (item 1 ops)) refl
+    where
+      go : (b c : Bool) → isConstantWord (item 1 ops) ≡ c
+          → n ≤ constantPast nowhere
+          (cond b (cond c (decimal at (wordOf (item 1 ops)) (nameOf (item 1 ops)) (numeralOf (item 2 ops))) (cutBy at ops)) (rawWord at head name))
+      go true true e =
+          let there = word-ahead 1 ops e a in
+          either-ahead (isLong (nameOf (item 1 ops))) n (wordOf (item 1 ops)) _ there
+          (either-ahead (ltb maxWidth (numeralOf (item 2 ops))) n (wordOf (item 1 ops) + 1) nowhere (omega arith) low)
+      go true false e = low
+      go false c e = low
+  headed-constant at (list head close) held ops a = low
+  headed-constant at (numeral head v) held ops a = low
+  headed-constant at (literal head width v bytes) held ops a = low
+
+  node-constant : (l : Lexeme) (ops : Items) → Ahead n ops → n ≤ constantPast nowhere (rawOf l ops)
+  node-constant (symbol at name) ops a = low
+  node-constant (numeral at v) ops a = low
+  node-constant (literal at width v bytes) ops a = low
+  node-constant (list at close) ops a = headed-constant at (item 0 ops) (inside 0 ops) ops a
+
+  constants-append : (xs ys : List (Node Raw)) → n ≤ constantsPast nowhere xs → n ≤ constantsPast nowhere ys → n ≤ constantsPast nowhere (xs ++ ys)
+  unfolding constantsPast
+  constants-append [] ys x y = y
+  constants-append (r ∷ xs) ys x y = omega (arith, constants-append xs ys (omega arith) y)
+
+  constants-ahead : (headed : Bool) (F : Items) → Ahead n F → n ≤ constantsPast nowhere (nodesOf (rawTerms headed F))
+  unfolding Ahead constantsPast nodesOf rawTerms
+  constants-ahead headed none a = low
+  constants-ahead true (tree l ops more) a = constants-ahead false more (a .2)
+  constants-ahead false (tree l ops more) a =
+      let later = constants-ahead false more (a .2) in
+      let held = operands (is "_" (item 0 ops)) (constants-ahead true ops (a .1)) in
+      omega (arith, node-constant l ops (a .1), constants-append (nodesOf (operandsOf ops)) (nodesOf (rawTerms false more)) held later)
+    where
+      operands : (b : Bool) → n ≤ constantsPast nowhere (nodesOf (rawTerms true ops)) → n ≤ constantsPast nowhere (nodesOf (cond b none (rawTerms true ops)))
+      operands true h = low
+      operands false h = h
+
+  -- The constants of every rule are behind n.
+  unfoldable ConstantsAhead : List Ruled → Type 0
+  ConstantsAhead [] = Unit {0}
+  ConstantsAhead (r ∷ more) = (n ≤ constantsPast nowhere (nodesOf (r .side))) × ConstantsAhead more
+
+  both-ahead : (rules others : List Ruled) → ConstantsAhead rules → ConstantsAhead others → ConstantsAhead (rules ++ others)
+  unfolding ConstantsAhead
+  both-ahead [] others x y = y
+  both-ahead (r ∷ rules) others x y = (x .0, both-ahead rules others (x .1) y)
+
+  rules-constants : (A : ℕ) (F : Items) → Ahead n F → ConstantsAhead (rulesOf A F)
+  unfolding Ahead ConstantsAhead rulesOf
+  rules-constants A none a = tt
+  rules-constants A (tree l ops more) a = (side (isPattern l ops), rules-constants A more (a .2))
+    where
+      side : (b : Bool)
+          → n ≤ constantsPast nowhere
+          (nodesOf (cond b (tree (pattern (wordOf l) (is "Constant" (item 0 ops)) (item 1 ops) (inside 1 ops)) none none) (rawTerm l ops)))
+      side true = pattern-constant (wordOf l) (is "Constant" (item 0 ops)) (item 1 ops) (inside 1 ops)
+      side false = constants-ahead false (tree l ops none) (a .0, a .1, tt)
+
+  groups-constants : (A : ℕ) (F : Items) → Ahead n F → ConstantsAhead (rulesIn A F)
+  unfolding Ahead ConstantsAhead rulesIn
+  groups-constants A none a = tt
+  groups-constants A (tree l ops more) a =
+      both-ahead (rulesOf A (inside 2 ops)) (rulesIn (A + 1) more) (rules-constants A (inside 2 ops) (inside-ahead 2 ops (a .1)))
+      (groups-constants (A + 1) more (a .2))
+
+  -- The rule past the limit, and the words past those of a rule.
+  rules-ahead : (rules : List Ruled) (from to : ℕ) → n ≤ from → AllSingle rules → Rising from to (sides rules) → ConstantsAhead rules
+      → (rulesMost nodesMost : ℕ)
       → n ≤ min (rulePast nowhere rulesMost rules) (nodesPast nowhere nodesMost rules)
-  unfolding AllSingle Rising join nodeWord nodesPast rulePast sides
-  rules-ahead [] from to h single rising rulesMost nodesMost = omega arith
-  rules-ahead (r ∷ more) from to h ((root, operands, is, begins), others) rising rulesMost nodesMost =
+  unfolding AllSingle ConstantsAhead Rising join nodeWord nodesPast rulePast sides
+  rules-ahead [] from to h single rising constants rulesMost nodesMost = omega arith
+  rules-ahead (r ∷ more) from to h ((root, operands, is, begins), others) rising constants rulesMost nodesMost =
       let rise : Rising from to (tree root operands (sides more)) = rw is at rising in
       let own : Rising from (rise .0) (tree root operands none) = (rise .0, rise .1, rise .2, le-refl (rise .0), rise .4, tt) in
       let nodes = rw append-nil at (nodes-ahead (tree root operands none) from (rise .0) h own [] (λ m. low) nodesMost) in
-      let later = rules-ahead more (rise .0) to (omega (arith, rise .1, rise .2)) others (rise .5) in
+      let later = rules-ahead more (rise .0) to (omega (arith, rise .1, rise .2)) others (rise .5) (constants .1) in
       let past = rulePast nowhere (rulesMost - 1) more in
       let one = either-ahead (leb 1 rulesMost) n past (r .first) (omega (arith, later (rulesMost - 1) nodesMost)) (omega (arith, rise .1)) in
       let own-nodes : n ≤ nodeWord nowhere nodesMost (nodesOf (r .side)) = rw is nodes in
-      omega (arith, one, own-nodes, later rulesMost nodesMost)
+      omega (arith, one, own-nodes, constants .0, later rulesMost nodesMost)
 
 -- A number that is no more than two others is the least of the three.
 least-first : (i a b : ℕ) → i ≤ a → i ≤ b → i ≡ min i (min a b)
@@ -158,7 +244,8 @@ command-first {p = p} {i} {nowhere} of full =
     ) in
     let groups = least-ahead low (groupPlace TooWide nowhere) (group-ahead low) (inside 5 c) (inside-ahead low 5 c all) in
     let amid = groups-amid of in
-    let rules = rules-ahead low (ruledBy c) (amid .first) (amid .last) (omega (arith, amid .begins)) (rules-trees of) (rules-rising of) mostRules mostNodes in
+    let rules = rules-ahead low (ruledBy c) (amid .first) (amid .last) (omega (arith, amid .begins)) (rules-trees of) (rules-rising of)
+    (groups-constants low 0 (inside 5 c) (inside-ahead low 5 c all)) mostRules mostNodes in
     let grammar : i ≤ grammarPast allowed nowhere c =
     omega (arith, items-ahead low mostNonTerminals (inside 4 c) (inside-ahead low 4 c all), pairs 4, groups, rules) in
     rw (limit-is of, ← of .counted .functions-are, le-ltb (p .functions) mostFunctions full) (least-first i _ _ head grammar)

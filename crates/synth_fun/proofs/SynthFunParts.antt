@@ -64,7 +64,7 @@ module _ {text lexemes : List ℕ} {p : Progress} {i nowhere : ℕ} (of : Comman
   pub synth-named : isSymbol (item 0 (of .here .command)) ≡ true
   unfolding codeFor
   synth-named =
-      let same : codeOf (item 0 (of .here .command)) ≡ 11 = eqb-true _ _ (sym (word-code "synth-fun" refl (item 0 (of .here .command))) ∙ of .by) in
+      let same : codeOf (item 0 (of .here .command)) ≡ synthFunCode = eqb-true _ _ (sym (word-code "synth-fun" refl (item 0 (of .here .command))) ∙ of .by) in
       symbol-code (item 0 (of .here .command)) ∙ rw same
 
   -- its shape is that of a `synth-fun`

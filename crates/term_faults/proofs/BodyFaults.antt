@@ -1,39 +1,21 @@
 -- The word at fault in a term that is to be of a sort.
 use Prim.Native.Nat.{ℕ, _≤_, _<_}
 use mathlib.Core.Path.{_≡_, refl, ap, _∙_}
-use mathlib.Core.Bool.{Bool, true, false, cond}
 use mathlib.Core.List.{List}
 use borrow.Author.Tests.{le-ltb, lt-ltb}
 use lib.ListN.{drop, length}
 use Rattle.forest.specs.Forest.{none, tree}
-use Rattle.words.specs.Trees.{Lexeme, list, literal, numeral, symbol, wordOf}
-use Rattle.lexemes.specs.Lists.{Items, inside, is, item}
+use Rattle.words.specs.Trees.{Lexeme}
+use Rattle.lexemes.specs.Lists.{Items}
 use Rattle.term_sorts.specs.code.Forms.{sortColumn}
-use Rattle.term_nodes.specs.Terms.{cutBy, firstWord, headedBy, rawOf, rawTerm, rawTerms, word}
+use Rattle.term_nodes.specs.Terms.{rawOf, rawTerm, rawTerms}
 use Rattle.term_nodes.specs.code.Table.{operandsOf}
+use Rattle.term_nodes.proofs.GatheringWalk.{term-first}
 use Rattle.names.specs.Scopes.{formsOf}
 use Rattle.term_faults.specs.Faults.{scopeOf, termFault}
 use Rattle.term_faults.specs.code.Bodies.{BodyFound, BodySought, Found, Sought}
 use Rattle.term_faults.specs.code.Roots.{RootAt, RootFits}
 use Rattle.term_faults.proofs.Forms.{from-first}
-
--- A term headed by an item begins at its own first word.
-headed-first : (at : ℕ) (l : Lexeme) (held ops : Items) → firstWord (headedBy at l held ops) ≡ at
-headed-first at (symbol head name) held ops = go (is "_" (symbol head name))
-  where
-    go : (test : Bool) → firstWord (cond test (cutBy at ops) (word at head name)) ≡ at
-    go true = refl
-    go false = refl
-headed-first at (list head close) held ops = refl
-headed-first at (numeral head v) held ops = refl
-headed-first at (literal head width v written) held ops = refl
-
--- A term begins at the first word of its item.
-term-first : (l : Lexeme) (ops : Items) → firstWord (rawOf l ops) ≡ wordOf l
-term-first (symbol at name) ops = refl
-term-first (numeral at v) ops = refl
-term-first (literal at width v written) ops = refl
-term-first (list at close) ops = headed-first at (item 0 ops) (inside 0 ops) ops
 
 -- It is one tree.
 pub term-tree : (l : Lexeme) (ops : Items) → rawTerm l ops ≡ tree (rawOf l ops) (operandsOf ops) none

@@ -1,73 +1,34 @@
 -- What a word keeps to, by its bytes: a numeral, a literal and a symbol are within their bounds.
 use Prim.Native.Nat.{ℕ, zero, suc, _+_, _*_, _^_, _≤_, _<_}
 use Prim.Native.Char.{code}
-use native.Mathlib.Nat.{add-zero, mul-suc, mul-zero, pow-le-pow-right, pow-suc, pow-zero}
+use native.Mathlib.Nat.{mul-suc, mul-zero, pow-le-pow-right, pow-suc, pow-zero}
 use native.Mathlib.Omega.{arith}
 use mathlib.Core.Path.{_≡_, refl}
-use mathlib.Core.Bool.{Bool, true, false, cond, _&&_, _||_}
+use mathlib.Core.Bool.{Bool, true, false, cond}
 use mathlib.Core.List.{List, [], _∷_}
-use borrow.Author.Tests.{eqb-false, eqb-true, leb-true, lt-ltb, not-true}
-use lib.Dec.{eqb, leb}
-use lib.ListN.{drop, getD, length, drop-of-length-le}
-use lib.Pow.{pow-add, pow-mono}
+use borrow.Author.Tests.{eqb-false, leb-true, lt-ltb, not-true}
+use lib.Dec.{eqb}
+use lib.ListN.{drop, length, drop-of-length-le}
+use lib.Pow.{pow-add}
 use Rattle.forest.proofs.Bools.{and-left, and-right}
 use Rattle.forest.proofs.Lists.{drop-next}
 use Rattle.word_kinds.specs.Limits.{literalBits, numeralDigits, symbolBytes}
 use Rattle.operators.specs.Sorts.{Fit}
-use Rattle.word_kinds.specs.Bytes.{binaryDigit, digit, hexDigit, uncarried}
-use Rattle.word_kinds.specs.Kinds.{allIn, formed, hashed, inClass, kindOf, literal as literalOf, numeral as numeralOf, spelled, symbol as symbolOf}
+use Rattle.word_kinds.specs.Bytes.{digit, uncarried}
+use Rattle.word_kinds.specs.Kinds.{allIn, formed, hashed, kindOf, literal as literalOf, numeral as numeralOf, spelled, symbol as symbolOf}
 use Rattle.word_kinds.specs.code.Digits.{digitsBelow}
 use Rattle.word_kinds.specs.declared.Class.{Class}
 use Rattle.word_kinds.specs.declared.Class.the-variants.{BinaryDigits, Digits, HexDigits}
 use Rattle.word_kinds.specs.declared.Kind.{Kind}
-use Rattle.word_kinds.proofs.Digits.{all-below, below-goes, spell-more}
+use Rattle.word_kinds.proofs.Digits.{below-goes, binary-below, decimal-below, hex-below, spell-more}
 use Rattle.words.specs.Table.{valueOf, widthOf}
 use Rattle.words.specs.Trees.{bytesOf}
 use Rattle.words.specs.Words.{Word, bytesAt, wordAt, wordsOf}
 use Rattle.lexemes.specs.code.Table.{kindCode, literalCode, numeralCode}
 use Rattle.lexemes.proofs.Said.{found}
-use Rattle.term_nodes.specs.Terms.{cases, writtenOf}
-use Rattle.names.specs.code.Lookup.{mostWritten}
 use Rattle.names.specs.code.Table.{longest}
 
 -- ---- the number that digits spell
-
--- by the one test or the other
-by-either : {P : Type 0} (a b : Bool) → (a ≡ true → P) → (b ≡ true → P) → a || b ≡ true → P
-by-either true b f g e = f refl
-by-either false b f g e = g e
-
--- a byte in a range of small bytes
-in-range : (low high b : ℕ) → high < 256 → leb low b && leb b high ≡ true → b < 256
-in-range low high b h e = omega (arith, leb-true b high (and-right (leb low b) (leb b high) e))
-
--- bytes of a class of small bytes
-small-bytes : (class : Class) → ((b : ℕ) → inClass class b ≡ true → b < 256) → (w : List ℕ) → allIn class w ≡ true → (i : ℕ) → getD w i 0 < 256
-unfolding allIn
-small-bytes class small [] e i = omega arith
-small-bytes class small (b ∷ w) e zero = small b (and-left (inClass class b) (allIn class w) e)
-small-bytes class small (b ∷ w) e (suc i) = small-bytes class small w (and-right (inClass class b) (allIn class w) e) i
-
--- the digits of a numeral
-decimal-below : (w : List ℕ) → allIn Digits w ≡ true → digitsBelow 10 w ≡ true
-decimal-below w e = all-below Digits 10 tt w (small-bytes Digits (λ b. in-range 48 57 b (omega arith)) w e) e
-
--- the digits of `#x`
-hex-below : (w : List ℕ) → allIn HexDigits w ≡ true → digitsBelow 16 w ≡ true
-hex-below w e = all-below HexDigits 16 tt w (small-bytes HexDigits small w e) e
-  where
-    small : (b : ℕ) → hexDigit b ≡ true → b < 256
-    small b =
-        by-either (digit b || leb 65 b && leb b 70) (leb 97 b && leb b 102)
-        (by-either (digit b) (leb 65 b && leb b 70) (in-range 48 57 b (omega arith)) (in-range 65 70 b (omega arith)))
-        (in-range 97 102 b (omega arith))
-
--- the digits of `#b`
-binary-below : (w : List ℕ) → allIn BinaryDigits w ≡ true → digitsBelow 2 w ≡ true
-binary-below w e = all-below BinaryDigits 2 tt w (small-bytes BinaryDigits small w e) e
-  where
-    small : (b : ℕ) → binaryDigit b ≡ true → b < 256
-    small b = by-either (eqb b 48) (eqb b 49) (λ h. omega (arith, eqb-true b 48 h)) (λ h. omega (arith, eqb-true b 49 h))
 
 module _ (base : ℕ) (w : List ℕ) where
   -- the digits from i on, of which there are n, after digits that spell v
@@ -91,34 +52,18 @@ power-twice : (bits n : ℕ) → (2 ^ bits) ^ n ≡ 2 ^ (bits * n)
 power-twice bits zero = rw (pow-zero (2 ^ bits), mul-zero, pow-zero)
 power-twice bits (suc n) = rw (pow-suc, power-twice bits n, mul-suc, pow-add)
 
--- ---- how a literal is written
-
--- one bit more
-bit-more : (t : Bool) (before k : ℕ) → before < 2 ^ k → 2 * before + cond t 1 0 < 2 ^ suc k
-bit-more true before k h = rw pow-suc (omega arith)
-bit-more false before k h = rw pow-suc (omega arith)
-
--- a bit for each digit
-cases-below : (w : List ℕ) (k before : ℕ) → before < 2 ^ k → cases before w < 2 ^ (k + length w)
-unfolding cases
-cases-below [] k before h = rw add-zero h
-cases-below (b ∷ w) k before h =
-    let next : k + suc (length w) ≡ suc k + length w = omega arith in
-    rw next (cases-below w (suc k) _ (bit-more (leb (code "A") b && leb b (code "F")) before k h))
-
 -- ---- the kinds of words
 
 -- What a word of a kind keeps to.
 pub record Kept (bytes : List ℕ) (kind : Kind) : Type 0 where
   pub low : kindCode kind bytes ≡ numeralCode → valueOf kind < 10 ^ numeralDigits
   pub fits : kindCode kind bytes ≡ literalCode → Fit (widthOf kind) (valueOf kind)
-  pub written : kindCode kind bytes ≡ literalCode → writtenOf bytes < mostWritten
   pub short : literalCode < kindCode kind bytes → length bytes ≤ longest
 
 -- a word that is neither numeral, literal nor symbol
 other : {bytes : List ℕ} {kind : Kind} → kindCode kind bytes < numeralCode → Kept bytes kind
 other h =
-    record { low = λ e. absurd (omega arith); fits = λ e. absurd (omega arith); written = λ e. absurd (omega arith); short = λ e. absurd (omega arith) }
+    record { low = λ e. absurd (omega arith); fits = λ e. absurd (omega arith); short = λ e. absurd (omega arith) }
 
 -- a word of the one kind or of the other
 choice : (t : Bool) {bytes : List ℕ} {a b : Kind} → (t ≡ true → Kept bytes a) → (t ≡ false → Kept bytes b) → Kept bytes (cond t a b)
@@ -136,7 +81,7 @@ unfolding numeralOf
 numeral-kept w = formed-kept _ _ (λ right small.
     let few : 10 ^ length w ≤ 10 ^ numeralDigits = pow-le-pow-right (omega arith) (leb-true (length w) numeralDigits small) in
     let below = spelled-below 10 w (decimal-below w (and-left (allIn Digits w) _ right)) in
-    record { low = λ e. omega arith; fits = λ e. absurd (omega arith); written = λ e. absurd (omega arith); short = λ e. absurd (omega arith) })
+    record { low = λ e. omega arith; fits = λ e. absurd (omega arith); short = λ e. absurd (omega arith) })
 
 -- a symbol
 symbol-kept : (w : List ℕ) → Kept w (symbolOf w)
@@ -145,22 +90,20 @@ symbol-kept w = formed-kept _ _ (λ right small.
     record {
       low = λ e. absurd (omega arith);
       fits = λ e. absurd (omega arith);
-      written = λ e. absurd (omega arith);
       short = λ e. leb-true (length w) symbolBytes small;
     })
 
 -- a literal, by its digits
 literal-kept : (class : Class) (bits : ℕ) (w : List ℕ) {bytes : List ℕ} → (allIn class w ≡ true → digitsBelow (2 ^ bits) w ≡ true)
-    → ((length w ≡ 0 → ⊥) → 0 < bits * length w) → (bits * length w ≤ literalBits → writtenOf bytes < mostWritten) → Kept bytes (literalOf class bits w)
+    → ((length w ≡ 0 → ⊥) → 0 < bits * length w) → Kept bytes (literalOf class bits w)
 unfolding literalOf
-literal-kept class bits w digits some small = formed-kept _ _ (λ right size.
+literal-kept class bits w digits some = formed-kept _ _ (λ right size.
     let fit = leb-true (bits * length w) literalBits size in
     let below = spelled-below (2 ^ bits) w (digits (and-left (allIn class w) _ right)) in
     let wide = lt-ltb 0 (bits * length w) (some (eqb-false (length w) 0 (not-true _ (and-right (allIn class w) _ right)))) in
     record {
       low = λ e. absurd (omega arith);
       fits = λ e. record { sort = fit; value = rw wide (rw (power-twice bits (length w)) at below) };
-      written = λ e. small fit;
       short = λ e. absurd (omega arith);
     })
 
@@ -169,15 +112,8 @@ hashed-kept : (first : ℕ) (w : List ℕ) → Kept (first ∷ w) (hashed w)
 unfolding hashed
 hashed-kept first [] = other (omega arith)
 hashed-kept first (b ∷ w) =
-    choice (eqb b (code "x")) (λ e. literal-kept HexDigits 4 w (hex-below w) (λ n. omega arith) (λ h. rw e (cased h)))
-    (λ no-hex. choice (eqb b (code "b")) (λ e. literal-kept BinaryDigits 1 w (binary-below w) (λ n. omega arith) (λ h. rw no-hex (omega arith)))
-    (λ e. other (omega arith)))
-  where
-    cased : 4 * length w ≤ literalBits → cases 1 w < mostWritten
-    cased h =
-        let digits : 1 + length w ≤ 17 = omega arith in
-        let few : 2 ^ (1 + length w) ≤ 2 ^ 17 = pow-mono digits in
-        omega (arith, cases-below w 1 1 (omega arith))
+    choice (eqb b (code "x")) (λ e. literal-kept HexDigits 4 w (hex-below w) (λ n. omega arith))
+    (λ e. choice (eqb b (code "b")) (λ e. literal-kept BinaryDigits 1 w (binary-below w) (λ n. omega arith)) (λ e. other (omega arith)))
 
 -- a word of any kind
 kind-kept : (bytes : List ℕ) → Kept bytes (kindOf bytes)

@@ -2,19 +2,19 @@
 use Prim.Native.Nat.{ℕ}
 use native.Mathlib.Omega.{arith}
 use mathlib.Core.Path.{_≡_, refl}
-use mathlib.Core.Bool.{Bool, true, false, not, _||_, or-false}
+use mathlib.Core.Bool.{Bool, true, false, cond, not, _||_, or-false}
 use mathlib.Core.List.{List}
 use borrow.Author.Tests.{not-true}
 use lib.Dec.{leb}
 use Rattle.forest.specs.Forest.{Forest, count, join, none, tree}
 use Rattle.forest.specs.Lists.{sameBytes}
 use Rattle.forest.proofs.Bools.{and-left, and-right, or-right}
-use Rattle.words.specs.Trees.{Lexeme, list, literal, numeral, symbol}
+use Rattle.words.specs.Trees.{Lexeme, list, literal, numeral, symbol, wordOf}
 use Rattle.lexemes.specs.Reserved.{isOneOf, isWord}
-use Rattle.lexemes.specs.Lists.{Items, inside, is, isList, item}
+use Rattle.lexemes.specs.Lists.{Items, inside, is, isConstantWord, isList, item, nameOf, numeralOf}
 use Rattle.lexemes.specs.code.Standing.{Source, Stands, bracketed, ends, word}
 use Rattle.shapes.specs.Shapes.{all, applicationShape, groupShape, headShape, isPattern, ruleShape, termShapes}
-use Rattle.term_nodes.specs.Terms.{Raw, headedBy, rawOf, rawRule, rawTerms}
+use Rattle.term_nodes.specs.Terms.{Raw, cutBy, decimal, headedBy, rawOf, rawRule, rawTerms}
 use Rattle.term_nodes.specs.code.Table.{operandsOf}
 use Rattle.term_nodes.proofs.TermWords.{listShape}
 use Rattle.term_nodes.specs.Rules.{Ruled, rulesIn, sides}
@@ -38,13 +38,18 @@ no-pattern head name held shape =
     or-right (isWord "false" name) _ (or-right (isWord "true" name) _ none-of)
 
 -- the node that a list is
+indexed-headed : (at : ℕ) (ops : Items) (c : Bool)
+    → Headed (cond c (decimal at (wordOf (item 1 ops)) (nameOf (item 1 ops)) (numeralOf (item 2 ops))) (cutBy at ops))
+indexed-headed at ops true = tt
+indexed-headed at ops false = tt
+
 list-headed : (at : ℕ) (ops : Items) → listShape ops ≡ true → Headed (headedBy at (item 0 ops) (inside 0 ops) ops)
 unfolding inside item listShape
 list-headed at none shape = tt
 list-headed at (tree (symbol head name) held more) shape = go (is "_" (symbol head name)) refl
   where
     go : (b : Bool) → is "_" (symbol head name) ≡ b → Headed (headedBy at (symbol head name) held (tree (symbol head name) held more))
-    go true e = rw e tt
+    go true e = rw e (indexed-headed at (tree (symbol head name) held more) (isConstantWord (item 1 (tree (symbol head name) held more))))
     go false e =
         let ops = tree (symbol head name) held more in
         let application = and-left (applicationShape ops) (termShapes true ops) (rw e at shape) in

@@ -1,16 +1,17 @@
 -- What the nodes of terms stand for is what a reader makes: names in scope, and literals of their sorts.
-use Prim.Native.Nat.{ℕ, suc, _+_, _<_}
+use Prim.Native.Nat.{ℕ, suc, _+_, _^_, _<_}
 use native.Mathlib.Omega.{arith}
 use mathlib.Core.Path.{_≡_, refl}
 use mathlib.Core.Bool.{Bool, true, false, cond, _&&_, _||_}
 use mathlib.Core.List.{List, [], _∷_, _++_, map}
 use mathlib.Core.Option.{none as nothing, some}
-use borrow.Author.Tests.{leb-true, ltb-true}
+use borrow.Author.Tests.{leb-true, lt-ltb, ltb-true}
 use lib.Dec.{leb, ltb}
 use lib.ListN.{getD, length, length-append, length-map}
 use Rattle.forest.specs.Forest.{Forest, none, tree}
 use Rattle.forest.specs.Lists.{sameBytes, spelling}
 use Rattle.forest.proofs.Bools.{and-left, and-right, apart}
+use Rattle.word_kinds.specs.Decimals.{decimalValue}
 use Rattle.operators.specs.Operators.{operatorCount, operatorOf}
 use Rattle.operators.specs.Sorts.{Fit, maxWidth}
 use Rattle.derivation.specs.Derivation.{nonTerminal, the}
@@ -20,7 +21,7 @@ use Rattle.term_sorts.specs.code.Signatures.{AllReal, Real}
 use Rattle.lexemes.specs.code.Standing.{Source}
 use Rattle.lexemes.specs.code.Table.{codeAt, literalCode, valueAt, widthAt}
 use Rattle.term_nodes.specs.code.Says.{AllSay, Says}
-use Rattle.term_nodes.specs.Terms.{Raw, constant, cut, number, pattern, word}
+use Rattle.term_nodes.specs.Terms.{Raw, constant, cut, decimal, number, pattern, word}
 use Rattle.forest.specs.Search.{placeIn}
 use Rattle.names.specs.Scopes.{Defined, Function, Named, View, definedNames, formsOf, functionNames, inOrder, isNamed, itemOr, means, namesOf, signatureOf}
 use Rattle.names.specs.Scopes.{namedSorts, symbolMeans}
@@ -95,8 +96,8 @@ module _ (view : View) where
           → (s : Bool) → isNamed (functionNames (view .functions)) n ≡ s
           → (u : Bool) → isNamed (namesOf (view .nonTerminals)) n ≡ u
           → Real (scopeOf view) (itemOr (
-          cond t (some (the (literal 0 1 0)))
-          (cond f (some (the (literal 0 0 0)))
+          cond t (some (the (literal 0 1)))
+          (cond f (some (the (literal 0 0)))
           (cond o (cond x nothing (some (the (operator (operatorOf n) 0 0))))
           (cond a (some (the (name (getD (namedSorts (view .names)) k 0) k)))
           (cond d (some (the (defined (placeIn (inOrder (definedNames (view .defined))) 0 n))))
@@ -120,7 +121,19 @@ module _ (view : View) where
     node-real : (r : Raw) → Says s r → Real (scopeOf view) (itemOr (means view r))
     node-real (word at head n) says = symbol-real n
     node-real (number at v) says = omega arith
-    node-real (constant at width v written) says = rw (says .wide, says .valued) at (fit at (says .coded))
+    node-real (constant at width v) says = rw (says .wide, says .valued) at (fit at (says .coded))
+    node-real (decimal at head n width) says = go (leb 1 width && leb width maxWidth) refl (ltb (decimalValue n) (2 ^ width)) refl
+      where
+        go : (wide : Bool) → leb 1 width && leb width maxWidth ≡ wide → (small : Bool) → ltb (decimalValue n) (2 ^ width) ≡ small
+            → Real (scopeOf view) (itemOr (cond (wide && small) (some (the (literal width (decimalValue n)))) nothing))
+        go true e true f =
+            let some = leb-true 1 width (and-left (leb 1 width) (leb width maxWidth) e) in
+            record {
+              sort = leb-true width maxWidth (and-right (leb 1 width) (leb width maxWidth) e);
+              value = rw (lt-ltb 0 width some) (ltb-true (decimalValue n) (2 ^ width) f);
+            }
+        go true e false f = omega arith
+        go false e small f = omega arith
     node-real (cut at head i j) says = go (leb j i && ltb i maxWidth) refl
       where
         go : (test : Bool) → leb j i && ltb i maxWidth ≡ test

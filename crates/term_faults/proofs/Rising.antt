@@ -7,13 +7,14 @@ use mathlib.Core.Bool.{Bool, true, false}
 use mathlib.Core.List.{List}
 use Rattle.forest.specs.Forest.{Forest, join, none, tree}
 use Rattle.forest.specs.Lists.{sameBytes}
-use Rattle.words.specs.Trees.{Lexeme, list, literal, numeral, symbol, wordOf}
-use Rattle.lexemes.specs.Lists.{Items, inside, is, item}
+use Rattle.words.specs.Trees.{Lexeme, list}
+use Rattle.lexemes.specs.Lists.{Items, is, item}
 use Rattle.lexemes.specs.code.Standing.{Source, Stands, bracketed, ends, word}
 use Rattle.lexemes.proofs.Standing.{forward}
 use Rattle.shapes.specs.Shapes.{all, groupShape, isPattern, ruleShape, termShapes}
-use Rattle.term_nodes.specs.Terms.{Raw, firstWord, headedBy, rawOf, rawRule, rawTerms}
+use Rattle.term_nodes.specs.Terms.{Raw, rawRule, rawTerms}
 use Rattle.term_nodes.specs.code.Table.{operandsOf}
+use Rattle.term_nodes.proofs.GatheringWalk.{term-first}
 use Rattle.term_nodes.proofs.TermWords.{first-of}
 use Rattle.term_nodes.specs.Rules.{Ruled, rulesIn, sides}
 use Rattle.term_faults.specs.code.Bodies.{Rising}
@@ -35,26 +36,6 @@ rising-join none G h f g l = rising-wider G g l (omega arith)
 rising-join (tree root ops rest) G h (mid, above, below, by, inner, later) g l =
     (mid, above, below, omega arith, inner, rising-join rest G h later g by)
 
--- ---- the first word of a node
-
--- the node that a list is starts at its bracket
-first-headed : (at : ℕ) (l : Lexeme) (held ops : Items) → firstWord (headedBy at l held ops) ≡ at
-first-headed at (symbol head name) held ops = go (is "_" (symbol head name)) refl
-  where
-    go : (b : Bool) → is "_" (symbol head name) ≡ b → firstWord (headedBy at (symbol head name) held ops) ≡ at
-    go true e = rw e
-    go false e = rw e
-first-headed at (list head close) held ops = refl
-first-headed at (numeral head v) held ops = refl
-first-headed at (literal head width v written) held ops = refl
-
--- the node that an item is starts at the item's first word
-pub first-raw : (l : Lexeme) (ops : Items) → firstWord (rawOf l ops) ≡ wordOf l
-first-raw (symbol at name) ops = refl
-first-raw (numeral at v) ops = refl
-first-raw (literal at width v written) ops = refl
-first-raw (list at close) ops = first-headed at (item 0 ops) (inside 0 ops) ops
-
 -- ---- terms
 
 -- the operands of a list rise where the terms behind its head do
@@ -70,12 +51,12 @@ module _ {s : Source} where
   items-rise headed ends = tt
   items-rise true (word {more = more} w rest) = rising-wider (rawTerms false more) (items-rise false rest) (omega arith) (omega arith)
   items-rise false {i} (word {l = l} w rest) =
-      let at = first-raw l none ∙ w .placed in
+      let at = term-first l none ∙ w .placed in
       (i + 1, omega arith, omega arith, forward rest, tt, items-rise false rest)
   items-rise true (bracketed {more = more} b inner rest) =
       rising-wider (rawTerms false more) (items-rise false rest) (omega (arith, forward inner)) (omega arith)
   items-rise false {i} (bracketed {c = c} {ops = ops} b inner rest) =
-      let at = first-raw (list i c) ops in
+      let at = term-first (list i c) ops in
       let held = operands-rise (i + 1) c ops (is "_" (item 0 ops)) refl (items-rise true inner) in
       (c + 1, omega arith, omega (arith, forward inner), forward rest, rising-wider (operandsOf ops) held (omega arith) (omega arith), items-rise false rest)
 

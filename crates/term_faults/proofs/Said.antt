@@ -16,7 +16,7 @@ use Rattle.term_nodes.proofs.Saying.{say-rule}
 use Rattle.term_nodes.specs.Rules.{Ruled, rulesIn, sides}
 use Rattle.term_faults.specs.code.Grammars.{AllSingle, Single}
 use Rattle.term_faults.proofs.Groups.{groups-keep, ruleOf}
-use Rattle.term_faults.proofs.Rising.{first-raw}
+use Rattle.term_nodes.proofs.GatheringWalk.{term-first}
 
 -- a rule is one tree that begins at its first word
 rule-single : (A : ℕ) (l : Lexeme) (ops : Items) → Single (ruleOf A l ops)
@@ -25,7 +25,7 @@ rule-single A l ops = go (isPattern l ops) refl
   where
     go : (known : Bool) → isPattern l ops ≡ known → Single (ruleOf A l ops)
     go true e = (pattern (wordOf l) (is "Constant" (item 0 ops)) (item 1 ops) (inside 1 ops), none, rw e, refl)
-    go false e = (rawOf l ops, operandsOf ops, rw e, first-raw l ops)
+    go false e = (rawOf l ops, operandsOf ops, rw e, term-first l ops)
 
 module _ {s : Source} where
   -- the words say what the nodes of the rules of a grammar are

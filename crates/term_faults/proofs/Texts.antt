@@ -36,7 +36,6 @@ module _ (limits : Limits) (text : List ℕ) (n : ℕ) (whole : readingOf limits
       record {
         bounded = record {
           numerals = λ i e. let k = known i (omega arith) in rw (k .says .value) (k .kept .low (sym (k .says .code) ∙ e));
-          literals = λ i e. let k = known i (omega arith) in rw (k .says .bytes) (k .kept .written (sym (k .says .code) ∙ e));
           fit = λ i e. let k = known i (omega arith) in rw (k .says .width, k .says .value) (k .kept .fits (sym (k .says .code) ∙ e));
         };
         short = λ i h. let k = known i (omega arith) in rw (k .says .bytes) (k .kept .short (rw (k .says .code) at h));

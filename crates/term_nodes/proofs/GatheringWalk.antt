@@ -14,7 +14,7 @@ use Rattle.forest.proofs.Laws.{Tree}
 use Rattle.forest.proofs.Nodes.{length-nodes, nodes-join}
 use Rattle.words.specs.Trees.{Lexeme, list, literal, numeral, symbol, wordOf}
 use Rattle.forest.specs.Lists.{sameBytes}
-use Rattle.lexemes.specs.Lists.{Items, inside, is, isList, item}
+use Rattle.lexemes.specs.Lists.{Items, inside, is, isConstantWord, isList, item, nameOf, numeralOf}
 use Rattle.lexemes.specs.code.Standing.{Source, Stands}
 use Rattle.lexemes.specs.code.Table.{closeCode, codeAt, codeOf, nextAt}
 use Rattle.lexemes.proofs.ByCode.{not-close}
@@ -23,7 +23,7 @@ use Rattle.lexemes.proofs.Standing.{forward, here, none-left}
 use Rattle.shapes.specs.Shapes.{termShapes}
 use Rattle.shapes.proofs.TermWalk.{outerTerms}
 use Rattle.term_nodes.specs.code.Table.{rowWidth, uncounted, uncountedTable, headWord, operandsOf}
-use Rattle.term_nodes.specs.Terms.{Raw, cutBy, firstWord, headedBy, rawOf, rawTerms, word}
+use Rattle.term_nodes.specs.Terms.{Raw, cutBy, decimal, firstWord, headedBy, rawOf, rawTerms, word}
 use Rattle.term_nodes.specs.code.Gather.{Gathered, Gathering, Onward, TermAt}
 use Rattle.term_nodes.proofs.NodeRows.{row-added}
 use Rattle.term_nodes.proofs.TermWords.{first-of, listShape}
@@ -58,17 +58,19 @@ more-terms l ops more outer =
 -- ---- one step
 
 headed-first : (at : ℕ) (head : Lexeme) (held ops : Items) → firstWord (headedBy at head held ops) ≡ at
-headed-first at (symbol a name) held ops = go (is "_" (symbol a name))
+headed-first at (symbol a name) held ops = go (is "_" (symbol a name)) (isConstantWord (item 1 ops))
   where
-    go : (b : Bool) → firstWord (cond b (cutBy at ops) (word at a name)) ≡ at
-    go true = refl
-    go false = refl
+    go : (b c : Bool)
+        → firstWord (cond b (cond c (decimal at (wordOf (item 1 ops)) (nameOf (item 1 ops)) (numeralOf (item 2 ops))) (cutBy at ops)) (word at a name)) ≡ at
+    go true true = refl
+    go true false = refl
+    go false c = refl
 headed-first at (list a close) held ops = refl
 headed-first at (numeral a v) held ops = refl
 headed-first at (literal a width v written) held ops = refl
 
 -- a node's first word is that of its item
-term-first : (l : Lexeme) (ops : Items) → firstWord (rawOf l ops) ≡ wordOf l
+pub term-first : (l : Lexeme) (ops : Items) → firstWord (rawOf l ops) ≡ wordOf l
 term-first (symbol at name) ops = refl
 term-first (numeral at v) ops = refl
 term-first (literal at width v written) ops = refl

@@ -1,5 +1,6 @@
 pub mod Counting
 pub mod PastLimit
+pub mod ConstantLimits
 pub mod TermWords
 pub mod Saying
 pub mod TermsAt

@@ -16,7 +16,7 @@ use Rattle.lexemes.specs.Lists.{Items, is, item}
 use Rattle.lexemes.specs.code.Standing.{Source, Stands, bracketed, ends, word}
 use Rattle.lexemes.proofs.Standing.{forward}
 use Rattle.shapes.specs.Shapes.{isPattern}
-use Rattle.term_nodes.specs.Terms.{nodeWord, rawRule, rawTerms}
+use Rattle.term_nodes.specs.Terms.{rawRule, rawTerms, wordPast}
 use Rattle.term_nodes.specs.code.Table.{operandsOf}
 use Rattle.term_nodes.specs.Rules.{Ruled, nodesPast, rulePast, rulesOf, sides}
 use Rattle.term_nodes.specs.code.RuleGathering.{startTable}
@@ -97,7 +97,7 @@ module _ (nowhere : ℕ) where
 
   -- the nodes of one rule more
   pub nodes-more : (nodes : ℕ) (rules : List Ruled) (r : Ruled)
-      → nodesPast nowhere nodes (rules ++ r ∷ []) ≡ min (nodesPast nowhere nodes rules) (nodeWord nowhere nodes (nodesOf (r .side)))
+      → nodesPast nowhere nodes (rules ++ r ∷ []) ≡ min (nodesPast nowhere nodes rules) (wordPast nowhere nodes (nodesOf (r .side)))
   unfolding nodesPast
   nodes-more nodes [] r = omega arith
   nodes-more nodes (q ∷ more) r = omega (arith, nodes-more nodes more r)

@@ -10,20 +10,20 @@ use borrow.Author.Tests.{eqb-true}
 use Rattle.forest.specs.Forest.{count, none, tree}
 use Rattle.forest.specs.Lists.{sameBytes, spelling}
 use Rattle.forest.proofs.Bools.{and-left, and-right, apart}
-use Rattle.words.specs.Trees.{Lexeme, list, literal, numeral, symbol}
+use Rattle.words.specs.Trees.{Lexeme, list, literal, numeral, symbol, wordOf}
 use Rattle.lexemes.specs.Reserved.{isOneOf, isWord}
 use Rattle.lexemes.specs.code.Reserved.{wordNumber}
 use Rattle.lexemes.proofs.Numbers.{by-number, isKnown, numberOf}
-use Rattle.lexemes.specs.Lists.{Items, inside, is, isAmong, isList, item}
+use Rattle.lexemes.specs.Lists.{Items, inside, is, isAmong, isList, item, numeralOf}
 use Rattle.lexemes.specs.code.Standing.{Source, Stands, WordIs, bracketed, ends, word}
 use Rattle.lexemes.specs.code.Table.{symbolCode}
 use Rattle.lexemes.proofs.ByCode.{codeFor}
 use Rattle.lexemes.specs.code.Codes.{firstCode}
 use Rattle.shapes.specs.Shapes.{applicationShape, isPattern, ruleShape, sortShape, termShapes}
-use Rattle.term_nodes.specs.code.Says.{AllSay, Says}
-use Rattle.term_nodes.specs.Terms.{cutBy, headedBy, pattern, rawOf, rawRule, rawTerms, writtenOf}
+use Rattle.term_nodes.specs.code.Says.{AllSay, Says, SaysCut}
+use Rattle.term_nodes.specs.Terms.{headedBy, pattern, rawOf, rawRule, rawTerms}
 use Rattle.term_nodes.specs.code.Table.{operandsOf}
-use Rattle.term_nodes.proofs.TermWords.{CutAt, ListTerm, by-cut, by-symbol, cut-alone, list-term, listShape}
+use Rattle.term_nodes.proofs.TermWords.{CutAt, ListTerm, by-cut, by-symbol, cut-alone, decimal-alone, list-term, listShape}
 
 say-operands : (s : Source) (ops : Items) (b : Bool) → is "_" (item 0 ops) ≡ b → (termShapes true ops ≡ true → AllSay s (rawTerms true ops))
     → listShape ops ≡ true → AllSay s (operandsOf ops)
@@ -32,7 +32,7 @@ say-operands s ops true e held shape = rw e tt
 say-operands s ops false e held shape = rw e (held (and-right (applicationShape ops) (termShapes true ops) (rw e at shape)))
 
 module _ {s : Source} where
-  say-cut : (at i : ℕ) {F : Items} → at < i → CutAt s i F → Says s (cutBy at F)
+  say-cut : (at i : ℕ) {F : Items} → at < i → CutAt s i F → SaysCut s at (wordOf (item 2 F)) (numeralOf (item 2 F)) (numeralOf (item 3 F))
   say-cut at i h c =
       let next : i + 2 + 1 ≡ i + 3 = omega arith in
       record {
@@ -44,18 +44,29 @@ module _ {s : Source} where
 
   say-list : {at : ℕ} {ops : Items} → ListTerm s at ops → Says s (headedBy at (item 0 ops) (inside 0 ops) ops)
   unfolding item inside
-  say-list {at} (cut-alone e w c) = rw e (say-cut at (at + 1) (omega arith) c)
-  say-list {at} (by-symbol e w) = rw e (record { coded = rw (w .placed) (w .coded); spelled = rw (w .placed) (w .written refl) })
+  say-list {at} (decimal-alone e w c) =
+      let next : at + 1 + 1 + 1 ≡ at + 1 + 2 = omega arith in
+      rw (e, c .is)
+      (record {
+        here = omega (arith, c .placed);
+        is-decimal = c .is;
+        coded = rw (c .placed) (c .coded);
+        spelled = rw (c .placed) (c .spelled);
+        numeral = rw (c .placed, next) (c .numeral);
+        wide = rw (c .placed, next) (c .wide);
+      })
+  say-list {at} (cut-alone e w c) = rw (e, c .none) (say-cut at (at + 1) (omega arith) c)
+  say-list {at} (by-symbol e w) =
+      rw e (record { near = omega (arith, w .placed); coded = rw (w .placed) (w .coded); spelled = rw (w .placed) (w .written refl) })
   say-list {at} (by-cut b c) = say-cut at (at + 2) (omega arith) c
 
   say-word : {i : ℕ} (l : Lexeme) → WordIs s i l → Says s (rawOf l none)
-  say-word (symbol at name) w = record { coded = rw (w .placed) (w .coded); spelled = rw (w .placed) (w .written refl) }
+  say-word (symbol at name) w = record { near = omega arith; coded = rw (w .placed) (w .coded); spelled = rw (w .placed) (w .written refl) }
   say-word (numeral at v) w = rw (w .placed) (w .coded)
   say-word (literal at width v written) w = record {
     coded = rw (w .placed) (w .coded);
     valued = rw (w .placed) (w .valued);
     wide = rw (w .placed) (w .wide);
-    cased = rw (w .placed) (ap writtenOf (w .written refl));
   }
   say-word (list at close) w = apart (sym (w .no-list))
 

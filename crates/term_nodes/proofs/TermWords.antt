@@ -1,29 +1,47 @@
 -- Terms among the items that stand in the tables of a text: what their words are.
 use Prim.Native.Nat.{ℕ, _+_}
 use native.Mathlib.Omega.{arith}
-use mathlib.Core.Path.{_≡_, refl, sym, _∙_}
-use mathlib.Core.Bool.{Bool, true, false, cond, _&&_}
+use mathlib.Core.Path.{_≡_, refl, sym, ap, _∙_}
+use mathlib.Core.Bool.{Bool, true, false, cond, _&&_, _||_}
 use mathlib.Core.List.{List}
-use lib.Dec.{eqb}
+use lib.Dec.{eqb, ltb}
+use borrow.Author.Tests.{eqb-true, le-ltb}
 use Rattle.forest.specs.Forest.{count, none, tree}
 use Rattle.forest.proofs.Bools.{and-left, and-right, apart}
 use Rattle.words.specs.Trees.{Lexeme, list, literal, numeral, symbol, wordOf}
 use Rattle.forest.specs.Lists.{sameBytes}
-use Rattle.lexemes.specs.Lists.{Items, after, allNumerals, indexed, inside, is, isNumeral, item, numeralOf}
-use Rattle.lexemes.specs.code.Standing.{ListIs, Source, Stands, WordIs, bracketed, ends, word}
-use Rattle.lexemes.specs.code.Table.{codeAt, numeralCode, valueAt}
-use Rattle.shapes.specs.Shapes.{applicationShape, headShape, termShapes}
+use Rattle.lexemes.specs.Lists.{Items, after, allNumerals, indexed, inside, is, isConstant, isConstantWord, isNumeral, item, nameOf, numeralOf}
+use Rattle.lexemes.specs.code.Standing.{ListIs, Source, Stands, WordIs, bracketed, ends, spelt, word}
+use Rattle.lexemes.specs.code.Codes.{extractCode, otherCode}
+use Rattle.lexemes.proofs.ByCode.{codeFor, constant-code, word-code}
+use Rattle.word_kinds.specs.Decimals.{isDecimal}
+use Rattle.lexemes.specs.code.Table.{codeAt, codeOf, numeralCode, symbolCode, valueAt}
+use Rattle.shapes.specs.Shapes.{applicationShape, headShape, indexedShape, termShapes}
 
--- The items behind `_` and `extract`, which stand at word i, are two numerals.
+-- The items behind `_`, which stands at word i, are the word of a constant and a numeral.
+pub record DecimalAt (s : Source) (i : ℕ) (F : Items) : Type 0 where
+  pub is : isConstantWord (item 1 F) ≡ true
+  pub placed : wordOf (item 1 F) ≡ i + 1
+  pub told : ltb otherCode (codeAt (s .lexemes) (i + 1)) ≡ true
+  pub coded : codeAt (s .lexemes) (i + 1) ≡ symbolCode (nameOf (item 1 F))
+  pub spelled : spelt s (i + 1) ≡ nameOf (item 1 F)
+  pub numeral : codeAt (s .lexemes) (i + 2) ≡ numeralCode
+  pub wide : valueAt (s .lexemes) (i + 2) ≡ numeralOf (item 2 F)
+
+-- The items behind `_`, which stands at word i, are `extract` and two numerals.
 pub record CutAt (s : Source) (i : ℕ) (F : Items) : Type 0 where
+  pub none : isConstantWord (item 1 F) ≡ false
+  pub told : ltb otherCode (codeAt (s .lexemes) (i + 1)) ≡ false
   pub placed : wordOf (item 2 F) ≡ i + 2
   pub coded : codeAt (s .lexemes) (i + 2) ≡ numeralCode
   pub high : valueAt (s .lexemes) (i + 2) ≡ numeralOf (item 2 F)
   pub low : valueAt (s .lexemes) (i + 3) ≡ numeralOf (item 3 F)
 
--- What a list that is a term holds, where its items stand behind word `at`: what `(_ extract i j)` holds; or a head, which is a symbol or `(_ extract i j)`,
--- and operands.
+-- What a list that is a term holds, where its items stand behind word `at`: what `(_ bvN n)` or `(_ extract i j)` holds; or a head, which is a symbol or
+-- `(_ extract i j)`, and operands.
 pub data ListTerm (s : Source) (at : ℕ) : Items → Type 0 where
+  decimal-alone : {a : ℕ} {name : List ℕ} {more : Items} → is "_" (symbol a name) ≡ true → WordIs s (at + 1) (symbol a name)
+      → DecimalAt s (at + 1) (tree (symbol a name) none more) → ListTerm s at (tree (symbol a name) none more)
   cut-alone : {a : ℕ} {name : List ℕ} {more : Items} → is "_" (symbol a name) ≡ true → WordIs s (at + 1) (symbol a name)
       → CutAt s (at + 1) (tree (symbol a name) none more) → ListTerm s at (tree (symbol a name) none more)
   by-symbol : {a : ℕ} {name : List ℕ} {more : Items} → is "_" (symbol a name) ≡ false → WordIs s (at + 1) (symbol a name)
@@ -43,7 +61,14 @@ pub record TwoNumerals (s : Source) (i : ℕ) (F : Items) : Type 0 where
 
 -- What a list must be that is a term.
 unfoldable pub listShape : Items → Bool
-listShape ops = cond (is "_" (item 0 ops)) (indexed "extract" 2 ops) (applicationShape ops && termShapes true ops)
+listShape ops = cond (is "_" (item 0 ops)) (indexedShape ops) (applicationShape ops && termShapes true ops)
+
+-- the code of `extract` is below those of constants' words
+extract-low : (l : Lexeme) → is "extract" l ≡ true → ltb otherCode (codeOf l) ≡ false
+unfolding codeFor
+extract-low l e =
+    let code = eqb-true (codeOf l) extractCode (sym (word-code "extract" refl l) ∙ e) in
+    le-ltb otherCode (codeOf l) (omega arith)
 
 chosen : (b x y : Bool) → b ≡ true → cond b x y ≡ true → x ≡ true
 chosen true x y e h = h
@@ -78,6 +103,38 @@ module _ {s : Source} where
   two-numerals (word {l = l} w (bracketed b inner rest)) two all = apart (and-right (isNumeral l) false all)
   two-numerals (bracketed b inner rest) two all = apart all
 
+  one-numeral : {i e : ℕ} {F : Items} → Stands s i F e → eqb (count F) 1 ≡ true → allNumerals F ≡ true → NumeralAt s i (item 0 F)
+  unfolding allNumerals count item
+  one-numeral ends one all = apart one
+  one-numeral (word {l = l} {more = more} w rest) one all = numeral-at w (and-left (isNumeral l) (allNumerals more) all)
+  one-numeral (bracketed b inner rest) one all = apart all
+
+  -- `(_ bvN n)`, by its items
+  decimal-at : {i e : ℕ} {F : Items} → Stands s i F e → isConstant F ≡ true → DecimalAt s i F
+  unfolding after count isDecimal item sameBytes
+  decimal-at ends shape = apart shape
+  decimal-at (word {l = l} w ends) shape = apart (four (is "_" l) false false (allNumerals none) shape .1)
+  decimal-at {i} (word {l = l} w (word {l = symbol a name} {more = more} v rest)) shape =
+      let tests = four (is "_" l) (isConstantWord (symbol a name)) (eqb (count more) 1) (allNumerals more) shape in
+      let numeral = one-numeral rest (tests .2) (tests .3) in
+      let next : i + 1 + 1 ≡ i + 2 = omega arith in
+      record {
+        is = tests .1;
+        placed = v .placed;
+        told = ap (ltb otherCode) (v .coded) ∙ sym (constant-code (symbol a name)) ∙ tests .1;
+        coded = v .coded;
+        spelled = v .written refl;
+        numeral = rw next at (numeral .coded);
+        wide = rw next at (numeral .valued);
+      }
+  decimal-at (word {l = l} w (word {l = numeral a v} {more = more} x rest)) shape =
+      apart (four (is "_" l) false (eqb (count more) 1) (allNumerals more) shape .1)
+  decimal-at (word {l = l} w (word {l = literal a width v bytes} {more = more} x rest)) shape =
+      apart (four (is "_" l) false (eqb (count more) 1) (allNumerals more) shape .1)
+  decimal-at (word {l = l} w (word {l = list a c} {more = more} x rest)) shape = apart (sym (x .no-list))
+  decimal-at (word {l = l} w (bracketed {more = more} b inner rest)) shape = apart (four (is "_" l) false (eqb (count more) 1) (allNumerals more) shape .1)
+  decimal-at (bracketed b inner rest) shape = apart shape
+
   -- `(_ extract i j)`, by its items
   cut-at : {i e : ℕ} {F : Items} → Stands s i F e → indexed "extract" 2 F ≡ true → CutAt s i F
   unfolding after count item sameBytes
@@ -88,7 +145,10 @@ module _ {s : Source} where
       let numerals = two-numerals rest (tests .2) (tests .3) in
       let at-first : i + 1 + 1 ≡ i + 2 = omega arith in
       let at-second : i + 1 + 1 + 1 ≡ i + 3 = omega arith in
+      let low : ltb otherCode (codeOf m) ≡ false = extract-low m (tests .1) in
       record {
+        none = constant-code m ∙ low;
+        told = ap (ltb otherCode) (v .coded) ∙ low;
         placed = numerals .first .placed ∙ at-first;
         coded = rw at-first at (numerals .first .coded);
         high = rw at-first at (numerals .first .valued);
@@ -103,7 +163,12 @@ module _ {s : Source} where
   list-term at (word {l = symbol a name} {more = more} w rest) shape = go (is "_" (symbol a name)) refl
     where
       go : (b : Bool) → is "_" (symbol a name) ≡ b → ListTerm s at (tree (symbol a name) none more)
-      go true e = cut-alone e w (cut-at (word w rest) (chosen (is "_" (symbol a name)) _ _ e shape))
+      go true e = either (indexed "extract" 2 (tree (symbol a name) none more)) refl (chosen (is "_" (symbol a name)) _ _ e shape)
+        where
+          either : (b : Bool) → indexed "extract" 2 (tree (symbol a name) none more) ≡ b → b || isConstant (tree (symbol a name) none more) ≡ true
+              → ListTerm s at (tree (symbol a name) none more)
+          either true x shaped = cut-alone e w (cut-at (word w rest) x)
+          either false x shaped = decimal-alone e w (decimal-at (word w rest) shaped)
       go false e = by-symbol e w
   list-term at (word {l = numeral a v} w rest) shape = apart shape
   list-term at (word {l = literal a width v written} w rest) shape = apart shape

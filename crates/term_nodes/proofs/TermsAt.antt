@@ -4,8 +4,8 @@ use native.Mathlib.Omega.{arith}
 use mathlib.Core.Path.{_≡_, refl, sym, ap, _∙_}
 use mathlib.Core.Bool.{true, false, cond}
 use mathlib.Core.List.{List}
-use borrow.Author.Tests.{eq-eqb, ne-eqb}
-use lib.Dec.{eqb}
+use borrow.Author.Tests.{eq-eqb, le-ltb, lt-ltb, ne-eqb}
+use lib.Dec.{eqb, ltb}
 use lib.ListN.{length}
 use Rattle.forest.specs.Forest.{count, none, tree}
 use Rattle.forest.proofs.Bools.{and-left, and-right, apart}
@@ -15,6 +15,7 @@ use Rattle.forest.specs.Lists.{sameBytes}
 use Rattle.lexemes.specs.Lists.{Items, after, inside, is, isList, item}
 use Rattle.lexemes.specs.code.Standing.{Between, ItemAt, Source, Stands}
 use Rattle.lexemes.specs.code.Table.{closeCode, codeAt, codeOf, nextAt, openCode, rowWidth as lexemeWidth}
+use Rattle.lexemes.specs.code.Codes.{otherCode, underscoreCode}
 use Rattle.lexemes.proofs.ByCode.{codeFor, front-word, frontCode}
 use Rattle.lexemes.proofs.Listed.{at-item, is-list, item-room, no-list}
 use Rattle.lexemes.proofs.Standing.{front, here-as}
@@ -22,14 +23,10 @@ use Rattle.shapes.specs.Shapes.{applicationShape, termShapes}
 use Rattle.term_nodes.specs.code.Gather.{Onward, TermAt}
 use Rattle.term_nodes.specs.Terms.{headedBy, rawOf, rawTerms}
 use Rattle.term_nodes.specs.code.Table.{headWord, operandsOf}
-use Rattle.term_nodes.proofs.TermWords.{ListTerm, by-cut, by-symbol, cut-alone, first-of, list-term, listShape}
-
--- the code of `_`
-abbrev scored : ℕ
-scored = 40
+use Rattle.term_nodes.proofs.TermWords.{ListTerm, by-cut, by-symbol, cut-alone, decimal-alone, first-of, list-term, listShape}
 
 -- whether items begin with `_`, by the code of their first word
-score-front : (F : Items) → is "_" (item 0 F) ≡ eqb (frontCode F) scored
+score-front : (F : Items) → is "_" (item 0 F) ≡ eqb (frontCode F) underscoreCode
 unfolding after codeFor
 score-front F = front-word "_" refl 0 F
 
@@ -43,14 +40,20 @@ word-head (list at close) ops free = apart (sym free)
 -- the same for a list, by the code of its first word
 list-head : {s : Source} {at : ℕ} {ops : Items} → ListTerm s at ops
     → headWord (headedBy at (item 0 ops) (inside 0 ops) ops)
-    ≡ cond (eqb (frontCode ops) scored) (at + 3) (cond (eqb (frontCode ops) openCode) (at + 4) (at + 1))
+    ≡ cond (eqb (frontCode ops) underscoreCode) (cond (ltb otherCode (codeAt (s .lexemes) (at + 2))) (at + 2) (at + 3))
+    (cond (eqb (frontCode ops) openCode) (at + 4) (at + 1))
 unfolding item inside
+list-head {at = at} (decimal-alone {a = a} {name = name} {more = more} e w c) =
+    let begun : eqb (codeOf (symbol a name)) underscoreCode ≡ true = sym (score-front (tree (symbol a name) none more)) ∙ e in
+    let place : at + 1 + 1 ≡ at + 2 = omega arith in
+    rw (e, begun, c .is, ← place, c .told) (c .placed)
 list-head {at = at} (cut-alone {a = a} {name = name} {more = more} e w c) =
-    let begun : eqb (codeOf (symbol a name)) scored ≡ true = sym (score-front (tree (symbol a name) none more)) ∙ e in
+    let begun : eqb (codeOf (symbol a name)) underscoreCode ≡ true = sym (score-front (tree (symbol a name) none more)) ∙ e in
     let place : at + 1 + 2 ≡ at + 3 = omega arith in
-    rw (e, begun) (c .placed ∙ place)
+    let second : at + 1 + 1 ≡ at + 2 = omega arith in
+    rw (e, begun, c .none, ← second, c .told) (c .placed ∙ place)
 list-head {at = at} (by-symbol {a = a} {name = name} {more = more} e w) =
-    let begun : eqb (codeOf (symbol a name)) scored ≡ false = sym (score-front (tree (symbol a name) none more)) ∙ e in
+    let begun : eqb (codeOf (symbol a name)) underscoreCode ≡ false = sym (score-front (tree (symbol a name) none more)) ∙ e in
     let no-bracket : eqb (codeOf (symbol a name)) openCode ≡ false = ne-eqb (codeOf (symbol a name)) openCode (λ q. omega arith) in
     rw (e, begun, no-bracket) (w .placed)
 list-head {at = at} (by-cut b c) = let place : at + 2 + 2 ≡ at + 4 = omega arith in c .placed ∙ place
@@ -61,6 +64,7 @@ count-terms none = refl
 count-terms (tree l ops more) = ap suc (count-terms more)
 
 tree-of-term : {s : Source} {at : ℕ} {ops : Items} → ListTerm s at ops → Tree ops
+tree-of-term (decimal-alone {a = a} {name = name} {more = more} e w c) = record { l = symbol a name; ops = none; rest = more; is = refl }
 tree-of-term (cut-alone {a = a} {name = name} {more = more} e w c) = record { l = symbol a name; ops = none; rest = more; is = refl }
 tree-of-term (by-symbol {a = a} {name = name} {more = more} e w) = record { l = symbol a name; ops = none; rest = more; is = refl }
 tree-of-term {at = at} (by-cut {c = d} {held = held} {more = more} b c) = record { l = list (at + 1) d; ops = held; rest = more; is = refl }
@@ -155,36 +159,41 @@ module _ {lexemes : List ℕ} {at code : ℕ} (ec : code ≡ codeAt lexemes at) 
     a-list : isList (x .label) ≡ true
     a-list = is-list ec opens (term-item x)
 
-    head-by : headWord (rawOf (x .label) (x .operands)) ≡ cond (eqb first scored) (at + 3) (cond (eqb first openCode) (at + 4) (at + 1))
-    head-by = let o = opened x a-list in rw (o .label, ef, o .begun) (list-head (o .term))
+    head-by : headWord (rawOf (x .label) (x .operands))
+        ≡ cond (eqb first underscoreCode) (cond (ltb otherCode (codeAt lexemes (at + 2))) (at + 2) (at + 3)) (cond (eqb first openCode) (at + 4) (at + 1))
+    head-by = let o = opened x a-list in rw (o .label, ef, o .begun, ← x .same) (list-head (o .term))
 
-    begins-by : is "_" (item 0 (x .operands)) ≡ eqb first scored
-    begins-by = score-front (x .operands) ∙ ap (λ (c : ℕ). eqb c scored) (sym (ef ∙ opened x a-list .begun))
+    begins-by : is "_" (item 0 (x .operands)) ≡ eqb first underscoreCode
+    begins-by = score-front (x .operands) ∙ ap (λ (c : ℕ). eqb c underscoreCode) (sym (ef ∙ opened x a-list .begun))
 
-    module _ (score : first ≡ scored) where
-      pub head-alone : at + 3 ≡ headWord (rawOf (x .label) (x .operands))
-      head-alone = sym (rw (eq-eqb first scored score) at head-by)
+    module _ (score : first ≡ underscoreCode) where
+      module _ {second : ℕ} (es : second ≡ codeAt lexemes (at + 2)) where
+        pub head-constant : otherCode < second → at + 2 ≡ headWord (rawOf (x .label) (x .operands))
+        head-constant h = sym (rw (eq-eqb first underscoreCode score, ← es, lt-ltb otherCode second h) at head-by)
+
+        pub head-alone : second ≤ otherCode → at + 3 ≡ headWord (rawOf (x .label) (x .operands))
+        head-alone h = sym (rw (eq-eqb first underscoreCode score, ← es, le-ltb otherCode second h) at head-by)
 
       pub operands-alone : 0 ≡ count (operandsOf (x .operands))
       unfolding count
-      operands-alone = rw (begins-by ∙ eq-eqb first scored score)
+      operands-alone = rw (begins-by ∙ eq-eqb first underscoreCode score)
 
       pub behind-alone : {next : ℕ} → next ≡ nextAt lexemes at → Onward x next
-      behind-alone e = rw (a-list, begins-by ∙ eq-eqb first scored score) e
+      behind-alone e = rw (a-list, begins-by ∙ eq-eqb first underscoreCode score) e
 
-    module _ (plain : first ≡ scored → ⊥) where
+    module _ (plain : first ≡ underscoreCode → ⊥) where
       pub head-is-cut : first ≡ openCode → at + 4 ≡ headWord (rawOf (x .label) (x .operands))
-      head-is-cut o = sym (rw (ne-eqb first scored plain, eq-eqb first openCode o) at head-by)
+      head-is-cut o = sym (rw (ne-eqb first underscoreCode plain, eq-eqb first openCode o) at head-by)
 
       pub head-is-symbol : (first ≡ openCode → ⊥) → at + 1 ≡ headWord (rawOf (x .label) (x .operands))
-      head-is-symbol n = sym (rw (ne-eqb first scored plain, ne-eqb first openCode n) at head-by)
+      head-is-symbol n = sym (rw (ne-eqb first underscoreCode plain, ne-eqb first openCode n) at head-by)
 
       application : Applied x
-      application = applied x a-list (begins-by ∙ ne-eqb first scored plain)
+      application = applied x a-list (begins-by ∙ ne-eqb first underscoreCode plain)
 
       module _ {inner : ℕ} (ei : inner ≡ nextAt lexemes (at + 1)) where
         pub behind-head : Onward x inner
-        behind-head = rw (a-list, begins-by ∙ ne-eqb first scored plain) ei
+        behind-head = rw (a-list, begins-by ∙ ne-eqb first underscoreCode plain) ei
 
         module _ {next : ℕ} (en : next ≡ nextAt lexemes at) where
           pub close-before : 1 ≤ next

@@ -6,7 +6,7 @@ use lib.Dec.{leb}
 use Rattle.forest.specs.Forest.{Forest, count, join, nodesOf, none, tree}
 use Rattle.words.specs.Trees.{wordOf}
 use Rattle.lexemes.specs.Lists.{Items, inside, item}
-use Rattle.term_nodes.specs.Terms.{Raw, nodeWord, rawRule}
+use Rattle.term_nodes.specs.Terms.{Raw, rawRule, wordPast}
 
 -- A rule: the place of its non-terminal among those that are listed, its first word, and its right side.
 pub record Ruled : Type 0 where
@@ -39,7 +39,7 @@ unfoldable pub rulePast : (nowhere most : ℕ) → List Ruled → ℕ
 rulePast nowhere most [] = nowhere
 rulePast nowhere most (r ∷ more) = cond (leb 1 most) (rulePast nowhere (most - 1) more) (r .first)
 
--- The least of the nodes past the limit of a rule: "256 nodes .. a body, constraint or rule".
+-- The least word past a limit of a rule: "256 nodes .. a body, constraint or rule", or a limit on a constant.
 unfoldable pub nodesPast : (nowhere most : ℕ) → List Ruled → ℕ
 nodesPast nowhere most [] = nowhere
-nodesPast nowhere most (r ∷ more) = min (nodeWord nowhere most (nodesOf (r .side))) (nodesPast nowhere most more)
+nodesPast nowhere most (r ∷ more) = min (wordPast nowhere most (nodesOf (r .side))) (nodesPast nowhere most more)

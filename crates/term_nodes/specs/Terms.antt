@@ -1,13 +1,13 @@
 -- The terms that items say, before their names are looked up. What is said here is meant of items whose shape is right (5) and which are carried (6).
-use Prim.Native.Char.{code}
-use Prim.Native.Nat.{ℕ, zero, suc, _+_, _*_}
-use mathlib.Core.Bool.{Bool, true, false, cond, _&&_}
+use Prim.Native.Nat.{ℕ, zero, suc, _+_, min}
+use mathlib.Core.Bool.{Bool, true, false, cond}
 use mathlib.Core.List.{List, [], _∷_}
-use lib.Dec.{eqb, leb}
-use lib.ListN.{drop, getD}
 use Rattle.forest.specs.Forest.{Forest, Node, none, tree}
+use lib.Dec.{ltb}
+use Rattle.word_kinds.specs.Decimals.{isLong}
+use Rattle.operators.specs.Sorts.{maxWidth}
 use Rattle.words.specs.Trees.{Lexeme, list, literal, numeral, symbol, wordOf}
-use Rattle.lexemes.specs.Lists.{Items, inside, is, item, numeralOf}
+use Rattle.lexemes.specs.Lists.{Items, inside, is, isConstantWord, item, nameOf, numeralOf}
 use Rattle.shapes.specs.Shapes.{isPattern}
 
 -- A node of a term, with its first word.
@@ -16,8 +16,10 @@ pub data Raw : Type 0 where
   word : (at head : ℕ) → (name : List ℕ) → Raw
   -- a numeral
   number : (at value : ℕ) → Raw
-  -- a `#x` or `#b` word: its width, its value, and how it is written
-  constant : (at width value written : ℕ) → Raw
+  -- a `#x` or `#b` word: its width and its value
+  constant : (at width value : ℕ) → Raw
+  -- a constant `(_ bvN n)`: the word `bvN`, its bytes, and n
+  decimal : (at head : ℕ) → (name : List ℕ) → (width : ℕ) → Raw
   -- `(_ extract i j)`, applied or by itself, with the word that is i
   cut : (at head i j : ℕ) → Raw
   -- `(Constant σ)` or, where it is not that, `(Variable σ)`, as a whole rule: its first word and the item σ
@@ -27,35 +29,32 @@ pub data Raw : Type 0 where
 abbrev pub firstWord : Raw → ℕ
 firstWord (word at head name) = at
 firstWord (number at v) = at
-firstWord (constant at width v written) = at
+firstWord (constant at width v) = at
+firstWord (decimal at head name width) = at
 firstWord (cut at head i j) = at
 firstWord (pattern at c s held) = at
 
--- "nodes (literals, names, applications; no head is one)": a numeral is none of these.
+-- "nodes (literals, names, applications; no head is one)": a numeral is none of these; "Carry `(_ bv15 8)` too, as one node" (E3).
 abbrev pub isNode : Raw → Bool
 isNode (word at head name) = true
 isNode (number at v) = false
-isNode (constant at width v written) = true
+isNode (constant at width v) = true
+isNode (decimal at head name width) = true
 isNode (cut at head i j) = true
 isNode (pattern at c s held) = true
-
--- The case of the digits, each a bit after those before: 1 for `A` to `F`, 0 for another digit.
-unfoldable pub cases : (before : ℕ) → (digits : List ℕ) → ℕ
-cases before [] = before
-cases before (b ∷ digits) = cases (2 * before + cond (leb (code "A") b && leb b (code "F")) 1 0) digits
-
--- How a `#x` or `#b` word is written: 0 for `#b`; for `#x` the case of its digits, after a leading 1. Two words of one width and value are written alike
--- exactly where these numbers are equal.
-abbrev pub writtenOf : (bytes : List ℕ) → ℕ
-writtenOf bytes = cond (eqb (getD bytes 1 0) (code "x")) (cases 1 (drop 2 bytes)) 0
 
 -- The node of `(_ extract i j)`, by its first word and the items of the list.
 abbrev pub cutBy : (at : ℕ) → Items → Raw
 cutBy at items = cut at (wordOf (item 2 items)) (numeralOf (item 2 items)) (numeralOf (item 3 items))
 
+-- The node of a list begun by `_`: of `(_ bvN n)` or `(_ extract i j)`.
+abbrev pub indexedNode : (at : ℕ) → Items → Raw
+indexedNode at items =
+    cond (isConstantWord (item 1 items)) (decimal at (wordOf (item 1 items)) (nameOf (item 1 items)) (numeralOf (item 2 items))) (cutBy at items)
+
 -- The node that a list is, by its first word, its head and what the head holds; the shape admits no other heads than a symbol and `(_ extract i j)`.
 abbrev pub headedBy : (at : ℕ) → Lexeme → (held ops : Items) → Raw
-headedBy at (symbol head name) held ops = cond (is "_" (symbol head name)) (cutBy at ops) (word at head name)
+headedBy at (symbol head name) held ops = cond (is "_" (symbol head name)) (indexedNode at ops) (word at head name)
 headedBy at (list head close) held ops = cutBy at held
 headedBy at (numeral head v) held ops = number at v
 headedBy at (literal head width v written) held ops = number at 0
@@ -64,7 +63,7 @@ headedBy at (literal head width v written) held ops = number at 0
 abbrev pub rawOf : Lexeme → Items → Raw
 rawOf (symbol at name) ops = word at at name
 rawOf (numeral at v) ops = number at v
-rawOf (literal at width v bytes) ops = constant at width v (writtenOf bytes)
+rawOf (literal at width v bytes) ops = constant at width v
 rawOf (list at close) ops = headedBy at (item 0 ops) (inside 0 ops) ops
 
 -- The terms that items are, behind a head or not.
@@ -88,3 +87,22 @@ unfoldable pub nodeWord : (nowhere n : ℕ) → List (Node Raw) → ℕ
 nodeWord nowhere n [] = nowhere
 nodeWord nowhere zero (x ∷ more) = cond (isNode (x .label)) (firstWord (x .label)) (nodeWord nowhere zero more)
 nodeWord nowhere (suc n) (x ∷ more) = nodeWord nowhere (cond (isNode (x .label)) n (suc n)) more
+
+-- The word of a constant that is past a limit: "after `bv` stands a numeral of at most 20 digits (more: answer 4) .. and n keeps a sort's range (.. above 64
+-- answer 4)" (E3).
+abbrev pub constantPast : (nowhere : ℕ) → Raw → ℕ
+constantPast nowhere (decimal at head name width) = cond (isLong name) head (cond (ltb maxWidth width) (head + 1) nowhere)
+constantPast nowhere (word at head name) = nowhere
+constantPast nowhere (number at v) = nowhere
+constantPast nowhere (constant at width v) = nowhere
+constantPast nowhere (cut at head i j) = nowhere
+constantPast nowhere (pattern at c s held) = nowhere
+
+-- The least of them.
+unfoldable pub constantsPast : (nowhere : ℕ) → List (Node Raw) → ℕ
+constantsPast nowhere [] = nowhere
+constantsPast nowhere (x ∷ more) = min (constantPast nowhere (x .label)) (constantsPast nowhere more)
+
+-- The least word of a term that is past a limit: that of the node past the first `most`, or that of a constant.
+abbrev pub wordPast : (nowhere most : ℕ) → List (Node Raw) → ℕ
+wordPast nowhere most nodes = min (nodeWord nowhere most nodes) (constantsPast nowhere nodes)

@@ -3,6 +3,7 @@ use crate::ROW;
 use lexemes::CLOSE;
 use lexemes::OPEN;
 use lexemes::code_at;
+use lexemes::codes::OTHER;
 use lexemes::codes::UNDERSCORE;
 use lexemes::items::count_items;
 use lexemes::next_at;
@@ -27,6 +28,9 @@ fn head_word(lexemes: &[u64], at: usize) -> usize
     }
     let first = code_at(lexemes, at + 1);
     if first == UNDERSCORE {
+        if code_at(lexemes, at + 2) > OTHER {
+            return at + 2;
+        }
         return at + 3;
     }
     if first == OPEN {

@@ -8,8 +8,9 @@ pub mod rules;
 pub mod sizes;
 
 use forest::numbers::number_at;
+use lexemes::codes::OTHER;
 ghost use mathlib.Core.Path.{_≡_};
-ghost use Rattle.term_nodes.specs.code.Table.{firstAt, headAt, operandsAt, sizeAt};
+ghost use Rattle.term_nodes.specs.code.Table.{firstAt, headAt, isConstantHead, operandsAt, sizeAt};
 
 // How many numbers a row has.
 pub const ROW: usize = 4;
@@ -40,6 +41,16 @@ pub fn size_at(raw: &[u64], node: usize) -> usize
     ensures { λ r. ⌜ r ≡ sizeAt (now (raw .entry)) node ⌝ }
 {
     number_at(raw, ROW, node, 3) as usize
+}
+
+// Whether a node is a constant `(_ bvN n)`, by its first word, the word that says what it is and the code of that: `bvN` stands two words behind the bracket.
+pub fn is_constant(first: usize, head: usize, code: u64) -> bool
+    ensures { λ r. ⌜ r ≡ isConstantHead first head code ⌝ }
+{
+    if (code <= OTHER) | (head < 2) {
+        return false;
+    }
+    head - 2 == first
 }
 
 // What is gathered so far: how many rows and rules, and the least word past a limit.

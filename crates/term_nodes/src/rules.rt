@@ -1,7 +1,7 @@
 //! The rules of a grammar's groups, gathered one after the other.
 use crate::Gathered;
 use crate::gather::gather_rule;
-use crate::limits::node_past;
+use crate::limits::word_past;
 use derivation::RULE;
 use forest::limits::NODES;
 use forest::limits::RULES;
@@ -43,7 +43,7 @@ fn gather_one(
     let start = already.row;
     let rule = already.rule;
     let row = gather_rule(lexemes, at, raw, start);
-    let past = node_past(lexemes, raw, start, row, NODES, nowhere);
+    let past = word_past(lexemes, raw, start, row, NODES, nowhere);
     let place = least(already.place, past);
     let counted = rule + 1;
     if rule < RULES {

@@ -14,13 +14,13 @@ use Rattle.operators.specs.Sorts.{maxWidth, valuesOf, sortWhere}
 use Rattle.derivation.specs.Derivation.{Item, anyArgument, anyLiteral, nonTerminal, the}
 use Rattle.derivation.specs.code.Tables.{itemCode, itemValue}
 use Rattle.terms.specs.Labels.{defined, function, literal, name, operator}
-use Rattle.terms.specs.code.Codes.{anyArgumentKind, anyLiteralKind, codeWith, definedKind, headOf, highIn, kindOf, literalHead, literalKind, lowIn, nameKind}
-use Rattle.terms.specs.code.Codes.{nonTerminalKind, operatorKind, sortCount}
+use Rattle.terms.specs.code.Codes.{anyArgumentKind, anyLiteralKind, codeWith, definedKind, headOf, highIn, kindOf, literalKind, lowIn, nameKind}
+use Rattle.terms.specs.code.Codes.{nonTerminalKind, operatorKind}
 use Rattle.terms.specs.code.Nodes.{Plain}
-use Rattle.terms.proofs.CodeParts.{head-with, high-in, kind-with, literal-sort, low-in}
+use Rattle.terms.proofs.CodeParts.{head-with, high-in, low-in}
 use Rattle.terms.specs.Sorts.{Signature, calledSort, labelSort, sameSorts}
 use Rattle.term_sorts.specs.Forms.{FormScope, itemSort}
-use Rattle.term_sorts.specs.code.Nodes.{firstRow, leafSort}
+use Rattle.term_sorts.specs.code.Nodes.{firstRow}
 use Rattle.term_sorts.specs.code.Signatures.{Real, RowIs, RowsAre, Sortable, SortsAre, allRows, functionSignature, nonTerminalSignature}
 
 -- A label that its numbers tell; any other item is told by them anyway.
@@ -35,7 +35,7 @@ pub operator-item : (scope : FormScope) (i : Item) → Told i → kindOf (itemCo
     → itemSort scope i ss ≡ operatorSort (headOf (itemCode i)) (highIn (itemValue i)) (lowIn (itemValue i)) ss
 unfolding itemSort labelSort
 operator-item scope (the (operator o i j)) p h ss = rw (head-with operatorKind o (lit< tt), high-in i j p, low-in i j p)
-operator-item scope (the (literal s v w)) p h ss = absurd (omega arith)
+operator-item scope (the (literal s v)) p h ss = absurd (omega arith)
 operator-item scope (the (name s k)) p h ss = absurd (omega arith)
 operator-item scope (the (defined k)) p h ss = absurd (omega arith)
 operator-item scope (the (function k)) p h ss = absurd (omega arith)
@@ -49,20 +49,19 @@ isCalled kind = leb definedKind kind && leb kind nonTerminalKind
 
 -- The sort of an item that is no operator, no function and no non-terminal.
 pub leaf-item : (scope : FormScope) (i : Item) → Real scope i → (kindOf (itemCode i) ≡ operatorKind → ⊥) → isCalled (kindOf (itemCode i)) ≡ false
-    → (ss : List ℕ) → itemSort scope i ss ≡ sortWhere (eqb (length ss) 0) (leafSort (itemCode i))
+    → (ss : List ℕ) → itemSort scope i ss ≡ sortWhere (eqb (length ss) 0) (headOf (itemCode i))
 unfolding itemSort labelSort
-leaf-item scope (the (literal s v w)) r n h ss =
-    let narrow : s < sortCount = omega (arith, r .sort) in
-    rw (le-leb s maxWidth (r .sort), lt-ltb v (valuesOf s) (r .value), kind-with literalKind (literalHead s w) (lit< tt), literal-sort s w narrow)
+leaf-item scope (the (literal s v)) r n h ss =
+    rw (le-leb s maxWidth (r .sort), lt-ltb v (valuesOf s) (r .value), head-with literalKind s (lit< tt))
 leaf-item scope (the (name s k)) r n h ss =
     let known = lt-ltb k (length (scope .terms .names)) (r .0) in
-    rw (known, eq-eqb (getD (scope .terms .names) k 0) s (r .1), kind-with nameKind s (lit< tt), head-with nameKind s (lit< tt))
+    rw (known, eq-eqb (getD (scope .terms .names) k 0) s (r .1), head-with nameKind s (lit< tt))
 leaf-item scope (the (operator o i j)) r n h ss = absurd (n (omega arith))
 leaf-item scope (the (defined k)) r n h ss = apart (sym h)
 leaf-item scope (the (function k)) r n h ss = apart (sym h)
 leaf-item scope (nonTerminal A) r n h ss = apart (sym h)
-leaf-item scope (anyLiteral s) r n h ss = rw (kind-with anyLiteralKind s (lit< tt), head-with anyLiteralKind s (lit< tt))
-leaf-item scope (anyArgument s) r n h ss = rw (kind-with anyArgumentKind s (lit< tt), head-with anyArgumentKind s (lit< tt))
+leaf-item scope (anyLiteral s) r n h ss = rw (head-with anyLiteralKind s (lit< tt))
+leaf-item scope (anyArgument s) r n h ss = rw (head-with anyArgumentKind s (lit< tt))
 
 -- The signature of function k, in row `row`.
 pub record Known (signatures : List ℕ) (fs : List Signature) (k row : ℕ) : Type 0 where
@@ -129,7 +128,7 @@ callable {signatures = signatures} g (nonTerminal A) r h =
       low = omega (arith, g .few-nonTerminals);
       gives = λ ss. rw (lt-ltb A (length sorts) r, no-arguments ss);
     }
-callable g (the (literal s v w)) r h = let k = called-kind (kindOf (codeWith literalKind (literalHead s w))) h in absurd (omega arith)
+callable g (the (literal s v)) r h = let k = called-kind (kindOf (codeWith literalKind s)) h in absurd (omega arith)
 callable g (the (name s k)) r h = let k = called-kind (kindOf (codeWith nameKind s)) h in absurd (omega arith)
 callable g (the (operator o i j)) r h = let k = called-kind (kindOf (codeWith operatorKind o)) h in absurd (omega arith)
 callable g (anyLiteral s) r h = let k = called-kind (kindOf (codeWith anyLiteralKind s)) h in absurd (omega arith)

@@ -1,6 +1,5 @@
 -- What the tables say of a node of the forms, and the sort of its tree.
-use Prim.Native.Nat.{ℕ, zero, suc, _+_, _≤_, _<_}
-use native.Mathlib.Omega.{arith}
+use Prim.Native.Nat.{ℕ, zero, suc, _+_, _<_}
 use borrow.Author.Tests.{not-false, not-true}
 use mathlib.Core.Bool.{not, Bool, true, false, cond}
 use mathlib.Core.Path.{_≡_, refl, sym, ap, _∙_, subst}
@@ -19,7 +18,7 @@ use Rattle.derivation.proofs.Reading.{ItemSays}
 use Rattle.derivation.specs.Derivation.{Item, anyArgument, anyLiteral, nonTerminal, the}
 use Rattle.derivation.specs.code.Tables.{formTable, itemCode, itemRow, itemValue}
 use Rattle.terms.specs.Labels.{defined, function, literal, name, operator}
-use Rattle.terms.specs.code.Codes.{headOf, kindOf, literalKind, literalSort, operatorKind}
+use Rattle.terms.specs.code.Codes.{headOf, kindOf, operatorKind}
 use Rattle.terms.specs.code.Nodes.{codeAt, operandsAt, rowWidth, valueAt}
 use Rattle.terms.specs.Sorts.{sortOver}
 use Rattle.operators.specs.Sorts.{sortWhere}
@@ -27,7 +26,7 @@ use Rattle.term_sorts.specs.Forms.{FormScope, formSorts, itemSort, sorte
 use Rattle.term_sorts.specs.code.Signatures.{AllReal, Real, allRows}
 use Rattle.term_sorts.proofs.Items.{Callable, Told, callable, isCalled, leaf-item, operator-item}
 use Rattle.term_sorts.specs.code.Forms.{sortNumber}
-use Rattle.term_sorts.specs.code.Nodes.{NodeAt, NodeGives, firstRow, leafSort, treeSorts}
+use Rattle.term_sorts.specs.code.Nodes.{NodeAt, NodeGives, firstRow, treeSorts}
 use Rattle.term_sorts.specs.code.Calls.{Called, CalledGives}
 use Rattle.term_sorts.specs.code.Rules.{OperatorGives}
 use Rattle.term_sorts.specs.code.Operands.{SortedTrees, together}
@@ -46,7 +45,7 @@ form-says all rest t {p} {i} {ops} {more} e =
 
 -- An item that the reader makes is told by its numbers.
 told-real : (scope : FormScope) (i : Item) → Real scope i → Told i
-told-real scope (the (literal s v w)) h = let e = h .sort in omega arith
+told-real scope (the (literal s v)) h = tt
 told-real scope (the (name s k)) h = tt
 told-real scope (the (operator o i j)) h = h
 told-real scope (the (defined k)) h = tt
@@ -185,18 +184,10 @@ module _ {forms signatures column : List ℕ} {node : ℕ} {whole : Bool} where
 
     -- The node is a literal, a name, `(Constant σ)` or `(Variable σ)`.
     pub leaf-node : {code kind sort r : ℕ} → code ≡ codeAt forms node → kind ≡ kindOf code → (kind ≡ operatorKind → ⊥) → isCalled kind ≡ false
-        → sort ≡ leafSort code → r ≡ cond (eqb n 0) (sort + 1) 0 → NodeGives forms signatures column node whole r
+        → sort ≡ headOf code → r ≡ cond (eqb n 0) (sort + 1) 0 → NodeGives forms signatures column node whole r
     leaf-node {code} {kind} code-is kind-is k l s w e =
         let c : code ≡ itemCode (e .item) = code-is ∙ says-of e .code in
         let t = ready e .trees in
         let same : kind ≡ kindOf (itemCode (e .item)) = kind-is ∙ ap kindOf c in
         let q = leaf-item (e .given .scope) (e .item) (real-at e) (λ o. k (same ∙ o)) (rw same at l) (t .sorts) in
-        w ∙ leaf-number (t .counted) (s ∙ ap leafSort c) ∙ ap sortNumber (sym q) ∙ over-operands e
-
--- What a leaf's code says of its sort is no more than the code.
-pub leaf-small : (code : ℕ) → leafSort code ≤ headOf code
-leaf-small code = go (eqb (kindOf code) literalKind)
-  where
-    go : (b : Bool) → cond b (literalSort code) (headOf code) ≤ headOf code
-    go true = omega arith
-    go false = omega arith
+        w ∙ leaf-number (t .counted) (s ∙ ap headOf c) ∙ ap sortNumber (sym q) ∙ over-operands e

@@ -35,7 +35,7 @@ abbrev hole : (rest : Forest Item) → Forest Item
 hole rest = tree (nonTerminal 0) none rest
 
 abbrev bit : (rest : Forest Item) → Forest Item
-bit rest = tree (the (literal 1 1 0)) none rest
+bit rest = tree (the (literal 1 1)) none rest
 
 -- `concat` of the two, and the function of a term.
 abbrev pair : (rest : Forest Item) → Forest Item

@@ -6,16 +6,14 @@ use forest::limits;
 use terms::code_at;
 use terms::codes::DEFINED;
 use terms::codes::FUNCTION;
-use terms::codes::LITERAL;
 use terms::codes::NON_TERMINAL;
 use terms::codes::OPERATOR;
 use terms::codes::head_of;
 use terms::codes::kind_of;
-use terms::codes::literal_sort;
 use terms::operands_at;
 use terms::value_at;
 ghost use mathlib.Core.Path.{_≡_};
-ghost use Rattle.term_sorts.specs.code.Nodes.{NodeAt, NodeGives, firstRow, leafSort};
+ghost use Rattle.term_sorts.specs.code.Nodes.{NodeAt, NodeGives, firstRow};
 
 // The row of the first synthesized function, and of the first non-terminal.
 const FUNCTION_ROW: usize = limits::DEFINED;
@@ -33,16 +31,6 @@ fn first_row(kind: u64) -> usize
         return NON_TERMINAL_ROW;
     }
     0
-}
-
-// The sort that the code of a literal, a name, `(Constant σ)` or `(Variable σ)` says.
-fn leaf_sort(code: u64) -> u64
-    ensures { λ r. ⌜ r ≡ leafSort code ⌝ }
-{
-    if kind_of(code) == LITERAL {
-        return literal_sort(code);
-    }
-    head_of(code)
 }
 
 // The sort of a node's tree; `whole` says whether all its operands have sorts.
@@ -71,5 +59,5 @@ pub fn node_sort(forms: &[u64], signatures: &[u64], column: &[u64], node: usize,
         let row = first_row(kind) + value as usize;
         return called_sort(forms, signatures, column, node + 1, count, row);
     }
-    number_when(count == 0, leaf_sort(code) + 1)
+    number_when(count == 0, head_of(code) + 1)
 }

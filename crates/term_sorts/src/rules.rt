@@ -2,8 +2,8 @@
 use crate::operands::common_sort;
 use crate::operands::sort_at;
 use operators::operators::OPERATORS;
-use operators::operators::operands_of;
 use operators::operators::rule_of;
+use operators::operators::takes;
 use operators::rules::CHOICE;
 use operators::rules::CUTTING;
 use operators::rules::EQUALITY;
@@ -108,7 +108,7 @@ pub fn operator_sort(
     requires { ⌜ SortedTrees (now forms) (now column) place count ⌝ }
     ensures { λ r. ⌜ OperatorGives (now (forms .entry)) (now (column .entry)) place count operator value r ⌝ }
 {
-    if (operator < OPERATORS) & (count == operands_of(operator)) {
+    if (operator < OPERATORS) & takes(operator, count) {
         return rule_sort(forms, column, place, count, rule_of(operator), value);
     }
     0

@@ -17,10 +17,10 @@ use Rattle.forest.specs.code.Rows.{numberAt}
 use Rattle.forest.specs.Tables.{rows}
 use Rattle.operators.specs.Sorts.{sortWhere}
 use Rattle.terms.specs.Labels.{Label, Terms, defined, function, literal, name, operator}
-use Rattle.terms.specs.code.Codes.{definedKind, headOf, highIn, kindOf, literalHead, literalKind, literalSort, lowIn, nameKind, operatorKind, writtenIn}
+use Rattle.terms.specs.code.Codes.{definedKind, headOf, highIn, kindOf, literalKind, lowIn, nameKind, operatorKind}
 use Rattle.terms.specs.code.Nodes.{AllPlain, Plain, codeAt, codeOf, nodeRow, nodeTable, operandsAt, rowWidth, sizeAt, valueAt, valueOf}
 use Rattle.terms.specs.Sorts.{Scope, Signature, calledSort, labelSort, sameSorts, sortsOf}
-use Rattle.terms.proofs.CodeParts.{head-with, high-in, kind-with, literal-sort, literal-written, low-in}
+use Rattle.terms.proofs.CodeParts.{head-with, high-in, kind-with, low-in}
 use Rattle.terms.proofs.Sorted.{sorted, sorts-tree}
 
 -- What a table says of node i: its label is l and its operands are ops.
@@ -60,13 +60,13 @@ plain-at all i l ops more p e = subst AllPlain e (plain-from all i p) .0
 abbrev pub labelOf : (code value : ℕ) → Label
 labelOf code value =
     let kind = kindOf code in
-    cond (eqb kind literalKind) (literal (literalSort code) value (writtenIn code))
+    cond (eqb kind literalKind) (literal (headOf code) value)
     (cond (eqb kind nameKind) (name (headOf code) value)
     (cond (eqb kind operatorKind) (operator (headOf code) (highIn value) (lowIn value)) (cond (eqb kind definedKind) (defined value) (function value))))
 
 -- A label is the one of its code and its value.
 pub label-of : (l : Label) → Plain l → labelOf (codeOf l) (valueOf l) ≡ l
-label-of (literal s v w) p = rw (kind-with literalKind (literalHead s w) (lit< tt), literal-sort s w p, literal-written s w p)
+label-of (literal s v) p = rw (kind-with literalKind s (lit< tt), head-with literalKind s (lit< tt))
 label-of (name s k) p = rw (kind-with nameKind s (lit< tt), head-with nameKind s (lit< tt))
 label-of (operator o i j) p = rw (kind-with operatorKind o (lit< tt), head-with operatorKind o (lit< tt), high-in i j p, low-in i j p)
 label-of (defined k) p = refl
@@ -103,7 +103,7 @@ module _ (defs funs : List Signature) (scope : Scope) where
   -- A label keeps its sort in it.
   label-more : (l : Label) (ss : List ℕ) {s : ℕ} → labelSort scope l ss ≡ some s → labelSort (moreKnown defs funs scope) l ss ≡ some s
   unfolding labelSort
-  label-more (literal s v w) ss h = h
+  label-more (literal s v) ss h = h
   label-more (name s k) ss h = h
   label-more (operator o i j) ss h = h
   label-more (defined k) ss h = called-more defs (scope .defined) k ss h

@@ -87,7 +87,7 @@ module _ {scope : Scope} {meaning : Meaning} (suits : Suits scope meaning) where
   -- A label that has a sort over the sorts of its operands has a value of that sort over their values.
   label-given : (l : Label) (vs : List Value) {s : ℕ} → Fits vs → labelSort scope l (sortsIn vs) ≡ some s → Given (labelValue meaning l vs) s
   unfolding labelSort labelValue operatorGives
-  label-given (literal s v w) vs f h = given-when _ (rw length-map at h) (literal-fits s v (eqb (length vs) 0))
+  label-given (literal s v) vs f h = given-when _ (rw length-map at h) (literal-fits s v (eqb (length vs) 0))
   label-given (name s k) vs f h =
       given-when _ (rw (← suits .names, length-map, length-map) at h) (name-fits (meaning .names) s k (eqb (length vs) 0) (suits .fit))
   label-given (operator o i j) vs f h =

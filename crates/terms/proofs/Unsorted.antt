@@ -79,7 +79,7 @@ module _ {scope : Scope} {meaning : Meaning} (within : Within scope meaning) whe
   -- The value of a label has its sort.
   has-label : (l : Label) (vs : List Value) → HasSort (labelValue meaning l vs) (labelSort scope l (sortsIn vs))
   unfolding labelValue labelSort
-  has-label (literal s v w) vs = rw length-map (has-cond (leb s maxWidth && ltb v (valuesOf s) && eqb (length vs) 0) (the-value (value s v)) no-value)
+  has-label (literal s v) vs = rw length-map (has-cond (leb s maxWidth && ltb v (valuesOf s) && eqb (length vs) 0) (the-value (value s v)) no-value)
   has-label (name s k) vs =
       let test = ltb k (length (meaning .names)) && eqb (getD (sortsIn (meaning .names)) k 0) s && eqb (length vs) 0 in
       rw (← within .names, length-map, length-map) (has-cond test (the-value (value s (getD (numbersIn (meaning .names)) k 0))) no-value)

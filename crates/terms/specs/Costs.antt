@@ -17,7 +17,7 @@ pub record BodyCosts : Type 0 where
 abbrev pub bodyCost : BodyCosts → Label → ℕ
 bodyCost bodies (defined k) = bodies .defined k
 bodyCost bodies (function k) = bodies .functions k
-bodyCost bodies (literal s v w) = 0
+bodyCost bodies (literal s v) = 0
 bodyCost bodies (name s k) = 0
 bodyCost bodies (operator o i j) = 0
 

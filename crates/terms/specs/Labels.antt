@@ -4,9 +4,8 @@ use Rattle.forest.specs.Forest.{Forest}
 
 -- The label of a node of a term.
 pub data Label : Type 0 where
-  -- "`true`, `false`, `#x` and `#b` words are the literals": a literal has its sort, its value, and a number that says how it is written, so that two literals
-  -- of one sort and value are written alike exactly where these numbers are equal
-  literal : (sort value written : ℕ) → Label
+  -- "A literal is its value and width: case, `#x` or `#b` make no difference." (E3) Its sort says its width
+  literal : (sort value : ℕ) → Label
   -- an argument of the function in whose body or rule the term stands, or in a constraint a declared variable: its sort, and which it is, from 0
   name : (sort k : ℕ) → Label
   -- an operator by its number in the operator table; `(_ extract i j)` has its numbers, any other 0 and 0

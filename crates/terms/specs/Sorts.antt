@@ -35,7 +35,7 @@ calledSort (f ∷ earlier) k ss = cond (eqb k (length earlier)) (sortWhere (same
 
 -- The sort of a label over operands of the sorts ss: a literal's value and a name's sort are those they say, and neither has operands.
 unfoldable pub labelSort : Scope → Label → (ss : List ℕ) → Option ℕ
-labelSort scope (literal s v w) ss = sortWhere (leb s maxWidth && ltb v (valuesOf s) && eqb (length ss) 0) s
+labelSort scope (literal s v) ss = sortWhere (leb s maxWidth && ltb v (valuesOf s) && eqb (length ss) 0) s
 labelSort scope (name s k) ss = sortWhere (ltb k (length (scope .names)) && eqb (getD (scope .names) k 0) s && eqb (length ss) 0) s
 labelSort scope (operator o i j) ss = operatorSort o i j ss
 labelSort scope (defined k) ss = calledSort (scope .defined) k ss

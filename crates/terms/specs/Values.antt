@@ -41,7 +41,7 @@ operatorGives (some s) number = some (value s number)
 
 -- The value of a label over operands of the values vs.
 unfoldable pub labelValue : Meaning → Label → (vs : List Value) → Option Value
-labelValue meaning (literal s v w) vs = valueWhen (leb s maxWidth && ltb v (valuesOf s) && eqb (length vs) 0) (value s v)
+labelValue meaning (literal s v) vs = valueWhen (leb s maxWidth && ltb v (valuesOf s) && eqb (length vs) 0) (value s v)
 labelValue meaning (name s k) vs =
     valueWhen (ltb k (length (meaning .names)) && eqb (getD (sortsIn (meaning .names)) k 0) s && eqb (length vs) 0)
     (value s (getD (numbersIn (meaning .names)) k 0))

@@ -1,7 +1,7 @@
 //! The code and the value of a node: the kind of its label, what stands beside the kind, and the numbers of `(_ extract i j)`.
 ghost use mathlib.Core.Path.{_≡_};
 ghost use Prim.Native.Nat.{_^_, _<_};
-ghost use Rattle.terms.specs.code.Codes.{codeWith, cutValue, headOf, highIn, kindOf, literalHead, literalKind, literalSort, lowIn};
+ghost use Rattle.terms.specs.code.Codes.{codeWith, cutValue, headOf, highIn, kindOf, lowIn};
 
 // The kinds of labels.
 pub const LITERAL: u64 = 0;
@@ -23,9 +23,6 @@ pub const ANY_ARGUMENT: u64 = 7;
 
 // A code is a kind, and so many times what stands beside it.
 pub const KINDS: u64 = 16;
-
-// Beside a literal's kind stand its sort, and so many times how it is written.
-const SORTS: u64 = 128;
 
 // The value of `(_ extract i j)` is so many times i, and j.
 const LOWS: u64 = 64;
@@ -50,21 +47,6 @@ pub fn head_of(code: u64) -> u64
     ensures { λ r. ⌜ r ≡ headOf code ⌝ }
 {
     code / KINDS
-}
-
-// The code of a literal.
-pub fn literal_code(sort: u64, written: u64) -> u64
-    requires { ⌜ codeWith literalKind (literalHead sort written) < 2 ^ 64 ⌝ }
-    ensures { λ r. ⌜ r ≡ codeWith literalKind (literalHead sort written) ⌝ }
-{
-    code_with(LITERAL, sort + SORTS * written)
-}
-
-// The sort in a literal's code.
-pub fn literal_sort(code: u64) -> u64
-    ensures { λ r. ⌜ r ≡ literalSort code ⌝ }
-{
-    head_of(code) % SORTS
 }
 
 // The value of `(_ extract i j)`.

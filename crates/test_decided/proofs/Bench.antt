@@ -2,7 +2,7 @@
 use Prim.Native.Nat.{ℕ, zero, suc, _<_}
 use Prim.Native.String.{String}
 use native.Mathlib.Omega.{arith}
-use mathlib.Core.Bool.{Bool, true, false, _&&_, _||_, not, cond}
+use mathlib.Core.Bool.{Bool, true, false, _&&_, _||_, not}
 use mathlib.Core.List.{List, [], _∷_, _++_, append-nil}
 use mathlib.Core.Option.{some}
 use mathlib.Core.Path.{_≡_, refl, subst, sym, ap, ap₂, _∙_}
@@ -26,7 +26,7 @@ use Rattle.shapes.specs.Carried.{anyUncarried, notCarried}
 use Rattle.shapes.specs.Shapes.{all, commandShape, termShapes}
 use Rattle.term_faults.specs.Faults.{ruleMisfit, termFault}
 use Rattle.term_nodes.specs.Rules.{nodesPast, rulePast, rulesIn, rulesOf, sides}
-use Rattle.term_nodes.specs.Terms.{cases, nodeWord, rawTerms}
+use Rattle.term_nodes.specs.Terms.{constantsPast, nodeWord, rawTerms}
 use Rattle.terms.specs.Sorts.{calledSort, labelSort, sameSorts, sortOver, withSort, Definition}
 use Rattle.word_kinds.specs.Kinds.{allIn, formed, hashed, kindOf, literal as literalKind, numeral as numeralKind, spelled, symbol as symbolKind}
 use Rattle.words.specs.Spans.{runEnd, startsFrom, wordEnd, wordStarts}
@@ -41,7 +41,7 @@ use Rattle.terms.proofs.Bench.{d0, d1, d2}
 use Rattle.derivation.specs.Answer.{start}
 use Rattle.derivation.specs.Derivation.{Grammar, Item, Simple, anyArgument, anyLiteral, constant, formOf, headOf, nonTerminal, rule, the, variable}
 use Rattle.derivation.specs.Derivation.Simple.{s-done, s-leaf, s-rule, s-same}
-use Rattle.derivation.proofs.Bench.{hole, only, ring, ring-only, ring-shown, ringBody, swap, swap-shown, swapBody, word, x}
+use Rattle.derivation.proofs.Bench.{hole, only, ring, ring-only, ring-shown, ringBody, swap, swap-shown, swapBody, x}
 use Rattle.derivation.proofs.Likeness.{any-not-hole, any-not-label}
 use Rattle.derivation.proofs.Same.{same-numbers}
 use Rattle.derivation.proofs.Simple.{empty}
@@ -49,7 +49,8 @@ use Rattle.script.specs.Outcome.{responseOutcome, scriptOutcome}
 use Rattle.script.specs.Response.{answered, inScriptOrder, judgedAll, judgedBody, judgedExtra}
 use Rattle.script.specs.Script.{Known, grammarPlace, judged, knownAfter, limitPlace, namePlace, readAll, sortingPlace, termsIn, tested}
 use Rattle.words.specs.Reading.{depthAfter, faultAt, foundFrom, readingOf}
-use Rattle.test_decided.specs.Bench.{AllSettled, Costing, Mark, Shown, also, bench, costScript, costs, derivation, no-more, ringResponse, ringScript, swapResponse, swapScript, value}
+use Rattle.test_decided.specs.Bench.{AllSettled, Costing, Mark, Shown, also, bench, costScript, costs, derivation, no-more, ringResponse, ringScript}
+use Rattle.test_decided.specs.Bench.{swapResponse, swapScript, value}
 
 -- ---- the one list of the swap body
 
@@ -128,34 +129,27 @@ module _ (G : Grammar) where
   operands {ps = ps} {ts} (s-same {ds = ds} e d s-done) = subst (Simple G [] ps ts) (sym (append-nil ds)) d
   operands {l = l} (s-leaf a d) = absurd (any-not-label a l refl)
 
--- How the literals of the swap case are written: `#x` with digits of upper case.
-abbrev upper : (sort number : ℕ) → ℕ
-upper sort number = cond (eqb sort 32) (cond (eqb number 4294967295) 511 256) (cond (eqb number 65535) 31 16)
-
-abbrev swapped : Grammar
-swapped = swap upper
-
 -- `x` by rule 3, and `#x0000` by rule 8.
-from-x : {list : List ℕ} → Simple swapped [] (hole 0) (tree x none none) list → list ≡ 3 ∷ []
+from-x : {list : List ℕ} → Simple swap [] (hole 0) (tree x none none) list → list ≡ 3 ∷ []
 unfolding alone headOf formOf
 from-x d =
-    let b = begins-with swapped 3 0 refl d in
-    b .is ∙ ap₂ (λ (a b : List ℕ). 3 ∷ (a ++ b)) (empty swapped (operands swapped (b .by))) (empty swapped (b .next))
+    let b = begins-with swap 3 0 refl d in
+    b .is ∙ ap₂ (λ (a b : List ℕ). 3 ∷ (a ++ b)) (empty swap (operands swap (b .by))) (empty swap (b .next))
 
-from-zero : {list : List ℕ} → Simple swapped [] (hole 1) (tree (word upper 16 0) none none) list → list ≡ 8 ∷ []
+from-zero : {list : List ℕ} → Simple swap [] (hole 1) (tree (literal 16 0) none none) list → list ≡ 8 ∷ []
 unfolding alone headOf formOf
 from-zero d =
-    let b = begins-with swapped 8 1 refl d in
-    b .is ∙ ap₂ (λ (a b : List ℕ). 8 ∷ (a ++ b)) (empty swapped (operands swapped (b .by))) (empty swapped (b .next))
+    let b = begins-with swap 8 1 refl d in
+    b .is ∙ ap₂ (λ (a b : List ℕ). 8 ∷ (a ++ b)) (empty swap (operands swap (b .by))) (empty swap (b .next))
 
 -- The body by 7, 15, 3, 8 and no other list.
-swap-only : (list : List ℕ) → Simple swapped [] start (swapBody upper) list → list ≡ 7 ∷ 15 ∷ 3 ∷ 8 ∷ []
+swap-only : (list : List ℕ) → Simple swap [] start swapBody list → list ≡ 7 ∷ 15 ∷ 3 ∷ 8 ∷ []
 unfolding alone headOf formOf
 swap-only list d =
-    let b = begins-with swapped 7 0 refl d in
-    let c = begins-with swapped 15 1 refl (operands swapped (b .by)) in
-    let inner = c .is ∙ ap₂ (λ (a b : List ℕ). 15 ∷ (a ++ b)) (from-x (operands swapped (c .by))) (from-zero (c .next)) in
-    b .is ∙ ap₂ (λ (a b : List ℕ). 7 ∷ (a ++ b)) inner (empty swapped (b .next))
+    let b = begins-with swap 7 0 refl d in
+    let c = begins-with swap 15 1 refl (operands swap (b .by)) in
+    let inner = c .is ∙ ap₂ (λ (a b : List ℕ). 15 ∷ (a ++ b)) (from-x (operands swap (c .by))) (from-zero (c .next)) in
+    b .is ∙ ap₂ (λ (a b : List ℕ). 7 ∷ (a ++ b)) inner (empty swap (b .next))
 
 -- ---- from the texts
 
@@ -176,29 +170,29 @@ abbrev saying : List Defined → Function → Known
 saying defined f = record { logic = true; ended = true; variables = []; defined = defined; functions = f ∷ []; constraints = [] }
 
 abbrev swapFunction : Function
-swapFunction = overX (record { name = spelling "BV32"; sort = 32 } ∷ record { name = spelling "BV16"; sort = 16 } ∷ []) swapped
+swapFunction = overX (record { name = spelling "BV32"; sort = 32 } ∷ record { name = spelling "BV16"; sort = 16 } ∷ []) swap
 
 abbrev ringFunction : Function
 ringFunction = overX (record { name = spelling "A"; sort = 32 } ∷ record { name = spelling "B"; sort = 32 } ∷ []) ring
 
 -- The swap case.
 swap-settled : Shown (spelling swapScript) (spelling swapResponse) (7 ∷ 15 ∷ 3 ∷ 8 ∷ [])
-unfolding after all allIn allNumerals answered anyUncarried argumentTokens bytesAt calledSort cases commandShape count depthAfter differing faultAt formSorts formed formsOf foundFrom grammarPlace hashed inOrder inScriptOrder inside isKnown isNamed isOneOf isReserved item itemSort itemsOf join judged judgedAll judgedBody judgedExtra kindOf knownAfter labelSort leastIn levelsAt levelsBefore limitPlace listingMisfit literalKind namePlace named namedBy newPairs nodeWord nodesOf nodesPast notCarried numeralKind operatorAt operatorOf operatorSort operators placeIn rawTerms readAll readingOf reservedWords responseOutcome ruleMisfit rulePast rulesIn rulesOf runEnd sameBytes sameSorts scriptOutcome sides sortBy sortOver sortingPlace spelled startsFrom symbolKind symbolMeans termFault termShapes termsIn tested treesFrom unknownIn withSort wordAt wordEnd wordStarts wordsIn wordsOf
+unfolding after all allIn allNumerals answered anyUncarried argumentTokens bytesAt calledSort commandShape constantsPast count depthAfter differing faultAt formSorts formed formsOf foundFrom grammarPlace hashed inOrder inScriptOrder inside isKnown isNamed isOneOf isReserved item itemSort itemsOf join judged judgedAll judgedBody judgedExtra kindOf knownAfter labelSort leastIn levelsAt levelsBefore limitPlace listingMisfit literalKind namePlace named namedBy newPairs nodeWord nodesOf nodesPast notCarried numeralKind operatorAt operatorOf operatorSort operators placeIn rawTerms readAll readingOf reservedWords responseOutcome ruleMisfit rulePast rulesIn rulesOf runEnd sameBytes sameSorts scriptOutcome sides sortBy sortOver sortingPlace spelled startsFrom symbolKind symbolMeans termFault termShapes termsIn tested treesFrom unknownIn withSort wordAt wordEnd wordStarts wordsIn wordsOf
 swap-settled =
     record {
       k = saying [] swapFunction;
       f = swapFunction;
-      b = record { first = 19; term = swapBody upper };
+      b = record { first = 19; term = swapBody };
       says = refl;
       function = refl;
       gives = refl;
-      derives = swap-shown upper;
+      derives = swap-shown;
       only = swap-only;
     }
 
 -- The ring.
 ring-settled : Shown (spelling ringScript) (spelling ringResponse) (0 ∷ 2 ∷ [])
-unfolding after all allIn allNumerals answered anyUncarried argumentTokens bytesAt calledSort cases commandShape count depthAfter differing faultAt formSorts formed formsOf foundFrom grammarPlace hashed inOrder inScriptOrder inside isKnown isNamed isOneOf isReserved item itemSort itemsOf join judged judgedAll judgedBody judgedExtra kindOf knownAfter labelSort leastIn levelsAt levelsBefore limitPlace listingMisfit literalKind namePlace named namedBy newPairs nodeWord nodesOf nodesPast notCarried numeralKind operatorAt operatorOf operatorSort operators placeIn rawTerms readAll readingOf reservedWords responseOutcome ruleMisfit rulePast rulesIn rulesOf runEnd sameBytes sameSorts scriptOutcome sides sortBy sortOver sortingPlace spelled startsFrom symbolKind symbolMeans termFault termShapes termsIn tested treesFrom unknownIn withSort wordAt wordEnd wordStarts wordsIn wordsOf
+unfolding after all allIn allNumerals answered anyUncarried argumentTokens bytesAt calledSort commandShape constantsPast count depthAfter differing faultAt formSorts formed formsOf foundFrom grammarPlace hashed inOrder inScriptOrder inside isKnown isNamed isOneOf isReserved item itemSort itemsOf join judged judgedAll judgedBody judgedExtra kindOf knownAfter labelSort leastIn levelsAt levelsBefore limitPlace listingMisfit literalKind namePlace named namedBy newPairs nodeWord nodesOf nodesPast notCarried numeralKind operatorAt operatorOf operatorSort operators placeIn rawTerms readAll readingOf reservedWords responseOutcome ruleMisfit rulePast rulesIn rulesOf runEnd sameBytes sameSorts scriptOutcome sides sortBy sortOver sortingPlace spelled startsFrom symbolKind symbolMeans termFault termShapes termsIn tested treesFrom unknownIn withSort wordAt wordEnd wordStarts wordsIn wordsOf
 ring-settled =
     record {
       k = saying [] ringFunction;
@@ -223,17 +217,17 @@ always =
       arguments = [];
       result = 0;
       nonTerminals = record { name = spelling "A"; sort = 0 } ∷ [];
-      grammar = record { arguments = []; rules = rule 0 (only (literal 0 1 0)) ∷ [] };
+      grammar = record { arguments = []; rules = rule 0 (only (literal 0 1)) ∷ [] };
       before = 3;
     }
 
 -- The costs.
 costs-settled : Costing (spelling costScript) (3 ∷ 9 ∷ 21 ∷ [])
-unfolding after all allIn allNumerals answered anyUncarried argumentTokens bytesAt calledSort cases commandShape count depthAfter differing faultAt formSorts formed formsOf foundFrom grammarPlace hashed inOrder inScriptOrder inside isKnown isNamed isOneOf isReserved item itemSort itemsOf join judged judgedAll judgedBody judgedExtra kindOf knownAfter labelSort leastIn levelsAt levelsBefore limitPlace listingMisfit literalKind namePlace named namedBy newPairs nodeWord nodesOf nodesPast notCarried numeralKind operatorAt operatorOf operatorSort operators placeIn rawTerms readAll readingOf reservedWords responseOutcome ruleMisfit rulePast rulesIn rulesOf runEnd sameBytes sameSorts scriptOutcome sides sortBy sortOver sortingPlace spelled startsFrom symbolKind symbolMeans termFault termShapes termsIn tested treesFrom unknownIn withSort wordAt wordEnd wordStarts wordsIn wordsOf summedCosts definedCost
+unfolding after all allIn allNumerals answered anyUncarried argumentTokens bytesAt calledSort commandShape constantsPast count depthAfter differing faultAt formSorts formed formsOf foundFrom grammarPlace hashed inOrder inScriptOrder inside isKnown isNamed isOneOf isReserved item itemSort itemsOf join judged judgedAll judgedBody judgedExtra kindOf knownAfter labelSort leastIn levelsAt levelsBefore limitPlace listingMisfit literalKind namePlace named namedBy newPairs nodeWord nodesOf nodesPast notCarried numeralKind operatorAt operatorOf operatorSort operators placeIn rawTerms readAll readingOf reservedWords responseOutcome ruleMisfit rulePast rulesIn rulesOf runEnd sameBytes sameSorts scriptOutcome sides sortBy sortOver sortingPlace spelled startsFrom symbolKind symbolMeans termFault termShapes termsIn tested treesFrom unknownIn withSort wordAt wordEnd wordStarts wordsIn wordsOf summedCosts definedCost
 costs-settled = record { k = saying (called "d2" d2 ∷ called "d1" d1 ∷ called "d0" d0 ∷ []) always; says = refl; costs-are = refl }
 
 -- A value that is computed.
-with-value : {n : String} {i j : ℕ} {sorts values : List ℕ} {s r : ℕ} {more : List Mark} → operatorSort (operatorOf (spelling n)) i j sorts ≡ some s
+pub with-value : {n : String} {i j : ℕ} {sorts values : List ℕ} {s r : ℕ} {more : List Mark} → operatorSort (operatorOf (spelling n)) i j sorts ≡ some s
     → operatorValue (operatorOf (spelling n)) i j sorts values ≡ r → AllSettled more → AllSettled (value n i j sorts values s r ∷ more)
 with-value {n} {i} {j} {sorts} {values} {s} {r} e h rest = also {m = value n i j sorts values s r} (record { sort-is = e; value-is = h }) rest
 

@@ -1,5 +1,5 @@
--- "The limit itself passes; one more is refused": texts at the limits on commands, arguments, non-terminals, rules and nodes and one past them, computed from the
--- definitions. A place is a word.
+-- "The limit itself passes; one more is refused": texts at the limits on commands, arguments, non-terminals, rules, nodes, operands, and digits and widths of constants
+-- and one past them, computed from the definitions. A place is a word.
 use Prim.Native.Nat.{ℕ}
 use Prim.Native.String.{String}
 use mathlib.Core.List.{List, [], _∷_, map}
@@ -20,20 +20,71 @@ use Rattle.names.specs.Scopes.{formsOf, inOrder, isKnown, isNamed, symbolMeans}
 use Rattle.names.specs.Unknown.{unknownIn}
 use Rattle.operators.specs.Operators.{named, operatorAt, operatorOf, operators, operatorSort}
 use Rattle.operators.specs.Sorts.{sortBy}
+use Rattle.operators.specs.Values.{chained, groupLeft, groupRight, pairwise, withEach}
 use Rattle.script.specs.Response.{Answered, answered, bodies, inScriptOrder, judgedAll, judgedBody, judgedExtra, refused as refusedBody}
 use Rattle.script.specs.Script.{grammarPlace, judged, Known, knownAfter, limitPlace, namePlace, nothingKnown, passed, Read, readAll, refused, sortingPlace, termsIn, tested}
 use Rattle.shapes.specs.Carried.{anyUncarried, notCarried}
 use Rattle.shapes.specs.Shapes.{all, commandShape, termShapes}
 use Rattle.term_faults.specs.Faults.{ruleMisfit, termFault}
 use Rattle.term_nodes.specs.Rules.{nodesPast, rulePast, rulesIn, rulesOf, sides}
-use Rattle.term_nodes.specs.Terms.{cases, nodeWord, rawTerms}
+use Rattle.term_nodes.specs.Terms.{constantsPast, nodeWord, rawTerms}
 use Rattle.terms.specs.Sorts.{calledSort, labelSort, sameSorts, sortOver, withSort}
+use Rattle.word_kinds.specs.Decimals.{isDecimal}
 use Rattle.word_kinds.specs.Kinds.{allIn, formed, hashed, kindOf, literal as literalKind, numeral as numeralKind, spelled, symbol as symbolKind}
 use Rattle.words.specs.Spans.{runEnd, startsFrom, wordEnd, wordStarts}
 use Rattle.words.specs.Trees.{levelsAt, levelsBefore, treesFrom}
 use Rattle.words.specs.Words.{bytesAt, wordAt, wordsOf}
 use Rattle.written_sorts.specs.Written.{leastIn}
 use Rattle.test_decided.proofs.Readings.{Reading, bodiesAnswer, bothAnswer, defined, row, textsAnswer}
+
+-- The limit on operands constraint.
+abbrev operands-constraint-texts : List Reading
+operands-constraint-texts =
+    row "(set-logic BV)(synth-fun f () Bool ((A Bool)) ((A Bool (true))))(declare-var p Bool)(constraint (and p p p p p p p p p p p p p p p p p p p p p p p p p p p p p p p p p p p p p p p p p p p p p p p p p p p p p p p p p p p p p p p p p p p p p p p p p p p p p p p p p p p p p p p p p p p p p p p p p p p p p p p p p p p p p p p p p p p p p p p p p p p p p p p p p p p p p p p p p p p p p p p p p p p p p p p p p p p p p p p p p p p p p p p p p p p p p p p p p p p p p p p p p p p p p p p p p p p p p p p p p p p p p p p p p p p p p p p p p p p p p p p p p p p p p p p p p p p p p p p p p p p p p p p p p p p p p p p))(check-synth)" "((define-fun f () Bool true))" []
+    ∷ row "(set-logic BV)(synth-fun f () Bool ((A Bool)) ((A Bool (true))))(declare-var p Bool)(constraint (and p p p p p p p p p p p p p p p p p p p p p p p p p p p p p p p p p p p p p p p p p p p p p p p p p p p p p p p p p p p p p p p p p p p p p p p p p p p p p p p p p p p p p p p p p p p p p p p p p p p p p p p p p p p p p p p p p p p p p p p p p p p p p p p p p p p p p p p p p p p p p p p p p p p p p p p p p p p p p p p p p p p p p p p p p p p p p p p p p p p p p p p p p p p p p p p p p p p p p p p p p p p p p p p p p p p p p p p p p p p p p p p p p p p p p p p p p p p p p p p p p p p p p p p p p p p p p p p p))(check-synth)" "" (4 ∷ 290 ∷ [])
+    ∷ []
+
+-- The definitions answer every one of them so.
+pub operands-constraint-held : map defined operands-constraint-texts ≡ map (λ (r : Reading). r .answer) operands-constraint-texts
+unfolding after all allIn allNumerals answered anyUncarried argumentTokens bytesAt calledSort chained commandShape constantsPast count differing formSorts formed formsOf grammarPlace groupLeft groupRight hashed inOrder inScriptOrder inside isDecimal isKnown isNamed isOneOf isReserved item itemSort itemsOf join judged judgedAll judgedBody judgedExtra kindOf knownAfter labelSort leastIn levelsAt levelsBefore limitPlace listingMisfit literalKind namePlace named namedBy newPairs nodeWord nodesOf nodesPast notCarried numeralKind operatorAt operatorOf operatorSort operators pairwise placeIn rawTerms readAll reservedWords ruleMisfit rulePast rulesIn rulesOf runEnd sameBytes sameSorts sides sortBy sortOver sortingPlace spelled startsFrom symbolKind symbolMeans termFault termShapes termsIn tested treesFrom unknownIn withEach withSort wordAt wordEnd wordStarts wordsIn wordsOf
+operands-constraint-held = refl
+
+-- The limit on operands rule.
+abbrev operands-rule-texts : List Reading
+operands-rule-texts =
+    row "(set-logic BV)(synth-fun f ((p Bool)) Bool ((A Bool)) ((A Bool ((and p p p p p p p p p p p p p p p p p p p p p p p p p p p p p p p p p p p p p p p p p p p p p p p p p p p p p p p p p p p p p p p p p p p p p p p p p p p p p p p p p p p p p p p p p p p p p p p p p p p p p p p p p p p p p p p p p p p p p p p p p p p p p p p p p p p p p p p p p p p p p p p p p p p p p p p p p p p p p p p p p p p p p p p p p p p p p p p p p p p p p p p p p p p p p p p p p p p p p p p p p p p p p p p p p p p p p p p p p p p p p p p p p p p p p p p p p p p p p p p p p p p p p p p p p p p p p p p)))))(check-synth)" "((define-fun f ((p Bool)) Bool (and p p p p p p p p p p p p p p p p p p p p p p p p p p p p p p p p p p p p p p p p p p p p p p p p p p p p p p p p p p p p p p p p p p p p p p p p p p p p p p p p p p p p p p p p p p p p p p p p p p p p p p p p p p p p p p p p p p p p p p p p p p p p p p p p p p p p p p p p p p p p p p p p p p p p p p p p p p p p p p p p p p p p p p p p p p p p p p p p p p p p p p p p p p p p p p p p p p p p p p p p p p p p p p p p p p p p p p p p p p p p p p p p p p p p p p p p p p p p p p p p p p p p p p p p p p p p p p p)))" []
+    ∷ row "(set-logic BV)(synth-fun f ((p Bool)) Bool ((A Bool)) ((A Bool ((and p p p p p p p p p p p p p p p p p p p p p p p p p p p p p p p p p p p p p p p p p p p p p p p p p p p p p p p p p p p p p p p p p p p p p p p p p p p p p p p p p p p p p p p p p p p p p p p p p p p p p p p p p p p p p p p p p p p p p p p p p p p p p p p p p p p p p p p p p p p p p p p p p p p p p p p p p p p p p p p p p p p p p p p p p p p p p p p p p p p p p p p p p p p p p p p p p p p p p p p p p p p p p p p p p p p p p p p p p p p p p p p p p p p p p p p p p p p p p p p p p p p p p p p p p p p p p p p p)))))(check-synth)" "" (4 ∷ 282 ∷ [])
+    ∷ []
+
+-- The definitions answer every one of them so.
+pub operands-rule-held : map defined operands-rule-texts ≡ map (λ (r : Reading). r .answer) operands-rule-texts
+unfolding after all allIn allNumerals answered anyUncarried argumentTokens bytesAt calledSort chained commandShape constantsPast count differing formSorts formed formsOf grammarPlace groupLeft groupRight hashed inOrder inScriptOrder inside isDecimal isKnown isNamed isOneOf isReserved item itemSort itemsOf join judged judgedAll judgedBody judgedExtra kindOf knownAfter labelSort leastIn levelsAt levelsBefore limitPlace listingMisfit literalKind namePlace named namedBy newPairs nodeWord nodesOf nodesPast notCarried numeralKind operatorAt operatorOf operatorSort operators pairwise placeIn rawTerms readAll reservedWords ruleMisfit rulePast rulesIn rulesOf runEnd sameBytes sameSorts sides sortBy sortOver sortingPlace spelled startsFrom symbolKind symbolMeans termFault termShapes termsIn tested treesFrom unknownIn withEach withSort wordAt wordEnd wordStarts wordsIn wordsOf
+operands-rule-held = refl
+
+-- The limit on constant width.
+abbrev constant-width-texts : List Reading
+constant-width-texts =
+    row "(set-logic BV)(synth-fun f () Bool ((A Bool)) ((A Bool (true))))(constraint (= (_ bv0 64) (_ bv0 64)))(check-synth)" "((define-fun f () Bool true))" []
+    ∷ row "(set-logic BV)(synth-fun f () Bool ((A Bool)) ((A Bool (true))))(constraint (= (_ bv0 65) (_ bv0 64)))(check-synth)" "" (4 ∷ 33 ∷ [])
+    ∷ []
+
+-- The definitions answer every one of them so.
+pub constant-width-held : map defined constant-width-texts ≡ map (λ (r : Reading). r .answer) constant-width-texts
+unfolding after all allIn allNumerals answered anyUncarried argumentTokens bytesAt calledSort chained commandShape constantsPast count differing formSorts formed formsOf grammarPlace groupLeft groupRight hashed inOrder inScriptOrder inside isDecimal isKnown isNamed isOneOf isReserved item itemSort itemsOf join judged judgedAll judgedBody judgedExtra kindOf knownAfter labelSort leastIn levelsAt levelsBefore limitPlace listingMisfit literalKind namePlace named namedBy newPairs nodeWord nodesOf nodesPast notCarried numeralKind operatorAt operatorOf operatorSort operators pairwise placeIn rawTerms readAll reservedWords ruleMisfit rulePast rulesIn rulesOf runEnd sameBytes sameSorts sides sortBy sortOver sortingPlace spelled startsFrom symbolKind symbolMeans termFault termShapes termsIn tested treesFrom unknownIn withEach withSort wordAt wordEnd wordStarts wordsIn wordsOf
+constant-width-held = refl
+
+-- The limit on digits.
+abbrev digits-texts : List Reading
+digits-texts =
+    row "(set-logic BV)(synth-fun f () Bool ((A Bool)) ((A Bool (true))))(constraint (= #x05 (_ bv11111111111111111111 8)))(check-synth)" "" (8 ∷ 31 ∷ [])
+    ∷ row "(set-logic BV)(synth-fun f () Bool ((A Bool)) ((A Bool (true))))(constraint (= #x05 (_ bv111111111111111111111 8)))(check-synth)" "" (4 ∷ 33 ∷ [])
+    ∷ row "(set-logic BV)(synth-fun f () Bool ((A Bool)) ((A Bool (true))))(constraint (= #x05 (_ bv11111111111111111111111111111111111111111111111111111111111111 8)))(check-synth)" "" (4 ∷ 33 ∷ [])
+    ∷ []
+
+-- The definitions answer every one of them so.
+pub digits-held : map defined digits-texts ≡ map (λ (r : Reading). r .answer) digits-texts
+unfolding after all allIn allNumerals answered anyUncarried argumentTokens bytesAt calledSort chained commandShape constantsPast count differing formSorts formed formsOf grammarPlace groupLeft groupRight hashed inOrder inScriptOrder inside isDecimal isKnown isNamed isOneOf isReserved item itemSort itemsOf join judged judgedAll judgedBody judgedExtra kindOf knownAfter labelSort leastIn levelsAt levelsBefore limitPlace listingMisfit literalKind namePlace named namedBy newPairs nodeWord nodesOf nodesPast notCarried numeralKind operatorAt operatorOf operatorSort operators pairwise placeIn rawTerms readAll reservedWords ruleMisfit rulePast rulesIn rulesOf runEnd sameBytes sameSorts sides sortBy sortOver sortingPlace spelled startsFrom symbolKind symbolMeans termFault termShapes termsIn tested treesFrom unknownIn withEach withSort wordAt wordEnd wordStarts wordsIn wordsOf
+digits-held = refl
 
 -- The limit on functions.
 abbrev functions-texts : List Reading
@@ -44,7 +95,7 @@ functions-texts =
 
 -- The definitions answer every one of them so.
 pub functions-held : map defined functions-texts ≡ map (λ (r : Reading). r .answer) functions-texts
-unfolding after all allIn allNumerals answered anyUncarried argumentTokens bytesAt calledSort cases commandShape count differing formSorts formed formsOf grammarPlace hashed inOrder inScriptOrder inside isKnown isNamed isOneOf isReserved item itemSort itemsOf join judged judgedAll judgedBody judgedExtra kindOf knownAfter labelSort leastIn levelsAt levelsBefore limitPlace listingMisfit literalKind namePlace named namedBy newPairs nodeWord nodesOf nodesPast notCarried numeralKind operatorAt operatorOf operatorSort operators placeIn rawTerms readAll reservedWords ruleMisfit rulePast rulesIn rulesOf runEnd sameBytes sameSorts sides sortBy sortOver sortingPlace spelled startsFrom symbolKind symbolMeans termFault termShapes termsIn tested treesFrom unknownIn withSort wordAt wordEnd wordStarts wordsIn wordsOf
+unfolding after all allIn allNumerals answered anyUncarried argumentTokens bytesAt calledSort chained commandShape constantsPast count differing formSorts formed formsOf grammarPlace groupLeft groupRight hashed inOrder inScriptOrder inside isDecimal isKnown isNamed isOneOf isReserved item itemSort itemsOf join judged judgedAll judgedBody judgedExtra kindOf knownAfter labelSort leastIn levelsAt levelsBefore limitPlace listingMisfit literalKind namePlace named namedBy newPairs nodeWord nodesOf nodesPast notCarried numeralKind operatorAt operatorOf operatorSort operators pairwise placeIn rawTerms readAll reservedWords ruleMisfit rulePast rulesIn rulesOf runEnd sameBytes sameSorts sides sortBy sortOver sortingPlace spelled startsFrom symbolKind symbolMeans termFault termShapes termsIn tested treesFrom unknownIn withEach withSort wordAt wordEnd wordStarts wordsIn wordsOf
 functions-held = refl
 
 -- The limit on arguments.
@@ -56,7 +107,7 @@ arguments-texts =
 
 -- The definitions answer every one of them so.
 pub arguments-held : map defined arguments-texts ≡ map (λ (r : Reading). r .answer) arguments-texts
-unfolding after all allIn allNumerals answered anyUncarried argumentTokens bytesAt calledSort cases commandShape count differing formSorts formed formsOf grammarPlace hashed inOrder inScriptOrder inside isKnown isNamed isOneOf isReserved item itemSort itemsOf join judged judgedAll judgedBody judgedExtra kindOf knownAfter labelSort leastIn levelsAt levelsBefore limitPlace listingMisfit literalKind namePlace named namedBy newPairs nodeWord nodesOf nodesPast notCarried numeralKind operatorAt operatorOf operatorSort operators placeIn rawTerms readAll reservedWords ruleMisfit rulePast rulesIn rulesOf runEnd sameBytes sameSorts sides sortBy sortOver sortingPlace spelled startsFrom symbolKind symbolMeans termFault termShapes termsIn tested treesFrom unknownIn withSort wordAt wordEnd wordStarts wordsIn wordsOf
+unfolding after all allIn allNumerals answered anyUncarried argumentTokens bytesAt calledSort chained commandShape constantsPast count differing formSorts formed formsOf grammarPlace groupLeft groupRight hashed inOrder inScriptOrder inside isDecimal isKnown isNamed isOneOf isReserved item itemSort itemsOf join judged judgedAll judgedBody judgedExtra kindOf knownAfter labelSort leastIn levelsAt levelsBefore limitPlace listingMisfit literalKind namePlace named namedBy newPairs nodeWord nodesOf nodesPast notCarried numeralKind operatorAt operatorOf operatorSort operators pairwise placeIn rawTerms readAll reservedWords ruleMisfit rulePast rulesIn rulesOf runEnd sameBytes sameSorts sides sortBy sortOver sortingPlace spelled startsFrom symbolKind symbolMeans termFault termShapes termsIn tested treesFrom unknownIn withEach withSort wordAt wordEnd wordStarts wordsIn wordsOf
 arguments-held = refl
 
 -- The limit on defined arguments.
@@ -68,7 +119,7 @@ defined-arguments-texts =
 
 -- The definitions answer every one of them so.
 pub defined-arguments-held : map defined defined-arguments-texts ≡ map (λ (r : Reading). r .answer) defined-arguments-texts
-unfolding after all allIn allNumerals answered anyUncarried argumentTokens bytesAt calledSort cases commandShape count differing formSorts formed formsOf grammarPlace hashed inOrder inScriptOrder inside isKnown isNamed isOneOf isReserved item itemSort itemsOf join judged judgedAll judgedBody judgedExtra kindOf knownAfter labelSort leastIn levelsAt levelsBefore limitPlace listingMisfit literalKind namePlace named namedBy newPairs nodeWord nodesOf nodesPast notCarried numeralKind operatorAt operatorOf operatorSort operators placeIn rawTerms readAll reservedWords ruleMisfit rulePast rulesIn rulesOf runEnd sameBytes sameSorts sides sortBy sortOver sortingPlace spelled startsFrom symbolKind symbolMeans termFault termShapes termsIn tested treesFrom unknownIn withSort wordAt wordEnd wordStarts wordsIn wordsOf
+unfolding after all allIn allNumerals answered anyUncarried argumentTokens bytesAt calledSort chained commandShape constantsPast count differing formSorts formed formsOf grammarPlace groupLeft groupRight hashed inOrder inScriptOrder inside isDecimal isKnown isNamed isOneOf isReserved item itemSort itemsOf join judged judgedAll judgedBody judgedExtra kindOf knownAfter labelSort leastIn levelsAt levelsBefore limitPlace listingMisfit literalKind namePlace named namedBy newPairs nodeWord nodesOf nodesPast notCarried numeralKind operatorAt operatorOf operatorSort operators pairwise placeIn rawTerms readAll reservedWords ruleMisfit rulePast rulesIn rulesOf runEnd sameBytes sameSorts sides sortBy sortOver sortingPlace spelled startsFrom symbolKind symbolMeans termFault termShapes termsIn tested treesFrom unknownIn withEach withSort wordAt wordEnd wordStarts wordsIn wordsOf
 defined-arguments-held = refl
 
 -- The limit on defined.
@@ -80,7 +131,7 @@ defined-texts =
 
 -- The definitions answer every one of them so.
 pub defined-held : map defined defined-texts ≡ map (λ (r : Reading). r .answer) defined-texts
-unfolding after all allIn allNumerals answered anyUncarried argumentTokens bytesAt calledSort cases commandShape count differing formSorts formed formsOf grammarPlace hashed inOrder inScriptOrder inside isKnown isNamed isOneOf isReserved item itemSort itemsOf join judged judgedAll judgedBody judgedExtra kindOf knownAfter labelSort leastIn levelsAt levelsBefore limitPlace listingMisfit literalKind namePlace named namedBy newPairs nodeWord nodesOf nodesPast notCarried numeralKind operatorAt operatorOf operatorSort operators placeIn rawTerms readAll reservedWords ruleMisfit rulePast rulesIn rulesOf runEnd sameBytes sameSorts sides sortBy sortOver sortingPlace spelled startsFrom symbolKind symbolMeans termFault termShapes termsIn tested treesFrom unknownIn withSort wordAt wordEnd wordStarts wordsIn wordsOf
+unfolding after all allIn allNumerals answered anyUncarried argumentTokens bytesAt calledSort chained commandShape constantsPast count differing formSorts formed formsOf grammarPlace groupLeft groupRight hashed inOrder inScriptOrder inside isDecimal isKnown isNamed isOneOf isReserved item itemSort itemsOf join judged judgedAll judgedBody judgedExtra kindOf knownAfter labelSort leastIn levelsAt levelsBefore limitPlace listingMisfit literalKind namePlace named namedBy newPairs nodeWord nodesOf nodesPast notCarried numeralKind operatorAt operatorOf operatorSort operators pairwise placeIn rawTerms readAll reservedWords ruleMisfit rulePast rulesIn rulesOf runEnd sameBytes sameSorts sides sortBy sortOver sortingPlace spelled startsFrom symbolKind symbolMeans termFault termShapes termsIn tested treesFrom unknownIn withEach withSort wordAt wordEnd wordStarts wordsIn wordsOf
 defined-held = refl
 
 -- The limit on variables.
@@ -92,7 +143,7 @@ variables-texts =
 
 -- The definitions answer every one of them so.
 pub variables-held : map defined variables-texts ≡ map (λ (r : Reading). r .answer) variables-texts
-unfolding after all allIn allNumerals answered anyUncarried argumentTokens bytesAt calledSort cases commandShape count differing formSorts formed formsOf grammarPlace hashed inOrder inScriptOrder inside isKnown isNamed isOneOf isReserved item itemSort itemsOf join judged judgedAll judgedBody judgedExtra kindOf knownAfter labelSort leastIn levelsAt levelsBefore limitPlace listingMisfit literalKind namePlace named namedBy newPairs nodeWord nodesOf nodesPast notCarried numeralKind operatorAt operatorOf operatorSort operators placeIn rawTerms readAll reservedWords ruleMisfit rulePast rulesIn rulesOf runEnd sameBytes sameSorts sides sortBy sortOver sortingPlace spelled startsFrom symbolKind symbolMeans termFault termShapes termsIn tested treesFrom unknownIn withSort wordAt wordEnd wordStarts wordsIn wordsOf
+unfolding after all allIn allNumerals answered anyUncarried argumentTokens bytesAt calledSort chained commandShape constantsPast count differing formSorts formed formsOf grammarPlace groupLeft groupRight hashed inOrder inScriptOrder inside isDecimal isKnown isNamed isOneOf isReserved item itemSort itemsOf join judged judgedAll judgedBody judgedExtra kindOf knownAfter labelSort leastIn levelsAt levelsBefore limitPlace listingMisfit literalKind namePlace named namedBy newPairs nodeWord nodesOf nodesPast notCarried numeralKind operatorAt operatorOf operatorSort operators pairwise placeIn rawTerms readAll reservedWords ruleMisfit rulePast rulesIn rulesOf runEnd sameBytes sameSorts sides sortBy sortOver sortingPlace spelled startsFrom symbolKind symbolMeans termFault termShapes termsIn tested treesFrom unknownIn withEach withSort wordAt wordEnd wordStarts wordsIn wordsOf
 variables-held = refl
 
 -- The limit on constraints.
@@ -104,7 +155,7 @@ constraints-texts =
 
 -- The definitions answer every one of them so.
 pub constraints-held : map defined constraints-texts ≡ map (λ (r : Reading). r .answer) constraints-texts
-unfolding after all allIn allNumerals answered anyUncarried argumentTokens bytesAt calledSort cases commandShape count differing formSorts formed formsOf grammarPlace hashed inOrder inScriptOrder inside isKnown isNamed isOneOf isReserved item itemSort itemsOf join judged judgedAll judgedBody judgedExtra kindOf knownAfter labelSort leastIn levelsAt levelsBefore limitPlace listingMisfit literalKind namePlace named namedBy newPairs nodeWord nodesOf nodesPast notCarried numeralKind operatorAt operatorOf operatorSort operators placeIn rawTerms readAll reservedWords ruleMisfit rulePast rulesIn rulesOf runEnd sameBytes sameSorts sides sortBy sortOver sortingPlace spelled startsFrom symbolKind symbolMeans termFault termShapes termsIn tested treesFrom unknownIn withSort wordAt wordEnd wordStarts wordsIn wordsOf
+unfolding after all allIn allNumerals answered anyUncarried argumentTokens bytesAt calledSort chained commandShape constantsPast count differing formSorts formed formsOf grammarPlace groupLeft groupRight hashed inOrder inScriptOrder inside isDecimal isKnown isNamed isOneOf isReserved item itemSort itemsOf join judged judgedAll judgedBody judgedExtra kindOf knownAfter labelSort leastIn levelsAt levelsBefore limitPlace listingMisfit literalKind namePlace named namedBy newPairs nodeWord nodesOf nodesPast notCarried numeralKind operatorAt operatorOf operatorSort operators pairwise placeIn rawTerms readAll reservedWords ruleMisfit rulePast rulesIn rulesOf runEnd sameBytes sameSorts sides sortBy sortOver sortingPlace spelled startsFrom symbolKind symbolMeans termFault termShapes termsIn tested treesFrom unknownIn withEach withSort wordAt wordEnd wordStarts wordsIn wordsOf
 constraints-held = refl
 
 -- The limit on non terminals.
@@ -116,7 +167,7 @@ non-terminals-texts =
 
 -- The definitions answer every one of them so.
 pub non-terminals-held : map defined non-terminals-texts ≡ map (λ (r : Reading). r .answer) non-terminals-texts
-unfolding after all allIn allNumerals answered anyUncarried argumentTokens bytesAt calledSort cases commandShape count differing formSorts formed formsOf grammarPlace hashed inOrder inScriptOrder inside isKnown isNamed isOneOf isReserved item itemSort itemsOf join judged judgedAll judgedBody judgedExtra kindOf knownAfter labelSort leastIn levelsAt levelsBefore limitPlace listingMisfit literalKind namePlace named namedBy newPairs nodeWord nodesOf nodesPast notCarried numeralKind operatorAt operatorOf operatorSort operators placeIn rawTerms readAll reservedWords ruleMisfit rulePast rulesIn rulesOf runEnd sameBytes sameSorts sides sortBy sortOver sortingPlace spelled startsFrom symbolKind symbolMeans termFault termShapes termsIn tested treesFrom unknownIn withSort wordAt wordEnd wordStarts wordsIn wordsOf
+unfolding after all allIn allNumerals answered anyUncarried argumentTokens bytesAt calledSort chained commandShape constantsPast count differing formSorts formed formsOf grammarPlace groupLeft groupRight hashed inOrder inScriptOrder inside isDecimal isKnown isNamed isOneOf isReserved item itemSort itemsOf join judged judgedAll judgedBody judgedExtra kindOf knownAfter labelSort leastIn levelsAt levelsBefore limitPlace listingMisfit literalKind namePlace named namedBy newPairs nodeWord nodesOf nodesPast notCarried numeralKind operatorAt operatorOf operatorSort operators pairwise placeIn rawTerms readAll reservedWords ruleMisfit rulePast rulesIn rulesOf runEnd sameBytes sameSorts sides sortBy sortOver sortingPlace spelled startsFrom symbolKind symbolMeans termFault termShapes termsIn tested treesFrom unknownIn withEach withSort wordAt wordEnd wordStarts wordsIn wordsOf
 non-terminals-held = refl
 
 -- The limit on rules.
@@ -128,7 +179,7 @@ rules-texts =
 
 -- The definitions answer every one of them so.
 pub rules-held : map defined rules-texts ≡ map (λ (r : Reading). r .answer) rules-texts
-unfolding after all allIn allNumerals answered anyUncarried argumentTokens bytesAt calledSort cases commandShape count differing formSorts formed formsOf grammarPlace hashed inOrder inScriptOrder inside isKnown isNamed isOneOf isReserved item itemSort itemsOf join judged judgedAll judgedBody judgedExtra kindOf knownAfter labelSort leastIn levelsAt levelsBefore limitPlace listingMisfit literalKind namePlace named namedBy newPairs nodeWord nodesOf nodesPast notCarried numeralKind operatorAt operatorOf operatorSort operators placeIn rawTerms readAll reservedWords ruleMisfit rulePast rulesIn rulesOf runEnd sameBytes sameSorts sides sortBy sortOver sortingPlace spelled startsFrom symbolKind symbolMeans termFault termShapes termsIn tested treesFrom unknownIn withSort wordAt wordEnd wordStarts wordsIn wordsOf
+unfolding after all allIn allNumerals answered anyUncarried argumentTokens bytesAt calledSort chained commandShape constantsPast count differing formSorts formed formsOf grammarPlace groupLeft groupRight hashed inOrder inScriptOrder inside isDecimal isKnown isNamed isOneOf isReserved item itemSort itemsOf join judged judgedAll judgedBody judgedExtra kindOf knownAfter labelSort leastIn levelsAt levelsBefore limitPlace listingMisfit literalKind namePlace named namedBy newPairs nodeWord nodesOf nodesPast notCarried numeralKind operatorAt operatorOf operatorSort operators pairwise placeIn rawTerms readAll reservedWords ruleMisfit rulePast rulesIn rulesOf runEnd sameBytes sameSorts sides sortBy sortOver sortingPlace spelled startsFrom symbolKind symbolMeans termFault termShapes termsIn tested treesFrom unknownIn withEach withSort wordAt wordEnd wordStarts wordsIn wordsOf
 rules-held = refl
 
 -- The limit on nodes body.
@@ -140,7 +191,7 @@ nodes-body-texts =
 
 -- The definitions answer every one of them so.
 pub nodes-body-held : map defined nodes-body-texts ≡ map (λ (r : Reading). r .answer) nodes-body-texts
-unfolding after all allIn allNumerals answered anyUncarried argumentTokens bytesAt calledSort cases commandShape count differing formSorts formed formsOf grammarPlace hashed inOrder inScriptOrder inside isKnown isNamed isOneOf isReserved item itemSort itemsOf join judged judgedAll judgedBody judgedExtra kindOf knownAfter labelSort leastIn levelsAt levelsBefore limitPlace listingMisfit literalKind namePlace named namedBy newPairs nodeWord nodesOf nodesPast notCarried numeralKind operatorAt operatorOf operatorSort operators placeIn rawTerms readAll reservedWords ruleMisfit rulePast rulesIn rulesOf runEnd sameBytes sameSorts sides sortBy sortOver sortingPlace spelled startsFrom symbolKind symbolMeans termFault termShapes termsIn tested treesFrom unknownIn withSort wordAt wordEnd wordStarts wordsIn wordsOf
+unfolding after all allIn allNumerals answered anyUncarried argumentTokens bytesAt calledSort chained commandShape constantsPast count differing formSorts formed formsOf grammarPlace groupLeft groupRight hashed inOrder inScriptOrder inside isDecimal isKnown isNamed isOneOf isReserved item itemSort itemsOf join judged judgedAll judgedBody judgedExtra kindOf knownAfter labelSort leastIn levelsAt levelsBefore limitPlace listingMisfit literalKind namePlace named namedBy newPairs nodeWord nodesOf nodesPast notCarried numeralKind operatorAt operatorOf operatorSort operators pairwise placeIn rawTerms readAll reservedWords ruleMisfit rulePast rulesIn rulesOf runEnd sameBytes sameSorts sides sortBy sortOver sortingPlace spelled startsFrom symbolKind symbolMeans termFault termShapes termsIn tested treesFrom unknownIn withEach withSort wordAt wordEnd wordStarts wordsIn wordsOf
 nodes-body-held = refl
 
 -- The limit on nodes constraint.
@@ -152,7 +203,7 @@ nodes-constraint-texts =
 
 -- The definitions answer every one of them so.
 pub nodes-constraint-held : map defined nodes-constraint-texts ≡ map (λ (r : Reading). r .answer) nodes-constraint-texts
-unfolding after all allIn allNumerals answered anyUncarried argumentTokens bytesAt calledSort cases commandShape count differing formSorts formed formsOf grammarPlace hashed inOrder inScriptOrder inside isKnown isNamed isOneOf isReserved item itemSort itemsOf join judged judgedAll judgedBody judgedExtra kindOf knownAfter labelSort leastIn levelsAt levelsBefore limitPlace listingMisfit literalKind namePlace named namedBy newPairs nodeWord nodesOf nodesPast notCarried numeralKind operatorAt operatorOf operatorSort operators placeIn rawTerms readAll reservedWords ruleMisfit rulePast rulesIn rulesOf runEnd sameBytes sameSorts sides sortBy sortOver sortingPlace spelled startsFrom symbolKind symbolMeans termFault termShapes termsIn tested treesFrom unknownIn withSort wordAt wordEnd wordStarts wordsIn wordsOf
+unfolding after all allIn allNumerals answered anyUncarried argumentTokens bytesAt calledSort chained commandShape constantsPast count differing formSorts formed formsOf grammarPlace groupLeft groupRight hashed inOrder inScriptOrder inside isDecimal isKnown isNamed isOneOf isReserved item itemSort itemsOf join judged judgedAll judgedBody judgedExtra kindOf knownAfter labelSort leastIn levelsAt levelsBefore limitPlace listingMisfit literalKind namePlace named namedBy newPairs nodeWord nodesOf nodesPast notCarried numeralKind operatorAt operatorOf operatorSort operators pairwise placeIn rawTerms readAll reservedWords ruleMisfit rulePast rulesIn rulesOf runEnd sameBytes sameSorts sides sortBy sortOver sortingPlace spelled startsFrom symbolKind symbolMeans termFault termShapes termsIn tested treesFrom unknownIn withEach withSort wordAt wordEnd wordStarts wordsIn wordsOf
 nodes-constraint-held = refl
 
 -- The limit on nodes rule.
@@ -164,7 +215,7 @@ nodes-rule-texts =
 
 -- The definitions answer every one of them so.
 pub nodes-rule-held : map defined nodes-rule-texts ≡ map (λ (r : Reading). r .answer) nodes-rule-texts
-unfolding after all allIn allNumerals answered anyUncarried argumentTokens bytesAt calledSort cases commandShape count differing formSorts formed formsOf grammarPlace hashed inOrder inScriptOrder inside isKnown isNamed isOneOf isReserved item itemSort itemsOf join judged judgedAll judgedBody judgedExtra kindOf knownAfter labelSort leastIn levelsAt levelsBefore limitPlace listingMisfit literalKind namePlace named namedBy newPairs nodeWord nodesOf nodesPast notCarried numeralKind operatorAt operatorOf operatorSort operators placeIn rawTerms readAll reservedWords ruleMisfit rulePast rulesIn rulesOf runEnd sameBytes sameSorts sides sortBy sortOver sortingPlace spelled startsFrom symbolKind symbolMeans termFault termShapes termsIn tested treesFrom unknownIn withSort wordAt wordEnd wordStarts wordsIn wordsOf
+unfolding after all allIn allNumerals answered anyUncarried argumentTokens bytesAt calledSort chained commandShape constantsPast count differing formSorts formed formsOf grammarPlace groupLeft groupRight hashed inOrder inScriptOrder inside isDecimal isKnown isNamed isOneOf isReserved item itemSort itemsOf join judged judgedAll judgedBody judgedExtra kindOf knownAfter labelSort leastIn levelsAt levelsBefore limitPlace listingMisfit literalKind namePlace named namedBy newPairs nodeWord nodesOf nodesPast notCarried numeralKind operatorAt operatorOf operatorSort operators pairwise placeIn rawTerms readAll reservedWords ruleMisfit rulePast rulesIn rulesOf runEnd sameBytes sameSorts sides sortBy sortOver sortingPlace spelled startsFrom symbolKind symbolMeans termFault termShapes termsIn tested treesFrom unknownIn withEach withSort wordAt wordEnd wordStarts wordsIn wordsOf
 nodes-rule-held = refl
 
 -- The limit on nodes response.
@@ -176,5 +227,5 @@ nodes-response-texts =
 
 -- The definitions answer every one of them so.
 pub nodes-response-held : map defined nodes-response-texts ≡ map (λ (r : Reading). r .answer) nodes-response-texts
-unfolding after all allIn allNumerals answered anyUncarried argumentTokens bytesAt calledSort cases commandShape count differing formSorts formed formsOf grammarPlace hashed inOrder inScriptOrder inside isKnown isNamed isOneOf isReserved item itemSort itemsOf join judged judgedAll judgedBody judgedExtra kindOf knownAfter labelSort leastIn levelsAt levelsBefore limitPlace listingMisfit literalKind namePlace named namedBy newPairs nodeWord nodesOf nodesPast notCarried numeralKind operatorAt operatorOf operatorSort operators placeIn rawTerms readAll reservedWords ruleMisfit rulePast rulesIn rulesOf runEnd sameBytes sameSorts sides sortBy sortOver sortingPlace spelled startsFrom symbolKind symbolMeans termFault termShapes termsIn tested treesFrom unknownIn withSort wordAt wordEnd wordStarts wordsIn wordsOf
+unfolding after all allIn allNumerals answered anyUncarried argumentTokens bytesAt calledSort chained commandShape constantsPast count differing formSorts formed formsOf grammarPlace groupLeft groupRight hashed inOrder inScriptOrder inside isDecimal isKnown isNamed isOneOf isReserved item itemSort itemsOf join judged judgedAll judgedBody judgedExtra kindOf knownAfter labelSort leastIn levelsAt levelsBefore limitPlace listingMisfit literalKind namePlace named namedBy newPairs nodeWord nodesOf nodesPast notCarried numeralKind operatorAt operatorOf operatorSort operators pairwise placeIn rawTerms readAll reservedWords ruleMisfit rulePast rulesIn rulesOf runEnd sameBytes sameSorts sides sortBy sortOver sortingPlace spelled startsFrom symbolKind symbolMeans termFault termShapes termsIn tested treesFrom unknownIn withEach withSort wordAt wordEnd wordStarts wordsIn wordsOf
 nodes-response-held = refl

@@ -1,4 +1,4 @@
--- Decided readings of document 01, computed from the definitions: one table under one statement. A place is a word.
+-- Decided readings of document 01 and of the requests, computed from the definitions: one table under one statement. A place is a word.
 use Prim.Native.Nat.{ℕ}
 use Prim.Native.String.{String}
 use mathlib.Core.List.{List, [], _∷_, map}
@@ -19,14 +19,16 @@ use Rattle.names.specs.Scopes.{formsOf, inOrder, isKnown, isNamed, symbolMeans}
 use Rattle.names.specs.Unknown.{unknownIn}
 use Rattle.operators.specs.Operators.{named, operatorAt, operatorOf, operators, operatorSort}
 use Rattle.operators.specs.Sorts.{sortBy}
+use Rattle.operators.specs.Values.{chained, groupLeft, groupRight, pairwise, withEach}
 use Rattle.script.specs.Response.{Answered, answered, bodies, inScriptOrder, judgedAll, judgedBody, judgedExtra, refused as refusedBody}
 use Rattle.script.specs.Script.{grammarPlace, judged, Known, knownAfter, limitPlace, namePlace, nothingKnown, passed, Read, readAll, refused, sortingPlace, termsIn, tested}
 use Rattle.shapes.specs.Carried.{anyUncarried, notCarried}
 use Rattle.shapes.specs.Shapes.{all, commandShape, termShapes}
 use Rattle.term_faults.specs.Faults.{ruleMisfit, termFault}
 use Rattle.term_nodes.specs.Rules.{nodesPast, rulePast, rulesIn, rulesOf, sides}
-use Rattle.term_nodes.specs.Terms.{cases, nodeWord, rawTerms}
+use Rattle.term_nodes.specs.Terms.{constantsPast, nodeWord, rawTerms}
 use Rattle.terms.specs.Sorts.{calledSort, labelSort, sameSorts, sortOver, withSort}
+use Rattle.word_kinds.specs.Decimals.{isDecimal}
 use Rattle.word_kinds.specs.Kinds.{allIn, formed, hashed, kindOf, literal as literalKind, numeral as numeralKind, spelled, symbol as symbolKind}
 use Rattle.words.specs.Spans.{runEnd, startsFrom, wordEnd, wordStarts}
 use Rattle.words.specs.Trees.{levelsAt, levelsBefore, treesFrom}
@@ -89,7 +91,7 @@ readings =
     ∷ row "(set-logic BV)(declare-var assume Bool)(synth-fun f () Bool ((A Bool)) ((A Bool (true))))(check-synth)" "" (7 ∷ 6 ∷ [])
     ∷ row "(set-logic BV)(declare-var define-fun-rec Bool)(synth-fun f () Bool ((A Bool)) ((A Bool (true))))(check-synth)" "((define-fun f () Bool true))" []
     ∷ row "(set-logic BV)(constraint (_))" "" (6 ∷ 4 ∷ [])
-    ∷ row "(set-logic BV)(constraint (_ bv5 8))" "" (6 ∷ 4 ∷ [])
+    ∷ row "(set-logic BV)(constraint (_ bv5 8))" "" (8 ∷ 6 ∷ [])
     ∷ row "(set-logic BV)(define-fun g ((let Bool)) Bool true)" "" (6 ∷ 4 ∷ [])
     ∷ row "(set-logic BV)(define-fun g ((_ Bool)) Bool true)" "" (6 ∷ 4 ∷ [])
     ∷ row "(set-logic BV)(define-fun g ((_ BitVec)) Bool true)" "" (7 ∷ 9 ∷ [])
@@ -132,7 +134,7 @@ readings =
     ∷ row "(set-logic BV)(declare-var x (_ BitVec 8))(declare-var p Bool)(constraint (BitVec 8))" "" (7 ∷ 21 ∷ [])
     ∷ row "(set-logic BV)(declare-var x (_ BitVec 8))(declare-var p Bool)(constraint Constant)" "" (7 ∷ 20 ∷ [])
     ∷ row "(set-logic BV)(declare-var x (_ BitVec 8))(declare-var p Bool)(constraint (Constant Bool))" "" (5 ∷ 18 ∷ [])
-    ∷ row "(set-logic BV)(declare-var x (_ BitVec 8))(declare-var p Bool)(constraint (and p p p))" "" (8 ∷ 20 ∷ [])
+    ∷ row "(set-logic BV)(declare-var x (_ BitVec 8))(declare-var p Bool)(constraint (and p p p))" "" (5 ∷ 27 ∷ [])
     ∷ row "(set-logic BV)(declare-var x (_ BitVec 8))(declare-var p Bool)(constraint (= x -5))" "" (7 ∷ 23 ∷ [])
     ∷ row "(set-logic BV)(declare-var x Bool)(define-fun g ((x Bool)) Bool x)" "" (7 ∷ 14 ∷ [])
     ∷ row "(set-logic BV)(define-fun g ((x Bool)) Bool x)(declare-var x Bool)(synth-fun f () Bool ((A Bool)) ((A Bool (true))))(check-synth)" "((define-fun f () Bool true))" []
@@ -275,7 +277,7 @@ readings =
     ∷ row "(set-logic BV)(synth-fun f () Bool ((A Bool)) ((A Bool (true false))))(synth-fun g ((x Bool)) Bool ((A Bool)) ((A Bool (x (not A)))))(check-synth)" "((define-fun h () Bool true) (define-fun))" (12 ∷ 3 ∷ [])
     ∷ row "(set-logic BV)(synth-fun f () Bool ((A Bool)) ((A Bool (true false))))(synth-fun g ((x Bool)) Bool ((A Bool)) ((A Bool (x (not A)))))(check-synth)" "((define-fun f () (_ BitVec 8) zz)(define-fun g ((x Bool)) Bool x))" (12 ∷ 6 ∷ [])
     ∷ row "(set-logic BV)(synth-fun f () Bool ((A Bool)) ((A Bool (true false))))(synth-fun g ((x Bool)) Bool ((A Bool)) ((A Bool (x (not A)))))(check-synth)" "((define-fun f () Bool (Constant Bool))(define-fun g ((x Bool)) Bool x))" (5 ∷ 1 ∷ [])
-    ∷ row "(set-logic BV)(synth-fun f () Bool ((A Bool)) ((A Bool (true false))))(synth-fun g ((x Bool)) Bool ((A Bool)) ((A Bool (x (not A)))))(check-synth)" "((define-fun f () Bool (_ bv1 1))(define-fun g ((x Bool)) Bool x))" (6 ∷ 1 ∷ [])
+    ∷ row "(set-logic BV)(synth-fun f () Bool ((A Bool)) ((A Bool (true false))))(synth-fun g ((x Bool)) Bool ((A Bool)) ((A Bool (x (not A)))))(check-synth)" "((define-fun f () Bool (_ bv1 1))(define-fun g ((x Bool)) Bool x))" (8 ∷ 7 ∷ [])
     ∷ row "(set-logic BV)(synth-fun f () Bool ((A Bool)) ((A Bool (true false))))(synth-fun g ((x Bool)) Bool ((A Bool)) ((A Bool (x (not A)))))(check-synth)" "((define-fun f () Bool 1)(define-fun g ((x Bool)) Bool x))" (8 ∷ 7 ∷ [])
     ∷ row "(set-logic BV)(synth-fun f () Bool ((A Bool)) ((A Bool (true false))))(synth-fun g ((x Bool)) Bool ((A Bool)) ((A Bool (x (not A)))))(check-synth)" "((define-fun f () Bool x)(define-fun g ((x Bool)) Bool x))" (7 ∷ 7 ∷ [])
     ∷ row "(set-logic BV)(synth-fun f () Bool ((A Bool)) ((A Bool (true false))))(synth-fun g ((x Bool)) Bool ((A Bool)) ((A Bool (x (not A)))))(check-synth)" "((define-fun f () Bool (not true))(define-fun g ((x Bool)) Bool x))" []
@@ -407,9 +409,43 @@ readings =
     ∷ row "(set-logic BV)(synth-fun f () Bool ((A Bool)) ((A Bool (true false))))(synth-fun g ((x Bool)) Bool ((A Bool)) ((A Bool (x (not A)))))(check-synth)" "((define-fun))" (5 ∷ 1 ∷ [])
     ∷ row "(set-logic BV)(synth-fun f () Bool ((A Bool)) ((A Bool (true false))))(synth-fun g ((x Bool)) Bool ((A Bool)) ((A Bool (x (not A)))))(check-synth)" "((define-fun f () Bool true)(define-fun g ((x Bool)) Bool x) ())" (5 ∷ 21 ∷ [])
     ∷ row "(set-logic BV)(synth-fun f () Bool ((A Bool)) ((A Bool (true false))))(synth-fun g ((x Bool)) Bool ((A Bool)) ((A Bool (x (not A)))))(check-synth)" "((define-fun f () Bool true)(define-fun g (x Bool) Bool x))" (5 ∷ 9 ∷ [])
+    ∷ row "(set-logic BV)(synth-fun f () (_ BitVec 8) ((A (_ BitVec 8))) ((A (_ BitVec 8) (#x0F))))(check-synth)" "((define-fun f () (_ BitVec 8) #b00001111))" []
+    ∷ row "(set-logic BV)(synth-fun f () (_ BitVec 8) ((A (_ BitVec 8))) ((A (_ BitVec 8) (#x0F))))(check-synth)" "((define-fun f () (_ BitVec 8) (_ bv15 8)))" []
+    ∷ row "(set-logic BV)(synth-fun f () (_ BitVec 8) ((A (_ BitVec 8))) ((A (_ BitVec 8) ((_ bv15 8)))))(check-synth)" "((define-fun f () (_ BitVec 8) #x0f))" []
+    ∷ row "(set-logic BV)(synth-fun f () Bool ((A Bool)) ((A Bool ((= #x01 #x01)))))(check-synth)" "((define-fun f () Bool (= #x1 #x1)))" []
+    ∷ row "(set-logic BV)(synth-fun f () (_ BitVec 8) ((A (_ BitVec 8))) ((A (_ BitVec 8) ((Constant (_ BitVec 8))))))(check-synth)" "((define-fun f () (_ BitVec 8) (_ bv15 8)))" []
+    ∷ row "(set-logic BV)(declare-var x (_ BitVec 8))(declare-var p Bool)(constraint (= x (_ bv5)))" "" (5 ∷ 18 ∷ [])
+    ∷ row "(set-logic BV)(declare-var x (_ BitVec 8))(declare-var p Bool)(constraint (= x (_ bv5 x)))" "" (5 ∷ 18 ∷ [])
+    ∷ row "(set-logic BV)(declare-var x (_ BitVec 8))(declare-var p Bool)(constraint (= x (_ bv 8)))" "" (6 ∷ 18 ∷ [])
+    ∷ row "(set-logic BV)(declare-var x (_ BitVec 8))(declare-var p Bool)(constraint (= x (_ bv05 8)))" "" (6 ∷ 18 ∷ [])
+    ∷ row "(set-logic BV)(declare-var x (_ BitVec 8))(declare-var p Bool)(constraint (= x (_ bv111111111111111111111 8)))" "" (4 ∷ 25 ∷ [])
+    ∷ row "(set-logic BV)(declare-var y (_ BitVec 64))(constraint (= y (_ bv99999999999999999999 64)))" "" (8 ∷ 18 ∷ [])
+    ∷ row "(set-logic BV)(declare-var x (_ BitVec 8))(declare-var p Bool)(constraint (= x (_ bv256 8)))" "" (8 ∷ 23 ∷ [])
+    ∷ row "(set-logic BV)(declare-var x (_ BitVec 8))(declare-var p Bool)(constraint (= x (_ bv0 0)))" "" (8 ∷ 23 ∷ [])
+    ∷ row "(set-logic BV)(declare-var x (_ BitVec 8))(declare-var p Bool)(constraint (= x (_ bv0 65)))" "" (4 ∷ 26 ∷ [])
+    ∷ row "(set-logic BV)(declare-var x (_ BitVec 8))(declare-var p Bool)(constraint (= x (_ bv111111111111111111111 65)))" "" (4 ∷ 25 ∷ [])
+    ∷ row "(set-logic BV)(declare-var x (_ BitVec 8))(declare-var p Bool)(constraint (= x ((_ bv5 8) x)))" "" (5 ∷ 18 ∷ [])
+    ∷ row "(set-logic BV)(declare-var y (_ bv5 8))" "" (5 ∷ 4 ∷ [])
+    ∷ row "(set-logic BV)(declare-var bv5 Bool)(synth-fun f () Bool ((A Bool)) ((A Bool (true))))(check-synth)" "((define-fun f () Bool true))" []
+    ∷ row "(set-logic BV)(declare-var x (_ BitVec 8))(declare-var p Bool)(constraint (= x bv5))" "" (7 ∷ 23 ∷ [])
+    ∷ row "(set-logic BV)(declare-var x (_ BitVec 8))(declare-var p Bool)(constraint (and p))" "" (8 ∷ 20 ∷ [])
+    ∷ row "(set-logic BV)(declare-var x (_ BitVec 8))(declare-var p Bool)(constraint (and))" "" (5 ∷ 18 ∷ [])
+    ∷ row "(set-logic BV)(synth-fun f () Bool ((A Bool)) ((A Bool (true))))(constraint (=> false true false))(check-synth)" "((define-fun f () Bool true))" []
+    ∷ row "(set-logic BV)(synth-fun f () Bool ((A Bool)) ((A Bool (true))))(constraint (= true false false))(check-synth)" "((define-fun f () Bool true))" []
+    ∷ row "(set-logic BV)(synth-fun f () Bool ((A Bool)) ((A Bool (true))))(constraint (distinct true false true))(check-synth)" "((define-fun f () Bool true))" []
+    ∷ row "(set-logic BV)(synth-fun f () Bool ((A Bool)) ((A Bool (true))))(constraint (xor true true true))(check-synth)" "((define-fun f () Bool true))" []
+    ∷ row "(set-logic BV)(declare-var x (_ BitVec 8))(declare-var p Bool)(constraint (= x (bvand x x x)))" "" (8 ∷ 23 ∷ [])
+    ∷ row "(set-logic BV)(declare-var x (_ BitVec 8))(declare-var p Bool)(constraint (ite p p p p))" "" (8 ∷ 20 ∷ [])
+    ∷ row "(set-logic BV)(synth-fun f ((a Bool)) Bool ((A Bool)) ((A Bool (a (and A A)))))(check-synth)" "((define-fun f ((a Bool)) Bool (and a a a)))" []
+    ∷ row "(set-logic BV)(synth-fun f ((a Bool)) Bool ((A Bool)) ((A Bool (a (and A A A)))))(check-synth)" "((define-fun f ((a Bool)) Bool (and (and a a) a)))" []
+    ∷ row "(set-logic BV)(declare-var x (_ BitVec 8))(declare-var p Bool)(constraint (= x x p))" "" (8 ∷ 20 ∷ [])
+    ∷ row "(set-logic BV)(synth-fun f () (_ BitVec 8) ((A (_ BitVec 8))) ((A (_ BitVec 8) ((_ bv256 8)))))(check-synth)" "" (8 ∷ 33 ∷ [])
+    ∷ row "(set-logic BV)(define-fun g ((_ bv5)) Bool true)" "" (7 ∷ 9 ∷ [])
+    ∷ row "(set-logic BV)(declare-var x (_ BitVec 8))(declare-var p Bool)(constraint (= (_ bv256 8) 5))" "" (8 ∷ 22 ∷ [])
+    ∷ row "(set-logic BV)(synth-fun f () Bool ((A Bool)) ((A Bool (true))))(constraint (= true false true))(check-synth)" "((define-fun f () Bool true))" []
     ∷ []
 
 -- The definitions answer every one of them so.
 pub decided : map defined readings ≡ map (λ (r : Reading). r .answer) readings
-unfolding after all allIn allNumerals answered anyUncarried argumentTokens bytesAt calledSort cases commandShape count differing formSorts formed formsOf grammarPlace hashed inOrder inScriptOrder inside isKnown isNamed isOneOf isReserved item itemSort itemsOf join judged judgedAll judgedBody judgedExtra kindOf knownAfter labelSort leastIn levelsAt levelsBefore limitPlace listingMisfit literalKind namePlace named namedBy newPairs nodeWord nodesOf nodesPast notCarried numeralKind operatorAt operatorOf operatorSort operators placeIn rawTerms readAll reservedWords ruleMisfit rulePast rulesIn rulesOf runEnd sameBytes sameSorts sides sortBy sortOver sortingPlace spelled startsFrom symbolKind symbolMeans termFault termShapes termsIn tested treesFrom unknownIn withSort wordAt wordEnd wordStarts wordsIn wordsOf
+unfolding after all allIn allNumerals answered anyUncarried argumentTokens bytesAt calledSort chained commandShape constantsPast count differing formSorts formed formsOf grammarPlace groupLeft groupRight hashed inOrder inScriptOrder inside isDecimal isKnown isNamed isOneOf isReserved item itemSort itemsOf join judged judgedAll judgedBody judgedExtra kindOf knownAfter labelSort leastIn levelsAt levelsBefore limitPlace listingMisfit literalKind namePlace named namedBy newPairs nodeWord nodesOf nodesPast notCarried numeralKind operatorAt operatorOf operatorSort operators pairwise placeIn rawTerms readAll reservedWords ruleMisfit rulePast rulesIn rulesOf runEnd sameBytes sameSorts sides sortBy sortOver sortingPlace spelled startsFrom symbolKind symbolMeans termFault termShapes termsIn tested treesFrom unknownIn withEach withSort wordAt wordEnd wordStarts wordsIn wordsOf
 decided = refl

@@ -2,20 +2,21 @@
 use Prim.Native.Nat.{ℕ, _+_, _-_, _%_, _^_, _≤_, _<_}
 use native.Mathlib.Nat.{mod-lt}
 use native.Mathlib.Omega.{arith}
-use mathlib.Core.Path.{_≡_, refl, sym, ap, subst⁻¹, _∙_}
+use mathlib.Core.Path.{_≡_, refl, sym, ap, _∙_}
 use mathlib.Core.Bool.{Bool, true, false, cond, _||_}
 use mathlib.Core.List.{List, [], _∷_}
 use mathlib.Core.Option.{some}
 use lib.Bits.{bitAnd, mask-lt}
-use lib.Dec.{eqb, ltb}
-use lib.ListN.{getD, getD-replicate, length}
+use lib.Dec.{eqb, leb, ltb}
+use lib.ListN.{getD, getD-replicate, length, take}
 use borrow.Author.Tests.{eq-eqb, eqb-true, le-leb, lt-ltb}
 use Rattle.operators.specs.Operators.{Operator, operatorAt, operatorCount, operatorSort, operators}
 use Rattle.operators.specs.Sorts.{AllFit, Fit, SortRule, allAre, bool, choice, cutting, equality, joining, logic, order, sortBy, width}
 use Rattle.operators.specs.code.RuleNumbers.{ruleNumber}
 use Rattle.operators.specs.code.Operators.{Operable}
 use Rattle.operators.specs.Sorts.AllFit.{no-more, also}
-use Rattle.operators.specs.code.Vectors.{Width, Word}
+use Rattle.operators.specs.code.Vectors.{Width, Word, Words}
+use Rattle.test_operators.specs.Alike.{Alike}
 use Rattle.operators.proofs.Results.{rule-at, ruleAt}
 use Rattle.operators.proofs.RuledOperands.{givesBool, word-fits}
 use Rattle.operators.proofs.Table.{column}
@@ -39,27 +40,27 @@ all-usual : {operator : ℕ} → operator < operatorCount → usual (operatorAt 
 unfolding operators usual
 all-usual {operator} h = sym (column (λ (r : Operator). usual (r .rule) (r .operands)) operator) ∙ getD-replicate operatorCount operator true false h
 
+-- An operator takes as many operands as it has.
+usual-taken : (many : Bool) (n : ℕ) → cond many (leb n n) (eqb n n) ≡ true
+usual-taken true n = le-leb n n (omega arith)
+usual-taken false n = eq-eqb n n refl
+
 -- Operands of the right number, to which the rule gives a sort.
 operable : {operator high low : ℕ} → operator < operatorCount → (r : ℕ) (ss vs : List ℕ) → length ss ≡ operatorAt operator .operands
-    → sortBy (operatorAt operator .rule) high low ss ≡ some r → AllFit ss vs
-    → Operable operator high low (getD ss 0 0) (getD ss 1 0) (getD vs 0 0) (getD vs 1 0) (getD vs 2 0)
+    → sortBy (operatorAt operator .rule) high low ss ≡ some r → AllFit ss vs → Operable operator high low (getD ss 0 0) (getD ss 1 0) vs
 unfolding operatorSort
 operable {operator} known r ss vs l h f =
     record {
       sorts = ss;
-      values = vs;
       result = r;
-      sorted = rw (lt-ltb operator operatorCount known, eq-eqb _ _ l) h;
+      sorted = rw (lt-ltb operator operatorCount known, l, usual-taken (operatorAt operator .many) (operatorAt operator .operands)) h;
       fit = f;
       width-one = refl;
       width-two = refl;
-      is-one = refl;
-      is-two = refl;
-      is-three = refl;
     }
 
 -- A word of one bit fits Bool.
-bit-fits : {a : ℕ} → Word 1 a → Fit 0 a
+pub bit-fits : {a : ℕ} → Word 1 a → Fit 0 a
 bit-fits w = record { sort = omega arith; value = w .below }
 
 -- A second operand, or 0 where there is none.
@@ -67,22 +68,36 @@ abbrev second : ℕ → ℕ → ℕ
 second operator operand = cond (ltb (operatorAt operator .operands) 2) 0 operand
 
 -- One operand or two of the sort s.
-module _ {operator : ℕ} (known : operator < operatorCount) (p : ℕ) {s a b : ℕ}
-    (h : (more : List ℕ) → allAre s more ≡ true → sortBy (operatorAt operator .rule) 0 0 (s ∷ more) ≡ some p) (f : Fit s a) (g : Fit s b) where
+module _ {operator s a b : ℕ} (x : Alike operator s a b) where
   -- What an operator is then given.
   abbrev Taken : Type 0
-  Taken = Operable operator 0 0 s (second operator s) a (second operator b) 0
+  Taken = Operable operator 0 0 s (second operator s) (take (operatorAt operator .operands) (a ∷ b ∷ []))
 
-  alike : (eqb (operatorAt operator .operands) 1 || eqb (operatorAt operator .operands) 2) ≡ true → Taken
-  alike e = go (eqb (operatorAt operator .operands) 1) refl e
+  both-taken : Taken
+  both-taken = go (eqb (operatorAt operator .operands) 1) refl (x .counted)
     where
       go : (t : Bool) → eqb (operatorAt operator .operands) 1 ≡ t → (t || eqb (operatorAt operator .operands) 2) ≡ true → Taken
       go true q e =
           let one : operatorAt operator .operands ≡ 1 = eqb-true _ _ q in
-          rw one (operable known p (s ∷ []) (a ∷ []) (sym one) (h [] refl) (also f no-more))
+          rw one (operable (x .known) (x .result) (s ∷ []) (a ∷ []) (sym one) (x .sorted [] refl) (also (x .first) no-more))
       go false q e =
           let two : operatorAt operator .operands ≡ 2 = eqb-true _ _ e in
-          rw two (operable known p (s ∷ s ∷ []) (a ∷ b ∷ []) (sym two) (h (s ∷ []) (rw (eq-eqb s s refl))) (also f (also g no-more)))
+          rw two
+          (operable (x .known) (x .result) (s ∷ s ∷ []) (a ∷ b ∷ []) (sym two) (x .sorted (s ∷ []) (rw (eq-eqb s s refl)))
+          (also (x .first) (also (x .second) no-more)))
+
+  -- As many of two values as there are operands.
+  pub count-within : operatorAt operator .operands ≤ 2
+  count-within = go (eqb (operatorAt operator .operands) 1) refl (x .counted)
+    where
+      go : (t : Bool) → eqb (operatorAt operator .operands) 1 ≡ t → (t || eqb (operatorAt operator .operands) 2) ≡ true → operatorAt operator .operands ≤ 2
+      go true q e = omega (arith, eqb-true (operatorAt operator .operands) 1 q)
+      go false q e = omega (arith, eqb-true (operatorAt operator .operands) 2 e)
+
+  -- The operands of an operator that has one or two of one sort.
+  pub alike-taken : {count other : ℕ} → count ≡ operatorAt operator .operands → other ≡ second operator s
+      → Operable operator 0 0 s other (take count (a ∷ b ∷ []))
+  alike-taken e d = rw (e, d) both-taken
 
 -- The rule of an operator, by its number.
 pub rule-is : (operator : ℕ) {k l : ℕ} → k ≡ ruleNumber (operatorAt operator .rule) → k ≡ l → operatorAt operator .rule ≡ ruleAt l
@@ -92,26 +107,21 @@ rule-is operator e q = rule-at (operatorAt operator .rule) ∙ ap ruleAt (sym e 
 counted : {operator : ℕ} {r : SortRule} → operator < operatorCount → operatorAt operator .rule ≡ r → usual r (operatorAt operator .operands) ≡ true
 counted h e = rw e at (all-usual h)
 
--- Where every operand is 0, so is a second one.
-nothing-second : (t : Bool) → _≡_ {A = ℕ} 0 (cond t 0 0)
-nothing-second true = refl
-nothing-second false = refl
-
 -- The operands of `not` to `=>`.
-pub logic-taken : {operator k x y b : ℕ} → operator < operatorCount → k ≡ ruleNumber (operatorAt operator .rule) → k ≡ ruleNumber logic → Word 1 x → Word 1 y
-    → b ≡ second operator y → Operable operator 0 0 0 0 x b 0
+pub logic-alike : {operator k x y : ℕ} → operator < operatorCount → k ≡ ruleNumber (operatorAt operator .rule) → k ≡ ruleNumber logic → Word 1 x → Word 1 y
+    → Alike operator 0 x y
 unfolding sortBy usual
-logic-taken {operator} {x = x} {b = b} l e q v w d =
+logic-alike {operator} l e q v w =
     let r = rule-is operator e q in
-    subst⁻¹ (λ (m : ℕ). Operable operator 0 0 0 m x b 0) (nothing-second (ltb (operatorAt operator .operands) 2))
-    (rw d (alike l 0 (λ more h. rw (r, h)) (bit-fits v) (bit-fits w) (counted l r)))
+    record { known = l; counted = counted l r; result = 0; sorted = λ more h. rw (r, h); first = bit-fits v; second = bit-fits w }
 
 -- The operands of `ite`.
-pub choice-taken : {operator k n c a b : ℕ} → operator < operatorCount → k ≡ ruleNumber (operatorAt operator .rule) → k ≡ ruleNumber choice → Word 1 c → Word n a → Word n b
-    → Operable operator 0 0 0 n c a b
+pub choice-taken : {operator n c a b : ℕ} → operator < operatorCount → operatorAt operator .rule ≡ choice → Word 1 c → Words n a b
+    → Operable operator 0 0 0 n (c ∷ a ∷ b ∷ [])
 unfolding sortBy usual
-choice-taken {operator} {n = n} {c} {a} {b} l e q u v w =
-    let r = rule-is operator e q in
+choice-taken {operator} {n = n} {c} {a} {b} l r u vw =
+    let v = vw .first in
+    let w = vw .second in
     operable l n (0 ∷ n ∷ n ∷ []) (c ∷ a ∷ b ∷ []) (sym (eqb-true _ _ (counted l r))) (rw (r, eq-eqb n n refl))
     (also (bit-fits u) (also (word-fits (v .width) (v .below)) (also (word-fits (w .width) (w .below)) no-more)))
 
@@ -125,7 +135,7 @@ room y w h = record { least = omega arith; most = omega (arith, within y w h) }
 
 -- The operands of `concat`.
 pub joined-taken : (y : ℕ) {operator n a b : ℕ} → operator < operatorCount → operatorAt operator .rule ≡ joining → Word n a → (n ≡ 64 → ⊥)
-    → Word (1 + y % (64 - n)) b → Operable operator 0 0 n (1 + y % (64 - n)) a b 0
+    → Word (1 + y % (64 - n)) b → Operable operator 0 0 n (1 + y % (64 - n)) (a ∷ b ∷ [])
 unfolding sortBy usual
 joined-taken y {operator} {n} {a} {b} l r v h w =
     let m : ℕ = 1 + y % (64 - n) in
@@ -135,7 +145,7 @@ joined-taken y {operator} {n} {a} {b} l r v h w =
 
 -- The operand of `(_ extract i j)`.
 pub cut-taken : {operator high low n a : ℕ} → operator < operatorCount → operatorAt operator .rule ≡ cutting → Word n a → low ≤ high → high < n
-    → Operable operator high low n 0 a 0 0
+    → Operable operator high low n 0 (a ∷ [])
 unfolding sortBy usual
 cut-taken {operator} {high} {low} {n} {a} l r v h g =
     operable l (high - low + 1) (n ∷ []) (a ∷ []) (sym (eqb-true _ _ (counted l r))) (rw (r, le-leb low high h, lt-ltb high n g))
@@ -169,12 +179,17 @@ plain-count width c e p h = h
 plain-count order c e p h = h
 
 -- The operands of `=`, `distinct` and `bvnot` to `bvult`.
-pub plain-taken : {operator k n m a b c : ℕ} → operator < operatorCount → k ≡ ruleNumber (operatorAt operator .rule) → Plain k → Word n a → Word n b
-    → m ≡ second operator n → c ≡ second operator b → Operable operator 0 0 n m a c 0
-plain-taken {operator} l e p v w d f =
-    rw (d, f)
-    (alike l _ (plain (operatorAt operator .rule) e p (v .width)) (word-fits (v .width) (v .below)) (word-fits (w .width) (w .below))
-    (plain-count (operatorAt operator .rule) _ e p (all-usual l)))
+pub plain-alike : {operator k n a b : ℕ} → operator < operatorCount → k ≡ ruleNumber (operatorAt operator .rule) → Plain k → Word n a → Word n b
+    → Alike operator n a b
+plain-alike {operator} {n = n} l e p v w =
+    record {
+      known = l;
+      counted = plain-count (operatorAt operator .rule) _ e p (all-usual l);
+      result = cond (givesBool (operatorAt operator .rule)) bool n;
+      sorted = plain (operatorAt operator .rule) e p (v .width);
+      first = word-fits (v .width) (v .below);
+      second = word-fits (w .width) (w .below);
+    }
 
 -- A remainder by i + 1 is at most i.
 pub at-most : (z i : ℕ) → z % (i + 1) ≤ i

@@ -1,4 +1,5 @@
-//! Runs every operator at every width, on edge operands and on pseudo-random ones, and prints for each width a hash of the values of each operator.
+//! Runs every operator at every width, on edge operands and on pseudo-random ones, and prints for each width a hash of the values of each operator, with two
+//! operands where it takes more; then of each operator that takes more, a hash of its values with 3, with 4, with 5 and with 6 operands.
 //! tests/operators.py computes the same lines from SMT-LIB's meaning of the operators.
 use libc::STDOUT_FILENO;
 use operators::ones;
@@ -6,20 +7,29 @@ use operators::operators::OPERATORS;
 use operators::operators::apply;
 use operators::operators::operands_of;
 use operators::operators::rule_of;
+use operators::operators::takes;
 use operators::rules::CHOICE;
 use operators::rules::CUTTING;
 use operators::rules::JOINING;
 use operators::rules::LOGIC;
-ghost use mathlib.Core.Bool.{cond};
+ghost use mathlib.Core.Bool.{cond, true};
 ghost use mathlib.Core.Path.{_≡_};
 ghost use lib.Dec.{ltb};
-ghost use Prim.Native.Nat.{_<_};
-ghost use Rattle.operators.specs.Operators.{operatorAt, operatorCount};
-ghost use Rattle.operators.specs.Sorts.{cutting, joining};
-ghost use Rattle.operators.specs.code.Vectors.{Width, Word};
+ghost use Prim.Native.Nat.{_<_, _≤_};
+ghost use Rattle.operators.specs.Operators.{operatorAt, operatorCount, takes};
+ghost use Rattle.operators.specs.Sorts.{Fit, choice, cutting, joining, maxWidth};
+ghost use Rattle.operators.specs.code.Vectors.{Width, Word, Words};
+ghost use Rattle.test_operators.specs.Alike.{Alike};
+ghost use Rattle.test_operators.specs.Wide.{Wide, mostOperands};
 
 // How many pseudo-random pairs of operands each operator runs on at each width.
 const PAIRS: u64 = 10_000;
+
+// How many pseudo-random pairs the operands are made of where there are more than two.
+const MANY_PAIRS: u64 = 1_000;
+
+// How many operands there are at most.
+const MOST_OPERANDS: usize = 6;
 
 // The number after another in a pseudo-random sequence: Marsaglia's xorshift of 64 bits.
 fn next(number: u64) -> u64 {
@@ -71,7 +81,8 @@ fn joined(operator: usize, width: u64, value: u64, source: u64) -> u64
         return 0;
     }
     let other = 1 + source % (64 - width);
-    apply(operator, 0, 0, width, other, value, low(source, other), 0)
+    let values = [value, low(source, other)];
+    apply(operator, 0, 0, width, other, &values)
 }
 
 // The value of `(_ extract high lowest)` over a value of the width, where `source` chooses both numbers.
@@ -80,7 +91,32 @@ fn extracted(operator: usize, width: u64, value: u64, source: u64) -> u64
 {
     let high = source % width;
     let lowest = (source >> 8) % (high + 1);
-    apply(operator, high, lowest, width, 0, value, 0, 0)
+    let values = [value];
+    apply(operator, high, lowest, width, 0, &values)
+}
+
+// The value of `ite` over a Bool and two values of the width.
+fn chosen(operator: usize, width: u64, test: u64, one: u64, two: u64) -> u64
+    requires { ⌜ (operator < operatorCount) × (operatorAt operator .rule ≡ choice) × Word 1 test × Words width one two ⌝ }
+{
+    let values = [test, one, two];
+    apply(operator, 0, 0, 0, width, &values)
+}
+
+// The value of an operator of one or two operands of one sort over the first of these values, or both.
+fn alike(operator: usize, sort: u64, one: u64, two: u64) -> u64
+    requires { ⌜ Alike operator sort one two ⌝ }
+{
+    let values = [one, two];
+    let count = operands_of(operator);
+    apply(
+        operator,
+        0,
+        0,
+        sort,
+        second(operator, sort),
+        &values[..count],
+    )
 }
 
 // The value of an operator over operands that are made of `left` and `right`, of the width where they are vectors.
@@ -90,29 +126,11 @@ fn value(operator: usize, width: u64, left: u64, right: u64) -> u64
     let one = low(left, width);
     let two = low(right, width);
     match rule_of(operator) {
-        LOGIC => apply(
-            operator,
-            0,
-            0,
-            0,
-            0,
-            low(left, 1),
-            second(operator, low(right, 1)),
-            0,
-        ),
-        CHOICE => apply(operator, 0, 0, 0, width, low(left, 1), one, two),
+        LOGIC => alike(operator, 0, low(left, 1), low(right, 1)),
+        CHOICE => chosen(operator, width, low(left, 1), one, two),
         JOINING => joined(operator, width, one, right),
         CUTTING => extracted(operator, width, one, right),
-        _ => apply(
-            operator,
-            0,
-            0,
-            width,
-            second(operator, width),
-            one,
-            second(operator, two),
-            0,
-        ),
+        _ => alike(operator, width, one, two),
     }
 }
 
@@ -151,21 +169,92 @@ fn pairs(operator: usize, width: u64, start: u64) -> u64
     hash
 }
 
-// Prints a width and the hash of each operator at it.
+// One of several operands of a sort: the low bits of `left` shifted, where three bits of `right` choose the shift, of two where its highest bit is 0, so that
+// operands are often alike, or of eight, so that they are often all different.
+fn operand(index: u64, sort: u64, left: u64, right: u64) -> u64
+    requires { ⌜ (index < mostOperands) × (sort ≤ maxWidth) ⌝ }
+    ensures { λ r. ⌜ Fit sort r ⌝ }
+{
+    let bits = left >> (right >> 3 * index) % (2 + 6 * (right >> 63));
+    if sort == 0 {
+        return low(bits, 1);
+    }
+    low(bits, sort)
+}
+
+// The value of an operator over so many operands of the sort that are made of `left` and `right`.
+fn several(operator: usize, sort: u64, count: usize, left: u64, right: u64) -> u64
+    requires { ⌜ Wide operator sort × (3 ≤ count) × (count ≤ mostOperands) ⌝ }
+{
+    let values = [
+        operand(0, sort, left, right),
+        operand(1, sort, left, right),
+        operand(2, sort, left, right),
+        operand(3, sort, left, right),
+        operand(4, sort, left, right),
+        operand(5, sort, left, right),
+    ];
+    apply(operator, 0, 0, sort, sort, &values[..count])
+}
+
+// The hash of an operator over so many operands of the sort, made of the pseudo-random pairs of a width.
+fn many(operator: usize, sort: u64, count: usize, width: u64) -> u64
+    requires { ⌜ Wide operator sort × (3 ≤ count) × (count ≤ mostOperands) ⌝ }
+{
+    let mut hash = 0;
+    let mut left = width;
+    let mut k = 0;
+    while k < MANY_PAIRS {
+        let right = next(left);
+        hash = fold(hash, several(operator, sort, count, left, right));
+        left = next(right);
+        k += 1;
+    }
+    hash
+}
+
+// The sort that operands of a wide operator have at a width.
+fn sort_of(operator: usize, width: u64) -> u64
+    requires { ⌜ (operator < operatorCount) × (takes (operatorAt operator) mostOperands ≡ true) × Width width ⌝ }
+    ensures { λ r. ⌜ Wide operator r ⌝ }
+{
+    if rule_of(operator) == LOGIC {
+        return 0;
+    }
+    width
+}
+
+// Prints a hash.
+fn print_hash(hash: u64) {
+    io::write_all(STDOUT_FILENO, b" ");
+    io::print_hex(STDOUT_FILENO, hash, 16);
+}
+
+// Prints the hashes at a width of each operator that takes as many operands as are made: with 3 of them, with 4, with 5 and with 6.
+fn further(width: u64)
+    requires { ⌜ Width width ⌝ }
+{
+    let mut k = 0;
+    while k < 4 * OPERATORS {
+        let operator = k / 4;
+        if takes(operator, MOST_OPERANDS) {
+            print_hash(many(operator, sort_of(operator, width), 3 + k % 4, width));
+        }
+        k += 1;
+    }
+}
+
+// Prints a width and the hashes of the operators at it.
 fn line(width: u64)
     requires { ⌜ Width width ⌝ }
 {
     io::print_decimal(STDOUT_FILENO, width);
     let mut operator = 0;
     while operator < OPERATORS {
-        io::write_all(STDOUT_FILENO, b" ");
-        io::print_hex(
-            STDOUT_FILENO,
-            pairs(operator, width, edges(operator, width)),
-            16,
-        );
+        print_hash(pairs(operator, width, edges(operator, width)));
         operator += 1;
     }
+    further(width);
     io::write_all(STDOUT_FILENO, b"\n");
 }
 

@@ -1,31 +1,32 @@
 -- The case meets what the functions of `evaluation` ask.
 use Prim.Native.Nat.{ℕ, zero, suc, _≤_, _<_}
 use native.Mathlib.Omega.{arith}
-use mathlib.Core.Path.{_≡_, refl, sym, _∙_}
+use mathlib.Core.Path.{_≡_, refl, sym, ap, _∙_}
 use mathlib.Core.List.{List, [], _∷_, append-nil}
 use mathlib.Core.Option.{some}
 use lib.Dec.{lit<, lit≤}
-use lib.ListN.{length, replicate, set}
+use lib.ListN.{length, length-replicate, replicate, set, take}
 use Rattle.forest.specs.Forest.{join}
-use Rattle.forest.specs.code.Cursors.{from}
+use Rattle.forest.specs.code.Cursors.{from, size}
 use Rattle.operators.specs.Operators.{operatorAt, operatorSort, operatorValue, operators}
 use Rattle.operators.specs.Sorts.{AllFit, sortBy}
 use Rattle.operators.specs.Sorts.AllFit.{no-more, also}
+use Rattle.operators.specs.Values.{chained}
 use Rattle.terms.specs.Costs.{costOf, costs, definedCost, functionCost}
 use Rattle.terms.specs.code.Nodes.{AllPlain, nodeTable}
 use Rattle.terms.specs.Sorts.{sameSorts}
 use Rattle.terms.specs.Values.{called, definedValue, functionValue, labelValue, numbersIn, operatorGives, resultOf, value, valueOver, valuesAt, valuesIn}
 use Rattle.terms.specs.Values.{withValue}
 use Rattle.evaluation.specs.code.Budget.{Priced, held}
-use Rattle.evaluation.specs.code.Evaluator.{Evaluable}
+use Rattle.evaluation.specs.code.Evaluator.{Evaluable, Room}
 use Rattle.evaluation.specs.code.Costs.{Costing, Pricing}
-use Rattle.evaluation.specs.code.Tables.{BodiesAt, CallsDefined, CallsEarlier, CallsKnown, FewArguments, BodiesHold, TermStands}
+use Rattle.evaluation.specs.code.Tables.{BodiesAt, CallsDefined, CallsEarlier, CallsKnown, BodiesHold, SmallBodies, TermStands}
 use Rattle.forest.specs.Limits.{mostDefined}
-use Rattle.test_values.specs.Case.{all, constraints, d0, defs, f0, funs, numbers, places, shifted, small, sorts}
+use Rattle.test_values.specs.Case.{all, constraints, d0, defs, f0, funs, numbers, places, room, shifted, small, sorts}
 use Rattle.evaluation.specs.Points.{pointAt, valuesBy}
 use Rattle.evaluation.specs.Running.{isTrue, runPoints, runTerms}
 use Rattle.evaluation.specs.declared.Ran.the-variants.{Ended, False}
-use Rattle.evaluation.specs.code.Running.{AllValued, PointsRunnable, TermsAt}
+use Rattle.evaluation.specs.code.Running.{AllValued, PointsRunnable, SmallTerms, TermsAt}
 
 -- The labels are told by their numbers.
 pub all-plain : AllPlain all
@@ -38,8 +39,8 @@ all-plain = (
     (tt, (tt, tt, tt), tt),
     (
       lit< tt,
-      (tt, (tt, tt, tt), (lit< tt, (tt, tt, (lit< tt, tt, tt)), tt)),
-      (lit< tt, (tt, (tt, tt, tt), (lit< tt, tt, tt)), tt),
+      (tt, (tt, tt, tt), (lit< tt, (tt, tt, (tt, tt, tt)), tt)),
+      (lit< tt, (tt, (tt, tt, tt), (tt, tt, tt)), tt),
     ),
   ),
 )
@@ -74,15 +75,25 @@ pub f0-at : {bodies : List ℕ} → bodies ≡ set (replicate 40 0) 32 3 → Bod
 unfolding BodiesAt
 f0-at e = rw e (f0-stands, tt)
 
--- d0 has one argument.
-pub few-defs : FewArguments defs
-unfolding FewArguments
-few-defs = (lit≤ tt, tt)
+-- The body of d0 is small.
+pub small-defs : SmallBodies defs
+unfolding SmallBodies size
+small-defs = (lit≤ tt, tt)
 
--- f0 has one argument.
-pub few-funs : FewArguments funs
-unfolding FewArguments
-few-funs = (lit≤ tt, tt)
+-- So is that of f0.
+pub small-funs : SmallBodies funs
+unfolding SmallBodies size
+small-funs = (lit≤ tt, tt)
+
+-- So are the constraints.
+pub small-constraints : SmallTerms constraints
+unfolding SmallTerms size
+small-constraints = (lit≤ tt, (lit≤ tt, tt))
+
+-- There is room for the first constraint.
+pub shifted-room : {stack : List ℕ} → stack ≡ replicate room 33 → Room stack 1 (size shifted) defs funs
+unfolding size
+shifted-room e = omega (arith, ap length e ∙ length-replicate {A = ℕ} room 33)
 
 -- The body of d0 applies no function.
 pub d0-calls : CallsEarlier defs
@@ -106,7 +117,7 @@ constraints-at = (shifted-stands, (small-stands, tt))
 
 -- The first constraint is true where x is 33.
 pub shifted-true : valuesAt defs funs (value 8 33 ∷ []) shifted ≡ some (value 0 1 ∷ [])
-unfolding called definedValue functionValue labelValue operatorAt operatorGives operatorSort operatorValue operators resultOf sameSorts
+unfolding called chained definedValue functionValue labelValue operatorAt operatorGives operatorSort operatorValue operators resultOf sameSorts
     sortBy valueOver valuesIn withValue
 shifted-true = refl
 
@@ -124,7 +135,7 @@ points-fit (suc (suc p)) h = absurd (omega arith)
 
 -- Both constraints have a value at them.
 pub points-valued : (p : ℕ) → p < 2 → AllValued defs funs (pointAt sorts numbers p) constraints
-unfolding AllValued called definedValue functionValue labelValue operatorAt operatorGives operatorSort operatorValue operators resultOf
+unfolding AllValued called chained definedValue functionValue labelValue operatorAt operatorGives operatorSort operatorValue operators resultOf
     sameSorts sortBy valueOver valuesBy valuesIn withValue
 points-valued zero h = (record { v = value 0 1; is = refl; truth = refl }, (record { v = value 0 1; is = refl; truth = refl }, tt))
 points-valued (suc zero) h = (record { v = value 0 1; is = refl; truth = refl }, (record { v = value 0 0; is = refl; truth = refl }, tt))
@@ -132,13 +143,13 @@ points-valued (suc (suc p)) h = absurd (omega arith)
 
 -- With 100 of the budget the second constraint is found false at the second point, and 44 are left.
 pub run-false : runPoints defs funs sorts numbers constraints 2 0 100 ≡ False 1 1 44
-unfolding called costs definedCost definedValue functionCost functionValue isTrue labelValue operatorAt operatorGives operatorSort operatorValue
+unfolding called chained costs definedCost definedValue functionCost functionValue isTrue labelValue operatorAt operatorGives operatorSort operatorValue
     operators resultOf runPoints runTerms sameSorts sortBy valueOver valuesBy valuesIn withValue
 run-false = refl
 
 -- With 55 its evaluation isn't begun, and 12 are left.
 pub run-ended : runPoints defs funs sorts numbers constraints 2 0 55 ≡ Ended 1 1 12
-unfolding called costs definedCost definedValue functionCost functionValue isTrue labelValue operatorAt operatorGives operatorSort operatorValue
+unfolding called chained costs definedCost definedValue functionCost functionValue isTrue labelValue operatorAt operatorGives operatorSort operatorValue
     operators resultOf runPoints runTerms sameSorts sortBy valueOver valuesBy valuesIn withValue
 run-ended = refl
 
@@ -158,8 +169,8 @@ module _ {nodes bodies : List ℕ} (nodes-are : nodes ≡ nodeTable all) (bodies
         plain = all-plain;
         defined-at = d0-at bodies-are;
         functions-at = f0-at bodies-are;
-        few-defined = few-defs;
-        few-functions = few-funs;
+        small-defined = small-defs;
+        small-functions = small-funs;
         defined-calls = d0-calls;
         function-calls = f0-calls;
         defined-most = lit≤ tt;
@@ -175,20 +186,22 @@ module _ {nodes bodies : List ℕ} (nodes-are : nodes ≡ nodeTable all) (bodies
   costing p = record { defs = defs; funs = funs; holds = holds; priced = p; t = shifted; stands = shifted-stands; calls = shifted-calls }
 
   -- It can be evaluated at x = 33.
-  abbrev pub evaluable : Evaluable nodes bodies (33 ∷ []) 6 15
-  evaluable =
+  abbrev pub evaluable : {stack : List ℕ} → stack ≡ replicate room 33 → Evaluable nodes bodies stack 0 1 6 15
+  evaluable e =
       record {
         defs = defs;
         funs = funs;
         holds = holds;
         point = value 8 33 ∷ [];
-        names = refl;
+        names = ap (take 1) e;
+        under = lit≤ tt;
         fits = also (record { sort = lit≤ tt; value = lit< tt }) no-more;
         t = shifted;
         stands = shifted-stands;
         v = value 0 1;
         has = shifted-true;
         cost = shifted-cost;
+        room = shifted-room e;
       }
 
   -- The constraints can be run at both points.
@@ -200,8 +213,10 @@ module _ {nodes bodies : List ℕ} (nodes-are : nodes ≡ nodeTable all) (bodies
         holds = holds;
         priced = p;
         few = lit≤ tt;
+        few-variables = lit≤ tt;
         terms = constraints;
         terms-at = constraints-at;
+        small = small-constraints;
         whole = refl;
         fits = points-fit;
         valued = points-valued;

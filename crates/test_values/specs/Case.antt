@@ -1,7 +1,8 @@
 -- A small case: a `define-fun`, a synthesized function, two constraints and two points, all of 8 bits.
-use Prim.Native.Nat.{ℕ}
+use Prim.Native.Nat.{ℕ, _+_, _*_}
 use mathlib.Core.List.{List, [], _∷_}
 use Rattle.forest.specs.Forest.{none, tree}
+use Rattle.forest.specs.Limits.{mostNodes}
 use Rattle.terms.specs.Labels.{Terms, defined, function, literal, name, operator}
 use Rattle.terms.specs.Sorts.{Definition}
 use Rattle.evaluation.specs.declared.Ran.{Ran}
@@ -21,19 +22,19 @@ f0 = record { signature = record { arguments = 8 ∷ []; result = 8 }; body = tr
 
 -- (= (f0 x) (bvshl x #x02))
 abbrev pub shifted : Terms
-shifted = tree (operator 5 0 0) (tree (function 0) (x none) (tree (operator 18 0 0) (x (tree (literal 8 2 0) none none)) none)) none
+shifted = tree (operator 5 0 0) (tree (function 0) (x none) (tree (operator 18 0 0) (x (tree (literal 8 2) none none)) none)) none
 
 -- (bvult (f0 x) #x80)
 abbrev pub small : Terms
-small = tree (operator 20 0 0) (tree (function 0) (x none) (tree (literal 8 128 0) none none)) none
+small = tree (operator 20 0 0) (tree (function 0) (x none) (tree (literal 8 128) none none)) none
 
 -- The terms of the case, one after the other.
 abbrev pub all : Terms
 all =
     tree (operator 13 0 0) (x (x none))
     (tree (defined 0) (tree (defined 0) (x none) none)
-    (tree (operator 5 0 0) (tree (function 0) (x none) (tree (operator 18 0 0) (x (tree (literal 8 2 0) none none)) none))
-    (tree (operator 20 0 0) (tree (function 0) (x none) (tree (literal 8 128 0) none none)) none)))
+    (tree (operator 5 0 0) (tree (function 0) (x none) (tree (operator 18 0 0) (x (tree (literal 8 2) none none)) none))
+    (tree (operator 20 0 0) (tree (function 0) (x none) (tree (literal 8 128) none none)) none)))
 
 -- The `define-fun`s.
 abbrev pub defs : List Definition
@@ -64,3 +65,7 @@ abbrev pub answerOf : Ran → ℕ
 answerOf (Passed left) = 0
 answerOf (False p k left) = 14
 answerOf (Ended p k left) = 15
+
+-- How many values a stack has for x, for the nodes of the first constraint and for those of two bodies.
+abbrev pub room : ℕ
+room = 1 + 6 + 2 * mostNodes

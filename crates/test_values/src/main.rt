@@ -5,13 +5,17 @@ use evaluation::costs::cost_at;
 use evaluation::evaluator::eval_term;
 use evaluation::running::left_of;
 use evaluation::running::run_points;
+use forest::limits;
 ghost use mathlib.Core.Path.{_≡_};
 ghost use lib.ListN.{getD, replicate, set};
 ghost use Rattle.terms.specs.Costs.{costOf};
 ghost use Rattle.terms.specs.code.Nodes.{nodeTable};
 ghost use Rattle.evaluation.specs.code.Budget.{Priced, held};
 ghost use Rattle.evaluation.specs.Running.{runPoints};
-ghost use Rattle.test_values.specs.Case.{all, answerOf, constraints, defs, funs, numbers, shifted, sorts};
+ghost use Rattle.test_values.specs.Case.{all, answerOf, constraints, defs, funs, numbers, room, shifted, sorts};
+
+// How many values that stack has room for.
+const STACK: usize = 1 + 6 + 2 * limits::NODES;
 
 // The node table of the case, four numbers a node: the bodies of d0 and f0, and the two constraints.
 const NODES: [u64; 64] = [
@@ -116,14 +120,21 @@ fn cost() -> u64
     cost_at(&nodes, &bodies, &costs, 6)
 }
 
+// A stack for the values of x and of the six nodes of the first constraint, and of the nodes of the two bodies, on which x is 33.
+fn stack() -> [u64; STACK]
+    ensures { λ r. ⌜ r ≡ replicate room 33 ⌝ }
+{
+    [33u64; STACK]
+}
+
 // The number of the first constraint's value where x is 33.
 fn value() -> u64
     ensures { λ r. ⌜ r ≡ 1 ⌝ }
 {
     let nodes = nodes();
     let bodies = bodies();
-    let env = [33u64; 1];
-    let v = eval_term(&nodes, &bodies, &env, 6, 15);
+    let mut stack = stack();
+    let v = eval_term(&nodes, &bodies, &mut stack, 0, 1, 6, 15);
     v.number
 }
 

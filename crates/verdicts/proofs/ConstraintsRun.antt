@@ -3,8 +3,8 @@ use Prim.Native.Nat.{ℕ, _+_, _*_, _≤_, _<_}
 use native.Mathlib.Omega.{arith}
 use mathlib.Core.Path.{_≡_, ap, _∙_}
 use mathlib.Core.List.{List, [], _∷_}
-use lib.ListN.{drop, length, length-take, take}
-use Rattle.forest.specs.Limits.{mostConstraints}
+use lib.ListN.{drop, length, length-map, length-take, take}
+use Rattle.forest.specs.Limits.{mostConstraints, mostVariables}
 use Rattle.forest.proofs.Lists.{drop-next}
 use Rattle.operators.specs.Sorts.{AllFit}
 use Rattle.terms.specs.Labels.{Terms}
@@ -16,8 +16,9 @@ use Rattle.terms.proofs.Sound.{Fits, one-value, pointScope}
 use Rattle.evaluation.specs.code.Budget.{Priced}
 use Rattle.evaluation.specs.code.Costs.{Pricing}
 use Rattle.evaluation.specs.Points.{pointAt, pointCount}
-use Rattle.evaluation.specs.code.Running.{AllValued, PointsRan, PointsRunnable, TermsAt}
+use Rattle.evaluation.specs.code.Running.{AllValued, PointsRan, PointsRunnable, SmallTerms, TermsAt}
 use Rattle.evaluation.specs.declared.Ran.{Ran}
+use Rattle.names.specs.Scopes.{Named}
 use Rattle.script.specs.code.Tables.{ConstraintsAt}
 use Rattle.script.specs.code.Places.{bodiesPlace, constraintsOf, constraintsPlace}
 use Rattle.script.specs.Script.{definitionsOf}
@@ -78,6 +79,16 @@ module _ {places nodes : List ℕ} {p : Progress} {sorts points : List ℕ} (q :
       all-valued (definitionsOf (k .defined)) (functionsWith k (termsOf bs)) (held .script .sorted .bodies) (functions-sorted k bs (held .response)) point
       (rw by (values-fit n h)) (k .constraints) (rw scope (held .script .sorted .constraints))
 
+  -- The constraints have at most 256 nodes each.
+  pub constraints-small : SmallTerms (q .tables .known .constraints)
+  constraints-small = q .tables .held .script .few .constraints
+
+  -- There are not too many variables.
+  pub variables-few : length sorts ≤ mostVariables
+  variables-few =
+      let counted = q .tables .held .counted in
+      omega (arith, ap length (q .sorts-are), length-map (q .tables .known .variables) (λ (v : Named). v .sort), counted .variables-are, counted .few-variables)
+
   module _ {bodies : List ℕ} (bodies-are : bodies ≡ drop bodiesPlace places) where
     -- The costs of the bodies can be told.
     abbrev pub pricing : Pricing nodes bodies (p .defined) (p .functions)
@@ -115,8 +126,10 @@ module _ {places nodes : List ℕ} {p : Progress} {sorts points : List ℕ} (q :
             holds = tables-hold (q .tables .held) bodies-are;
             priced = priced;
             few = constraints-few;
+            few-variables = variables-few;
             terms = q .tables .known .constraints;
             terms-at = constraints-at;
+            small = constraints-small;
             whole = list-whole;
             fits = values-fit;
             valued = constraints-valued;

@@ -3,15 +3,13 @@ use Prim.Native.Nat.{ℕ, _+_, _≤_}
 use native.Mathlib.Numerals.{add-one}
 use native.Mathlib.Omega.{arith}
 use mathlib.Core.Path.{_≡_, ap, sym, subst, _∙_}
-use mathlib.Core.List.{List, [], _∷_, map-map}
+use mathlib.Core.List.{List, [], _∷_}
 use lib.ListN.{drop, getD, length, length-map}
 use lib.Seq.{getD-drop}
 use Rattle.terms.specs.Labels.{Terms}
 use Rattle.terms.specs.Sorts.{Definition}
-use Rattle.terms.specs.code.Sorted.{signatures}
-use Rattle.evaluation.specs.code.Tables.{BodiesAt, CallsDefined, CallsEarlier, FewArguments, TermStands, BodiesHold}
+use Rattle.evaluation.specs.code.Tables.{BodiesAt, BodiesHold, CallsDefined, CallsEarlier, SmallBodies, TermStands}
 use Rattle.forest.specs.Limits.{mostDefined, mostFunctions}
-use Rattle.term_sorts.specs.code.Signatures.{RowsAre, functionSignature}
 use Rattle.names.specs.Scopes.{Defined, Function, signatureOf}
 use Rattle.script.specs.Script.{Known, definitionsOf}
 use Rattle.script.specs.code.Places.{bodiesPlace}
@@ -21,14 +19,8 @@ use Rattle.response.specs.code.Answers.{ResponseAt}
 use Rattle.outcome.specs.Derived.{termsOf}
 use Rattle.outcome.specs.Evaluated.{completed, functionsWith}
 use Rattle.verdicts.specs.code.Held.{Held}
-use Rattle.outcome.proofs.BodiesAssured.{functions-sorted, signatures-same}
+use Rattle.outcome.proofs.BodiesAssured.{functions-small, functions-sorted, signatures-same}
 use Rattle.evaluation.proofs.Calls.{defined-calls, function-calls}
-
--- Functions whose signatures have rows have few arguments.
-few-arguments : (rows : List ℕ) (base : ℕ) (ds : List Definition) → RowsAre rows base (signatures ds) → FewArguments ds
-unfolding RowsAre FewArguments
-few-arguments rows base [] are = tt
-few-arguments rows base (d ∷ earlier) are = (are .0 .few, few-arguments rows base earlier (are .1))
 
 module _ (text : List ℕ) (all : Terms) (places : List ℕ) where
   -- The bodies of a response stand behind those of `define-fun`s, the last first, where those before them do.
@@ -56,15 +48,13 @@ module _ {text names places nodes forms : List ℕ} {p : Progress} {k : Known} {
       h .counted .functions-are ∙ sym (length-map (k .functions) signatureOf) ∙ sym (ap length (signatures-same k bs (h .response)))
       ∙ length-map funs (λ (d : Definition). d .signature)
 
-  -- `define-fun`s have few arguments.
-  pub few-defined : FewArguments (definitionsOf (k .defined))
-  few-defined = few-arguments places 0 (definitionsOf (k .defined)) (rw map-map (h .bodies-held .places-hold .defined-rows))
+  -- The bodies of `define-fun`s have at most 256 nodes each.
+  pub small-defined : SmallBodies (definitionsOf (k .defined))
+  small-defined = h .script .few .bodies
 
-  -- So have synthesized functions.
-  pub few-functions : FewArguments (functionsWith k (termsOf bs))
-  few-functions =
-      few-arguments places functionSignature (functionsWith k (termsOf bs))
-      (rw (signatures-same k bs (h .response)) (h .bodies-held .places-hold .function-rows))
+  -- So have those of synthesized functions.
+  pub small-functions : SmallBodies (functionsWith k (termsOf bs))
+  small-functions = functions-small k bs (h .response)
 
   -- The body of each `define-fun` applies only those before it.
   pub earlier-calls : CallsEarlier (definitionsOf (k .defined))
@@ -102,8 +92,8 @@ module _ {text names places nodes forms : List ℕ} {p : Progress} {k : Known} {
           plain = h .bodies-held .places-hold .plain;
           defined-at = defined-at;
           functions-at = functions-at;
-          few-defined = few-defined;
-          few-functions = few-functions;
+          small-defined = small-defined;
+          small-functions = small-functions;
           defined-calls = earlier-calls;
           function-calls = response-calls;
           defined-most = defined-most;

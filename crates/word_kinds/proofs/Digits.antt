@@ -1,19 +1,21 @@
 -- Turns of the loops over a word's bytes.
-use Prim.Native.Nat.{ℕ, suc, _+_, _*_, _^_, _≤_, _<_}
+use Prim.Native.Nat.{ℕ, zero, suc, _+_, _*_, _^_, _≤_, _<_}
 use native.Mathlib.Numerals.{add-one}
 use native.Mathlib.Nat.{pow-suc, suc-mul, mul-le-mul-right, pow-le-pow-right}
 use native.Mathlib.Omega.{arith}
 use mathlib.Core.Path.{_≡_, refl, sym, _∙_}
 use mathlib.Core.Bool.{Bool, true, false, not, _&&_, _||_}
 use mathlib.Core.List.{List, [], _∷_}
-use borrow.Author.Tests.{ltb-true, not-true, not-false}
-use lib.Dec.{T, ltb}
+use borrow.Author.Tests.{eqb-true, leb-true, ltb-true, not-true, not-false}
+use lib.Dec.{T, eqb, leb, ltb}
 use lib.ListN.{length, getD, drop, drop-of-length-le}
 use Rattle.forest.proofs.Bools.{and-left, and-right, each, every}
 use Rattle.forest.proofs.Lists.{drop-next}
 use Rattle.word_kinds.specs.Kinds.{inClass, allIn, digitValue, spelled}
 use Rattle.word_kinds.specs.code.Digits.{digitsBelow}
+use Rattle.word_kinds.specs.Bytes.{binaryDigit, digit, hexDigit}
 use Rattle.word_kinds.specs.declared.Class.{Class}
+use Rattle.word_kinds.specs.declared.Class.the-variants.{BinaryDigits, Digits, HexDigits}
 
 module _ (class : Class) (w : List ℕ) (i : ℕ) (inv : allIn class (drop i w) ≡ allIn class w) where
   pub all-ends : length w ≤ i → true ≡ allIn class w
@@ -85,3 +87,40 @@ all-below class base t (b ∷ w) bytes e = go (inClass class b) refl (all-below 
     go : (x : Bool) → inClass class b ≡ x → (allIn class w ≡ true → digitsBelow base w ≡ true) → ltb (digitValue b) base && digitsBelow base w ≡ true
     go true q r = rw (rw q at (each 256 (digitIn class base) t b (bytes 0))) (r (rw q at e))
     go false q r = let z : _≡_ {A = Bool} false true = rw q at e in cc
+
+-- by the one test or the other
+by-either : {P : Type 0} (a b : Bool) → (a ≡ true → P) → (b ≡ true → P) → a || b ≡ true → P
+by-either true b f g e = f refl
+by-either false b f g e = g e
+
+-- a byte in a range of small bytes
+in-range : (low high b : ℕ) → high < 256 → leb low b && leb b high ≡ true → b < 256
+in-range low high b h e = omega (arith, leb-true b high (and-right (leb low b) (leb b high) e))
+
+-- bytes of a class of small bytes
+small-bytes : (class : Class) → ((b : ℕ) → inClass class b ≡ true → b < 256) → (w : List ℕ) → allIn class w ≡ true → (i : ℕ) → getD w i 0 < 256
+unfolding allIn
+small-bytes class small [] e i = omega arith
+small-bytes class small (b ∷ w) e zero = small b (and-left (inClass class b) (allIn class w) e)
+small-bytes class small (b ∷ w) e (suc i) = small-bytes class small w (and-right (inClass class b) (allIn class w) e) i
+
+-- the digits of a numeral
+pub decimal-below : (w : List ℕ) → allIn Digits w ≡ true → digitsBelow 10 w ≡ true
+decimal-below w e = all-below Digits 10 tt w (small-bytes Digits (λ b. in-range 48 57 b (omega arith)) w e) e
+
+-- the digits of `#x`
+pub hex-below : (w : List ℕ) → allIn HexDigits w ≡ true → digitsBelow 16 w ≡ true
+hex-below w e = all-below HexDigits 16 tt w (small-bytes HexDigits small w e) e
+  where
+    small : (b : ℕ) → hexDigit b ≡ true → b < 256
+    small b =
+        by-either (digit b || leb 65 b && leb b 70) (leb 97 b && leb b 102)
+        (by-either (digit b) (leb 65 b && leb b 70) (in-range 48 57 b (omega arith)) (in-range 65 70 b (omega arith)))
+        (in-range 97 102 b (omega arith))
+
+-- the digits of `#b`
+pub binary-below : (w : List ℕ) → allIn BinaryDigits w ≡ true → digitsBelow 2 w ≡ true
+binary-below w e = all-below BinaryDigits 2 tt w (small-bytes BinaryDigits small w e) e
+  where
+    small : (b : ℕ) → binaryDigit b ≡ true → b < 256
+    small b = by-either (eqb b 48) (eqb b 49) (λ h. omega (arith, eqb-true b 48 h)) (λ h. omega (arith, eqb-true b 49 h))

@@ -4,7 +4,7 @@ use Prim.Native.Char.{code}
 use native.Mathlib.Nat.{pow-le-pow-right, le-trans}
 use native.Mathlib.Omega.{arith}
 use mathlib.Core.Path.{_≡_, refl, sym, ap, _∙_}
-use mathlib.Core.Bool.{Bool, true, false, not, _&&_, _||_, cond}
+use mathlib.Core.Bool.{Bool, true, false, not, _&&_, cond}
 use mathlib.Core.List.{List, [], _∷_}
 use borrow.Author.Tests.{le-leb, lt-leb, ne-eqb, not-true, not-false}
 use lib.Dec.{T, leb, eqb, lit≤}
@@ -13,14 +13,14 @@ use lib.Seq.{take-all}
 use Rattle.forest.proofs.Bools.{and-left}
 use Rattle.forest.proofs.Lists.{drop-next}
 use Rattle.word_kinds.specs.Bytes.{digit, uncarried}
-use Rattle.word_kinds.specs.Kinds.{allIn, formed, hashed, kindOf, literal, numeral, spelled, symbol}
+use Rattle.word_kinds.specs.Kinds.{allIn, formed, hashed, kindOf, literal, numeral, numeralForm, spelled, symbol}
 use Rattle.word_kinds.specs.code.Digits.{Radix, binary, digitsBelow, hex}
 use Rattle.word_kinds.specs.declared.Class.{Class}
 use Rattle.word_kinds.specs.declared.Class.the-variants.{Digits, HexDigits, BinaryDigits, SymbolBytes}
 use Rattle.word_kinds.specs.declared.Fault.the-variants.{BadWord, PastLimit, NotCarried}
 use Rattle.word_kinds.specs.declared.Kind.{Kind}
 use Rattle.word_kinds.specs.declared.Kind.the-variants.{Open, Close, Numeral, Literal, Symbol, Faulty}
-use Rattle.word_kinds.proofs.Digits.{all-below}
+use Rattle.word_kinds.proofs.Digits.{binary-below, decimal-below, hex-below}
 
 -- ---- form, then size
 
@@ -41,12 +41,12 @@ power-fits : (base n most : ℕ) → 0 < base → n ≤ most → T (leb (base ^ 
 power-fits base n most z h t = le-trans (pow-le-pow-right z h) (lit≤ t)
 
 -- a word that begins with a digit
-module _ (w : List ℕ) (r : Bool) (e : r ≡ allIn Digits w) where
-  pub numeral-bad : not (r && (eqb (length w) 1 || not (eqb (getD w 0 0) (code "0")))) ≡ true → Faulty BadWord ≡ numeral w
+module _ (w : List ℕ) (r : Bool) (e : r ≡ numeralForm w) where
+  pub numeral-bad : not r ≡ true → Faulty BadWord ≡ numeral w
   unfolding numeral
   numeral-bad t = rw (← e) (form-bad _ _ _ t)
 
-  module _ (t : not (r && (eqb (length w) 1 || not (eqb (getD w 0 0) (code "0")))) ≡ false) where
+  module _ (t : not r ≡ false) where
     pub numeral-long : 9 < length w → Faulty PastLimit ≡ numeral w
     unfolding numeral
     numeral-long h = rw (← e) (form-large _ _ _ t (lt-leb _ _ h))
@@ -55,8 +55,8 @@ module _ (w : List ℕ) (r : Bool) (e : r ≡ allIn Digits w) where
     unfolding numeral
     numeral-is h v q = rw (← e, q) (form-right _ _ _ t (le-leb _ _ h))
 
-    pub numeral-digits : ((i : ℕ) → getD w i 0 < 256) → digitsBelow 10 w ≡ true
-    numeral-digits bytes = all-below Digits 10 tt w bytes (sym e ∙ and-left r _ (not-false _ t))
+    pub numeral-digits : digitsBelow 10 w ≡ true
+    numeral-digits = decimal-below w (and-left (allIn Digits w) _ (sym e ∙ not-false r t))
 
 pub numeral-power : (n : ℕ) → n ≤ 9 → 10 ^ n ≤ 2 ^ 64
 numeral-power n h = power-fits 10 n 9 (omega arith) h tt
@@ -113,12 +113,12 @@ module _ {class : Class} {bits base : ℕ} (radix : Radix class bits base) where
       unfolding literal
       literal-is h v q = rw (← e, q, base-power) (form-right _ _ _ t (le-leb _ _ (bits-fit (length w) h)))
 
-      pub literal-digits : ((i : ℕ) → getD w i 0 < 256) → digitsBelow base w ≡ true
-      literal-digits bytes = go radix (sym e ∙ and-left r _ (not-false _ t))
+      pub literal-digits : digitsBelow base w ≡ true
+      literal-digits = go radix (sym e ∙ and-left r _ (not-false _ t))
         where
           go : {class : Class} {bits base : ℕ} → Radix class bits base → allIn class w ≡ true → digitsBelow base w ≡ true
-          go hex all = all-below HexDigits 16 tt w bytes all
-          go binary all = all-below BinaryDigits 2 tt w bytes all
+          go hex all = hex-below w all
+          go binary all = binary-below w all
 
 -- a symbol
 module _ (w : List ℕ) (r : Bool) (e : r ≡ allIn SymbolBytes w) where

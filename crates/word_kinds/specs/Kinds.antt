@@ -38,12 +38,13 @@ spelled base v (b ∷ w) = spelled base (v * base + digitValue b) w
 unfoldable pub formed : (right small : Bool) → Kind → Kind
 formed right small kind = cond right (cond small kind (Faulty PastLimit)) (Faulty BadWord)
 
--- "a numeral: `0`, or digits not starting with 0, at most 9 digits (more: answer 4)"
+-- "a numeral: `0`, or digits not starting with 0": whether bytes, of which there are some, are of this form
+abbrev pub numeralForm : List ℕ → Bool
+numeralForm w = allIn Digits w && (eqb (length w) 1 || not (eqb (getD w 0 0) (code "0")))
+
+-- "at most 9 digits (more: answer 4)"
 unfoldable pub numeral : List ℕ → Kind
-numeral w =
-    formed (allIn Digits w && (eqb (length w) 1 || not (eqb (getD w 0 0) (code "0"))))
-    (leb (length w) numeralDigits)
-    (Numeral (spelled 10 0 w))
+numeral w = formed (numeralForm w) (leb (length w) numeralDigits) (Numeral (spelled 10 0 w))
 
 -- "`#x` with hex digits of either case, or `#b` with 0 and 1, at least one digit; over 64 bits is answer 4": w is what follows `#x` or `#b`, and
 -- each digit stands for `bits` bits.

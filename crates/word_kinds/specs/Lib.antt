@@ -1,4 +1,5 @@
 pub mod Bytes
 pub mod Limits
 pub mod Kinds
+pub mod Decimals
 pub mod code

@@ -12,3 +12,7 @@ literalBits = 64
 -- "a symbol: .. at most 64 bytes (more: answer 4)"
 abbrev pub symbolBytes : ℕ
 symbolBytes = 64
+
+-- "after `bv` stands a numeral of at most 20 digits (more: answer 4)" (E3)
+abbrev pub decimalDigits : ℕ
+decimalDigits = 20

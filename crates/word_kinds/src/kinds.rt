@@ -11,7 +11,7 @@ ghost use mathlib.Core.Path.{_≡_};
 ghost use mathlib.Core.Bool.{true};
 ghost use Prim.Native.Nat.{_-_, _^_, _<_, _≤_};
 ghost use lib.ListN.{length};
-ghost use Rattle.word_kinds.specs.Kinds.{allIn, digitValue, hashed, inClass, kindOf, literal, numeral, spelled, symbol};
+ghost use Rattle.word_kinds.specs.Kinds.{allIn, digitValue, hashed, inClass, kindOf, literal, numeral, numeralForm, spelled, symbol};
 ghost use Rattle.word_kinds.specs.code.Digits.{Radix, digitsBelow};
 
 // A numeral's digits, a literal's bits and a symbol's bytes at the most.
@@ -55,7 +55,7 @@ fn less(number: u64, other: u64) -> u64
 }
 
 // The value of a digit of base 16 or less.
-fn digit_value(byte: u8) -> u64
+pub(crate) fn digit_value(byte: u8) -> u64
     ensures { λ r. ⌜ r ≡ digitValue byte ⌝ }
 {
     let code = byte as u64;
@@ -82,12 +82,20 @@ fn spell(base: u64, digits: &[u8]) -> u64
     v
 }
 
+// Whether bytes, of which there are some, are `0`, or digits not starting with 0.
+pub(crate) fn is_numeral(word: &[u8]) -> bool
+    requires { ⌜ 0 < length (now word) ⌝ }
+    ensures { λ r. ⌜ r ≡ numeralForm (now (word .entry)) ⌝ }
+{
+    all_in(Class::Digits, word) & ((word.len() == 1) | (word[0] != b'0'))
+}
+
 // A word that begins with a digit.
 fn numeral_of(word: &[u8]) -> Kind
     requires { ⌜ 0 < length (now word) ⌝ }
     ensures { λ r. ⌜ r ≡ numeral (now (word .entry)) ⌝ }
 {
-    if !(all_in(Class::Digits, word) & ((word.len() == 1) | (word[0] != b'0'))) {
+    if !is_numeral(word) {
         return Kind::Faulty(Fault::BadWord);
     }
     if word.len() > NUMERAL_DIGITS {

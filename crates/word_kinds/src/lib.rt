@@ -1,5 +1,6 @@
 //! Words by their bytes: what a word is, or why it is refused.
 mod bytes;
+pub mod decimals;
 pub mod kinds;
 
 // The classes of bytes of which words are made.
@@ -18,6 +19,12 @@ pub enum Fault {
     Bracket,
     PastLimit,
     NotCarried,
+}
+
+// The value of a constant's numeral, where it fits 64 bits.
+pub struct Decimal {
+    pub fits: bool,
+    pub value: u64,
 }
 
 // What a word is: a numeral has its value, a literal its width in bits and its value.

@@ -180,7 +180,9 @@ fn refusal(number: u8, text: &str, word: &str) -> String {
 
 /// The limit that a word is past, where the word itself says which one it is.
 fn limit(word: &str) -> &'static str {
-    let numeral = word.bytes().all(|digit| digit.is_ascii_digit());
+    let is_digits = |text: &str| text.bytes().all(|digit| digit.is_ascii_digit());
+    let numeral = is_digits(word);
+    let constant = word.strip_prefix("bv").is_some_and(is_digits);
     let bits = match word.get(..2) {
         Some("#x") => 4 * (word.len() - 2),
         Some("#b") => word.len() - 2,
@@ -191,6 +193,7 @@ fn limit(word: &str) -> &'static str {
         _ if numeral && word.len() > 9 => "a numeral has at most 9 digits",
         _ if numeral => "a width is at most 64",
         _ if word.len() > 64 => "a symbol has at most 64 bytes",
+        _ if constant && word.len() > 22 => "a constant has at most 20 digits",
         _ => "docs/COMMAND.md lists the limits",
     }
 }
@@ -297,11 +300,16 @@ mod tests {
     #[test]
     fn limits_that_a_word_shows() {
         let symbol = "s".repeat(65);
+        let (digits, more) = ("9".repeat(21), "9".repeat(63));
+        let (constant, longer) = (format!("bv{digits}"), format!("bv{more}"));
         for (word, limit) in [
             ("1234567890", "a numeral has at most 9 digits"),
             ("65", "a width is at most 64"),
             ("#x00000000000000000", "a literal has at most 64 bits"),
             (symbol.as_str(), "a symbol has at most 64 bytes"),
+            (constant.as_str(), "a constant has at most 20 digits"),
+            (longer.as_str(), "a symbol has at most 64 bytes"),
+            ("bv5", "docs/COMMAND.md lists the limits"),
             ("(", "docs/COMMAND.md lists the limits"),
         ] {
             assert!(refusal(4, "script", word).ends_with(limit), "{word}");

@@ -1,7 +1,9 @@
-//! Derivations, step by step: the rule numbers that the checker shows, replayed on the words of the body.
+//! Derivations, step by step: the rule numbers that the checker shows, replayed on the body.
 
-use simple::grammar::Form;
-use simple::replay::{is_argument, is_literal};
+use crate::pieces::{pieces, Piece};
+use simple::eval::{literal_value, Value};
+use simple::grammar::{Form, Grammar, Rule};
+use simple::replay::is_argument;
 use simple::script::Synthesized;
 use simple::tree::{joined, Tree};
 
@@ -14,115 +16,142 @@ pub struct Step {
     pub rule: String,
     /// The literal or argument that a rule `(Constant σ)` or `(Variable σ)` stands for here.
     pub given: Option<String>,
+    /// The rule as the body writes it, where the body writes a literal otherwise.
+    pub written: Option<String>,
     /// The term after the step.
     pub term: String,
 }
 
-/// The words of a term while it is derived.
+/// A part of the term that is derived: words of the body, or a non-terminal and the node of the body that is to come from it.
+#[derive(Clone, Debug)]
+enum Part<'a> {
+    Words(String),
+    Nonterminal(usize, &'a Tree),
+}
+
+/// A term while it is derived.
 struct Replay<'a> {
     function: &'a Synthesized,
-    body: Vec<&'a str>,
-    /// How many words of the body are reached.
-    done: usize,
-    /// The words still to come, the next one last.
-    pending: Vec<&'a str>,
+    term: Vec<Part<'a>>,
 }
 
 /// The steps by which a function's grammar derives a body; an error says where the rule numbers do not lead to it.
 pub fn steps(function: &Synthesized, body: &Tree, shown: &[u16]) -> Result<Vec<Step>, String> {
-    let start = function.grammar.nonterminals.first();
     let mut replay = Replay {
         function,
-        body: words(body),
-        done: 0,
-        pending: start.iter().map(|one| one.name.as_str()).collect(),
+        term: vec![Part::Nonterminal(0, body)],
     };
     let steps = shown.iter().map(|&number| replay.step(number));
     let steps = steps.collect::<Result<Vec<Step>, String>>()?;
-    match replay.nonterminal()? {
-        None if replay.done == replay.body.len() => Ok(steps),
-        _ => Err(format!("the rules of {} end early", function.name)),
+    match replay.leftmost() {
+        None => Ok(steps),
+        Some(_) => Err(format!("the rules of {} end early", function.name)),
     }
 }
 
 impl<'a> Replay<'a> {
-    /// Passes the words up to the leftmost non-terminal, each of which must be the body's, and gives its index.
-    fn nonterminal(&mut self) -> Result<Option<usize>, String> {
-        while let Some(word) = self.pending.pop() {
-            let mut nonterminals = self.function.grammar.nonterminals.iter();
-            let found = nonterminals.position(|one| one.name == word);
-            if found.is_some() {
-                return Ok(found);
-            }
-            if self.body.get(self.done) != Some(&word) {
-                return Err(format!("{word} is not word {} of the body", self.done));
-            }
-            self.done += 1;
-        }
-        Ok(None)
+    /// The leftmost non-terminal: where it stands in the term, its index and its node.
+    fn leftmost(&self) -> Option<(usize, usize, &'a Tree)> {
+        let mut parts = self.term.iter().enumerate();
+        parts.find_map(|(place, part)| match part {
+            Part::Nonterminal(index, node) => Some((place, *index, *node)),
+            Part::Words(_) => None,
+        })
     }
 
     /// Replaces the leftmost non-terminal by a rule.
     fn step(&mut self, number: u16) -> Result<Step, String> {
-        let nonterminal = self.nonterminal()?.ok_or("there is no non-terminal left")?;
+        let (place, index, node) = self.leftmost().ok_or("there is no non-terminal left")?;
         let grammar = &self.function.grammar;
-        let name = &grammar.nonterminals[nonterminal].name;
+        let name = &grammar.nonterminals[index].name;
         let rule = grammar.rules.get(usize::from(number));
-        let rule = rule.filter(|rule| rule.nonterminal == nonterminal);
+        let rule = rule.filter(|rule| rule.nonterminal == index);
         let rule = rule.ok_or(format!("{number} is no rule of {name}"))?;
-        let word = self.body.get(self.done).copied().unwrap_or_default();
-        let given = match &rule.form {
-            Form::Term(term) => {
-                self.pending.extend(words(term).into_iter().rev());
-                None
-            }
-            any if derives(any, word, self.function) => {
-                self.pending.push(word);
-                Some(word)
-            }
-            _ => return Err(format!("rule {number} does not derive {word}")),
+        let parts = self.parts(rule, node);
+        let parts = parts.ok_or(format!("rule {number} does not derive {node}"))?;
+        let own = rule.form.to_string();
+        let written = Some(self.text(&parts)).filter(|written| *written != own);
+        let (given, written) = match rule.form {
+            Form::Term(_) => (None, written),
+            _ => (written, None),
         };
+        self.term.splice(place..=place, parts);
         Ok(Step {
             number,
             nonterminal: name.clone(),
-            rule: rule.form.to_string(),
-            given: given.map(str::to_string),
-            term: self.term(),
+            rule: own,
+            given,
+            written,
+            term: self.text(&self.term),
         })
     }
 
-    /// The term so far.
-    fn term(&self) -> String {
-        let done = self.body[..self.done].iter();
-        joined(done.chain(self.pending.iter().rev()).copied())
+    /// What a rule puts at a node of the body; none where it does not derive the node.
+    fn parts(&self, rule: &Rule, node: &'a Tree) -> Option<Vec<Part<'a>>> {
+        match &rule.form {
+            Form::Term(term) => matched(&self.function.grammar, term, node),
+            any => derives(any, &pieces(node), self.function).then(|| words(node)),
+        }
+    }
+
+    /// Parts of the term on one line.
+    fn text(&self, parts: &[Part]) -> String {
+        let nonterminals = &self.function.grammar.nonterminals;
+        joined(parts.iter().map(|part| match part {
+            Part::Words(words) => words,
+            Part::Nonterminal(index, _) => nonterminals[*index].name.as_str(),
+        }))
     }
 }
 
-/// All words of a tree with brackets, in the order of the text.
-fn words(tree: &Tree) -> Vec<&str> {
-    tree.words().into_iter().map(|(_, word)| word).collect()
+/// A node of the body without non-terminals.
+fn words<'a>(node: &Tree) -> Vec<Part<'a>> {
+    vec![Part::Words(node.to_string())]
 }
 
-/// Whether `(Constant σ)` or `(Variable σ)` derives a word.
-fn derives(form: &Form, word: &str, function: &Synthesized) -> bool {
-    match form {
-        Form::Constant(sort) => is_literal(word, *sort),
-        Form::Variable(sort) => is_argument(word, *sort, &function.arguments),
-        Form::Term(_) => false,
+/// The parts of a rule's term at a node of the body: literals are compared by value and width, all else as it is written.
+fn matched<'a>(grammar: &Grammar, term: &Tree, node: &'a Tree) -> Option<Vec<Part<'a>>> {
+    if let Some(index) = grammar.nonterminal(term) {
+        return Some(vec![Part::Nonterminal(index, node)]);
+    }
+    if let Some(value) = literal_value(term) {
+        return (literal_value(node) == Some(value)).then(|| words(node));
+    }
+    let (Some(term), Some(items)) = (term.items(), node.items()) else {
+        return term.same_words(node).then(|| words(node));
+    };
+    if term.len() != items.len() {
+        return None;
+    }
+    let inner = term
+        .iter()
+        .zip(items)
+        .map(|(term, node)| matched(grammar, term, node));
+    let inner = inner.collect::<Option<Vec<Vec<Part>>>>()?.concat();
+    let bracket = |bracket: &str| vec![Part::Words(bracket.to_string())];
+    Some([bracket("("), inner, bracket(")")].concat())
+}
+
+/// Whether `(Constant σ)` or `(Variable σ)` derives what has these pieces.
+fn derives(form: &Form, pieces: &[Piece], function: &Synthesized) -> bool {
+    match (form, pieces) {
+        (Form::Constant(sort), [only]) => only.value.map(Value::sort) == Some(*sort),
+        (Form::Variable(sort), [only]) => is_argument(&only.text, *sort, &function.arguments),
+        _ => false,
     }
 }
 
-/// The first word of a body that no rule of the grammar can give, with its offset.
-pub fn stranger<'a>(function: &Synthesized, body: &'a Tree) -> Option<(usize, &'a str)> {
-    let given = |word: &str| {
+/// The first word or literal of a body that no rule of the grammar can give.
+pub fn stranger(function: &Synthesized, body: &Tree) -> Option<Piece> {
+    let given = |piece: &Piece| {
         let mut rules = function.grammar.rules.iter();
         rules.any(|rule| match &rule.form {
-            Form::Term(term) => words(term).contains(&word),
-            any => derives(any, word, function),
+            Form::Term(term) => pieces(term).iter().any(|own| own.same(piece)),
+            any => derives(any, std::slice::from_ref(piece), function),
         })
     };
-    let mut words = body.words().into_iter();
-    words.find(|(_, word)| !["(", ")"].contains(word) && !given(word))
+    let mut pieces = pieces(body).into_iter();
+    pieces.find(|piece| !["(", ")"].contains(&piece.text.as_str()) && !given(piece))
 }
 
 #[cfg(test)]
@@ -167,6 +196,30 @@ mod tests {
     }
 
     #[test]
+    fn a_literal_that_is_written_otherwise() {
+        let script = "(set-logic BV)
+            (synth-fun f ((a (_ BitVec 8))) (_ BitVec 8) ((bv5 (_ BitVec 8)) (T (_ BitVec 8)))
+            ((bv5 (_ BitVec 8) ((ite (= T (_ bv5 8)) bv5 #x00) T)) (T (_ BitVec 8) (a #x0F (Constant (_ BitVec 8))))))
+            (check-synth)";
+        let (function, body) = parts(script, "(ite (= #b00001111 #x05) (_ bv7 8) #x00)");
+        let steps = steps(&function, &body, &[0, 3, 1, 4]).expect("a derivation");
+        let said = steps
+            .iter()
+            .map(|one| (one.given.as_deref(), one.written.as_deref()));
+        let expected = [
+            (None, Some("(ite (= T #x05) bv5 #x00)")),
+            (None, Some("#b00001111")),
+            (None, None),
+            (Some("(_ bv7 8)"), None),
+        ];
+        assert_eq!(said.collect::<Vec<_>>(), expected);
+        assert_eq!(steps[2].term, "(ite (= #b00001111 #x05) T #x00)");
+        assert_eq!(steps[3].term, body.to_string());
+        let (_, other) = parts(script, "(ite (= #x0F #x06) #x07 #x00)");
+        assert!(super::steps(&function, &other, &[0, 3, 1, 4]).is_err());
+    }
+
+    #[test]
     fn other_rules_do_not() {
         let (function, body) = parts(SCRIPT, "(bvand a #x0f)");
         for shown in [
@@ -186,12 +239,18 @@ mod tests {
     fn words_that_no_rule_gives() {
         for (body, expected) in [
             ("(bvand a #x0f)", None),
-            ("(bvand a #b0)", Some((9, "#b0"))),
-            ("(bvor a p)", Some((1, "bvor"))),
-            ("p", Some((0, "p"))),
+            ("(bvand a (_ bv15 8))", None),
+            ("(bvand a #b0)", Some((9..12, "#b0"))),
+            ("(bvand a (_  bv5 4))", Some((9..19, "(_ bv5 4)"))),
+            ("(bvor a p)", Some((1..5, "bvor"))),
+            ("p", Some((0..1, "p"))),
         ] {
             let (function, body) = parts(SCRIPT, body);
-            assert_eq!(stranger(&function, &body), expected);
+            let found = stranger(&function, &body);
+            let found = found
+                .as_ref()
+                .map(|piece| (piece.at.clone(), piece.text.as_str()));
+            assert_eq!(found, expected);
         }
     }
 
@@ -216,7 +275,7 @@ mod tests {
                 let steps = steps.expect("a derivation");
                 let last = steps.last().map(|step| step.term.as_str());
                 assert_eq!(last, Some(body.to_string().as_str()), "seed {seed}");
-                assert_eq!(stranger(function, body), None, "seed {seed}");
+                assert!(stranger(function, body).is_none(), "seed {seed}");
             }
         }
     }

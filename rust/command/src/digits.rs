@@ -1,15 +1,19 @@
 //! The one digit: the command is asked, with default options, about every change of one digit of one constant in the bodies of the accepted pairs.
 
 use crate::arguments::BUDGET;
+use crate::pieces::pieces;
 use crate::points::{Origin, Points, Wanted};
 use crate::refute::ask;
 use crate::run::{run, Given, Run};
 use crate::smt::question;
 use crate::source::{Source, Text};
-use simple::words::{self, Kind};
+use simple::eval::Value;
+use simple::tree::trees;
+use simple::words;
 use std::collections::HashSet;
 use std::ffi::OsStr;
 use std::fs;
+use std::ops::Range;
 use std::path::{Path, PathBuf};
 use sverdhyll::Library;
 
@@ -52,35 +56,77 @@ fn pairs(folder: &Path) -> Vec<(PathBuf, PathBuf)> {
     responses.filter_map(script).collect()
 }
 
-/// All changes of one digit of one constant of a response.
-fn mutants(response: &Path, text: &[u8]) -> Vec<Mutant> {
-    let words = words::read(text, usize::MAX).unwrap_or_default();
-    let words = words
+/// The constants of a text: where each literal of bits stands.
+fn constants(text: &[u8]) -> Vec<Range<usize>> {
+    let trees = trees(words::read(text, usize::MAX).unwrap_or_default());
+    let pieces = trees.iter().flat_map(pieces);
+    let constants = pieces.filter(|piece| matches!(piece.value, Some(Value::Bits { .. })));
+    constants.map(|piece| piece.at).collect()
+}
+
+/// Where the digits of a constant stand, and those that it may have there.
+fn digits(text: &[u8], constant: &Range<usize>) -> (Range<usize>, &'static str) {
+    let (mark, digits) = match &text[constant.start..constant.start + 2] {
+        b"#x" => ("#x", "0123456789abcdef"),
+        b"#b" => ("#b", "01"),
+        _ => ("bv", "0123456789"),
+    };
+    let written = &text[constant.clone()];
+    let mark = written.windows(2).position(|two| two == mark.as_bytes());
+    let start = constant.start + mark.expect("a mark before the digits") + 2;
+    let length = text[start..]
         .iter()
-        .filter(|word| matches!(word.kind, Kind::Bits { .. }));
-    let places = words.flat_map(|word| (2..word.text.len()).map(move |place| (word, place)));
-    let changes = places.flat_map(|(word, place)| {
-        let digits = if word.text.starts_with("#x") {
-            "0123456789abcdef"
-        } else {
-            "01"
-        };
-        let others = digits.bytes();
-        others.map(move |digit| (word, place, digit))
+        .take_while(|digit| digit.is_ascii_hexdigit());
+    (start..start + length.count(), digits)
+}
+
+/// All changes of one digit of one constant of a response that leave it a constant.
+fn mutants(response: &Path, text: &[u8]) -> Vec<Mutant> {
+    let constants = constants(text);
+    let changes = constants.iter().flat_map(|constant| {
+        let (places, digits) = digits(text, constant);
+        let changes = places.flat_map(|place| digits.bytes().map(move |digit| (place, digit)));
+        changes.map(move |(place, digit)| (constant, place, digit))
     });
-    let changes = changes
-        .filter(|(word, place, digit)| !word.text.as_bytes()[*place].eq_ignore_ascii_case(digit));
-    let mutant = |(word, place, digit): (&words::Word, usize, u8)| {
+    let changes = changes.filter(|(_, place, digit)| !text[*place].eq_ignore_ascii_case(digit));
+    let mutant = |(constant, place, digit): (&Range<usize>, usize, u8)| {
         let mut changed = text.to_vec();
-        changed[word.start + place] = digit;
-        let constant = String::from_utf8_lossy(&changed[word.start..word.start + word.text.len()]);
-        let name = format!("{} {} {constant}", response.display(), word.start);
+        changed[place] = digit;
+        let written = String::from_utf8_lossy(&changed[constant.clone()]);
+        let name = format!("{} {} {written}", response.display(), constant.start);
         Mutant {
             name,
             text: changed,
         }
     };
-    changes.map(mutant).collect()
+    let mutants = changes.map(mutant);
+    mutants
+        .filter(|mutant| self::constants(&mutant.text) == constants)
+        .collect()
+}
+
+#[test]
+fn changes_leave_constants() {
+    let of = |text: &str| {
+        let mutants = mutants(Path::new("r"), text.as_bytes());
+        mutants
+            .into_iter()
+            .map(|mutant| mutant.name)
+            .collect::<Vec<String>>()
+    };
+    assert_eq!(of("(f #b10 bv7)"), ["r 3 #b00", "r 3 #b11"]);
+    assert_eq!(of("(f #xa)").len(), 15);
+    let decimals = of("((_ bv12 4))");
+    assert_eq!(
+        decimals,
+        [
+            "r 1 (_ bv10 4)",
+            "r 1 (_ bv11 4)",
+            "r 1 (_ bv13 4)",
+            "r 1 (_ bv14 4)",
+            "r 1 (_ bv15 4)"
+        ]
+    );
 }
 
 /// What the command finds of a script and a response with default options.

@@ -1,7 +1,10 @@
 //! Edge values: numbers at which terms tend to change, from the literals of the two texts and from the sorts.
 
+use crate::pieces::{pieces, Piece};
+use simple::eval::Value;
 use simple::operators::Sort;
-use simple::words::{self, Kind, Word};
+use simple::tree::{trees, Tree};
+use simple::words;
 use std::collections::HashSet;
 
 /// A literal: its width and its bits.
@@ -9,12 +12,14 @@ pub type Literal = (u32, u64);
 
 /// The bit-vector literals of texts, each once, in their order.
 pub fn literals(texts: &[&[u8]]) -> Vec<Literal> {
-    let words = |text: &&[u8]| words::read(text, usize::MAX).unwrap_or_default();
-    let literal = |word: Word| match word.kind {
-        Kind::Bits { width, value } => Some((width, value)),
+    let read = |text: &&[u8]| trees(words::read(text, usize::MAX).unwrap_or_default());
+    let pieces = |tree: Tree| pieces(&tree);
+    let literal = |piece: Piece| match piece.value {
+        Some(Value::Bits { width, bits }) => Some((width, bits)),
         _ => None,
     };
-    let literals = texts.iter().flat_map(words).filter_map(literal);
+    let literals = texts.iter().flat_map(read).flat_map(pieces);
+    let literals = literals.filter_map(literal);
     let mut known = HashSet::new();
     literals.filter(|one| known.insert(*one)).collect()
 }
@@ -61,6 +66,8 @@ mod tests {
     fn literals_of_texts_come_once() {
         let found = literals(&[b"(a #x0F #b1 #x0f) ; #xff", b"#b1 #b00001111 #x1"]);
         assert_eq!(found, [(8, 15), (1, 1), (4, 1)]);
+        let found = literals(&[b"(bv7 (_ bv200 8) ((_ extract 3 0) #xC8) (_ bv3 2) (_ bv4 2))"]);
+        assert_eq!(found, [(8, 200), (2, 3)]);
         assert!(literals(&[b"(#x0"]).is_empty());
     }
 

@@ -20,6 +20,25 @@ pub fn value(script: &Script, bodies: &[Tree], term: &Tree, numbers: &[u64]) -> 
     short.then(|| functions.value(term, &named_values(&script.variables, numbers)))
 }
 
+/// The first two neighbours of a false equation whose values differ at a point, with the values; none where these take too long.
+pub fn differing<'a>(
+    script: &Script,
+    bodies: &[Tree],
+    equation: &'a Tree,
+    numbers: &[u64],
+) -> Option<[(&'a Tree, Value); 2]> {
+    let [head, sides @ ..] = equation.items()? else {
+        return None;
+    };
+    if head.symbol() != Some("=") {
+        return None;
+    }
+    let valued = |side: &'a Tree| Some((side, value(script, bodies, side, numbers)?));
+    let valued = sides.iter().map(valued).collect::<Option<Vec<_>>>()?;
+    let mut neighbours = valued.windows(2).map(|two| [two[0], two[1]]);
+    neighbours.find(|[left, right]| left.1 != right.1)
+}
+
 #[cfg(test)]
 mod tests {
     use super::*;
@@ -38,5 +57,19 @@ mod tests {
         let bodies = bodies.expect("a sound response");
         let value = |index: usize| value(&script, &bodies, &script.constraints[index].term, &[0]);
         assert_eq!((value(0), value(1)), (None, Some(Value::Bool(true))));
+    }
+
+    #[test]
+    fn the_first_neighbours_that_differ() {
+        let text = "(set-logic BV)(declare-var x (_ BitVec 8))(synth-fun f () Bool ((B Bool)) ((B Bool (true))))
+            (constraint (= x #x05 (_ bv5 8) (bvadd x #b00000001) #x07))(constraint (= x (_ bv5 8)))(constraint f)(check-synth)";
+        let script = script::read(text.as_bytes()).expect("a sound script");
+        let said = |index: usize| {
+            let sides = differing(&script, &[], &script.constraints[index].term, &[5]);
+            sides.map(|sides| sides.map(|(side, value)| format!("{side} = {value}")))
+        };
+        let expected = ["(_ bv5 8) = 0x05", "(bvadd x #b00000001) = 0x06"];
+        assert_eq!(said(0), Some(expected.map(str::to_string)));
+        assert_eq!((said(1), said(2)), (None, None));
     }
 }

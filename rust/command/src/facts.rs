@@ -1,7 +1,7 @@
 //! What is known of a check once the checker has answered: the same facts for people and for programs.
 
 use crate::derivation::{steps, Step};
-use crate::evaluation::value;
+use crate::evaluation::differing;
 use crate::failure::Failure;
 use crate::guards::Guard;
 use crate::notes::{cause, Cause};
@@ -42,7 +42,7 @@ pub struct Judged {
     pub text: String,
     /// The variables with their values.
     pub point: Vec<(String, Value)>,
-    /// The texts and values of the two sides, where the constraint is a false equation.
+    /// The texts and values of the first two neighbours that differ, where the constraint is a false equation.
     pub sides: Option<[(String, Value); 2]>,
 }
 
@@ -196,24 +196,13 @@ fn judged(given: &Given, answer: Answer, numbers: &[u64]) -> Option<Judged> {
     let named = matches!(answer.number, 14 | 15);
     let index = named.then_some(answer.second as usize)?;
     let constraint = given.read.constraints.get(index)?;
-    let side = |term| {
-        Some((
-            format!("{term}"),
-            value(&given.read, &given.bodies, term, numbers)?,
-        ))
-    };
-    let sides = match constraint.term.items() {
-        Some([head, left, right]) if answer.number == 14 && head.symbol() == Some("=") => {
-            let sides = side(left).zip(side(right));
-            sides.map(|(left, right)| [left, right])
-        }
-        _ => None,
-    };
+    let sides = differing(&given.read, &given.bodies, &constraint.term, numbers);
+    let sides = sides.filter(|_| answer.number == 14);
     Some(Judged {
         located: located_word(&given.script, constraint.place, 1),
         text: constraint.term.to_string(),
         point: point(&given.read.variables, numbers),
-        sides: sides.filter(|[left, right]| left.1 != right.1),
+        sides: sides.map(|sides| sides.map(|(side, value)| (side.to_string(), value))),
     })
 }
 

@@ -2,6 +2,7 @@
 
 use crate::program::Program;
 use simple::eval::Value;
+use simple::operands;
 use simple::script::Script;
 use simple::tree::Tree;
 
@@ -45,27 +46,25 @@ impl<'a> Count<'a> {
 
     /// Takes in the guards of a term that stands in the right sides of others.
     fn enter(&mut self, constraint: usize, term: &Tree, outer: &[usize]) {
-        let items = term.items().unwrap_or_default();
-        let (Some([head, left, right]), Some(node)) = (items.get(..3), self.node(term)) else {
-            return items
-                .iter()
-                .for_each(|item| self.enter(constraint, item, outer));
+        let Some((lefts, right)) = sides(term) else {
+            let operands = operands(term).iter();
+            return operands.for_each(|operand| self.enter(constraint, operand, outer));
         };
-        if head.symbol() != Some("=>") || items.len() != 3 {
-            return items
-                .iter()
-                .for_each(|item| self.enter(constraint, item, outer));
+        let nodes = self.node(term).map(|node| self.program.operands(node));
+        let mut outer = outer.to_vec();
+        for (left, node) in lefts.iter().zip(nodes.unwrap_or_default()) {
+            let nodes = [&outer[..], &[*node]].concat();
+            self.guards.push(Guard {
+                constraint,
+                place: left.start(),
+                term: left.to_string(),
+                held: 0,
+            });
+            self.nodes.push(nodes.clone());
+            self.enter(constraint, left, &outer);
+            outer = nodes;
         }
-        let nodes = [outer, &[self.program.operands(node)[0]]].concat();
-        self.guards.push(Guard {
-            constraint,
-            place: left.start(),
-            term: left.to_string(),
-            held: 0,
-        });
-        self.nodes.push(nodes.clone());
-        self.enter(constraint, left, outer);
-        self.enter(constraint, right, &nodes);
+        self.enter(constraint, right, &outer);
     }
 
     /// The node of an application of an operator in a constraint.
@@ -98,6 +97,15 @@ impl<'a> Count<'a> {
     }
 }
 
+/// The left sides of a `=>` and its right side: with more than two operands it groups from the right, so that each but the last is a left side.
+pub fn sides(term: &Tree) -> Option<(&[Tree], &Tree)> {
+    let [head, sides @ ..] = term.items()? else {
+        return None;
+    };
+    let (right, lefts) = sides.split_last()?;
+    (head.symbol() == Some("=>")).then_some((lefts, right))
+}
+
 #[cfg(test)]
 mod tests {
     use super::*;
@@ -121,5 +129,23 @@ mod tests {
             .collect();
         assert_eq!(found, [(0, "p", 2), (0, "(not q)", 2), (1, "(and p q)", 0)]);
         assert_eq!(&text[guards[2].place..guards[2].place + 9], "(and p q)");
+    }
+
+    #[test]
+    fn all_but_the_last_operand_are_left_sides() {
+        let text = "(set-logic BV)(declare-var p Bool)(declare-var q Bool)(synth-fun f () Bool ((B Bool)) ((B Bool (true))))
+            (constraint (=> p (not q) (=> q f) f))(check-synth)";
+        let script = simple::script::read(text.as_bytes()).expect("a sound script");
+        let bodies = simple::response::read(b"((define-fun f () Bool true))", &script);
+        let bodies = bodies.expect("a sound response");
+        let program = program(&script, &bodies).expect("a program");
+        let mut count = Count::new(&script, &program);
+        count.add(&[0, 0, 0, 1, 1, 0, 1, 1]);
+        let guards = count.guards();
+        let found: Vec<(&str, u64)> = guards
+            .iter()
+            .map(|one| (one.term.as_str(), one.held))
+            .collect();
+        assert_eq!(found, [("p", 2), ("(not q)", 1), ("(=> q f)", 1), ("q", 0)]);
     }
 }

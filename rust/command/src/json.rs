@@ -16,7 +16,7 @@ use sverdhyll::digest::sha256;
 /// The name of the format, and its version: a later one keeps the keys of an earlier one.
 const FORMAT: [(&str, Json); 2] = [
     ("format", Json::Word("sverdhyll")),
-    ("version", Json::Number(1)),
+    ("version", Json::Number(2)),
 ];
 
 /// A JSON value.
@@ -215,7 +215,11 @@ fn step(step: &Step) -> Json {
         ("rule", Number(step.number.into())),
         ("nonterminal", text(&step.nonterminal)),
         ("text", text(&step.rule)),
-        ("given", or_null(step.given.as_ref(), |word| text(word))),
+        ("given", or_null(step.given.as_ref(), |given| text(given))),
+        (
+            "written",
+            or_null(step.written.as_ref(), |written| text(written)),
+        ),
         ("term", text(&step.term)),
     ])
 }

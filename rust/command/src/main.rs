@@ -16,6 +16,7 @@ mod failure;
 mod guards;
 mod json;
 mod notes;
+mod pieces;
 mod place;
 mod points;
 mod program;

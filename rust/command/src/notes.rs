@@ -158,7 +158,7 @@ impl Reading<'_> {
         Some(Hint::within(at..at + 1, "this bracket is never closed"))
     }
 
-    /// The smallest part of a body that is not derived, and the first word that no rule gives.
+    /// The smallest part of a body that is not derived, and the first word or literal that no rule gives.
     fn underivable(&self, given: &Given, index: usize) -> Cause {
         let function = given.read.synthesized.get(index);
         let Some((function, body)) = function.zip(given.bodies.get(index)) else {
@@ -166,9 +166,9 @@ impl Reading<'_> {
         };
         let mut hints = parts::hints(function, body);
         let told = |at: usize| hints.iter().any(|hint| hint.at.as_ref().is_some_and(|told| told.start == at));
-        if let Some((at, word)) = stranger(function, body).filter(|(at, _)| !told(*at)) {
-            let message = format!("no rule of the grammar of {} gives `{word}`", function.name);
-            hints.push(Hint::within(at..at + word.len(), message));
+        if let Some(piece) = stranger(function, body).filter(|piece| !told(piece.at.start)) {
+            let message = format!("no rule of the grammar of {} gives `{}`", function.name, piece.text);
+            hints.push(Hint::within(piece.at, message));
         }
         Cause {
             sentence: None,

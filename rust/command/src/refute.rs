@@ -89,17 +89,10 @@ fn point(text: &str, variables: &[Sorted]) -> Option<Vec<u64>> {
         let [_, value] = pair.items()? else {
             return None;
         };
-        number(value).filter(|number| *number <= variable.sort.greatest())
+        let number = literal_value(value)?.number();
+        (number <= variable.sort.greatest()).then_some(number)
     };
     pairs.iter().zip(variables).map(number).collect()
-}
-
-/// The number that a value of a model stands for: a literal, or `(_ bv10 32)`.
-fn number(value: &Tree) -> Option<u64> {
-    match value.items() {
-        Some([_, number, _]) => number.symbol()?.strip_prefix("bv")?.parse().ok(),
-        _ => literal_value(value).map(|value| value.number()),
-    }
 }
 
 #[cfg(test)]

@@ -23,6 +23,10 @@ const MOVES: usize = 12;
 const CONDITION_MOVES: usize = 24;
 /// Variables are moved through at most so many operators.
 const MOST_DEPTH: usize = 400;
+/// All values of so many truths are tried together.
+const FEW_TRUTHS: usize = 8;
+/// So many pairs of operands count as one application more.
+const PAIRS: u64 = 16;
 
 /// A point with the values of all nodes.
 #[derive(Clone)]
@@ -89,10 +93,17 @@ impl<'a> Search<'a> {
         self.refuting.is_some() || self.trials.spent > self.most
     }
 
+    /// Counts what applications of a node take beyond one each, where it has many operands: `distinct` compares every two.
+    fn charge(&mut self, node: usize, applications: u64) {
+        let operands = self.program.operands(node).len() as u64;
+        self.trials.spent += applications * (operands * operands / PAIRS);
+    }
+
     /// A point with its values; one at which a constraint is false is what was looked for.
     fn at(&mut self, point: Vec<u64>) -> At {
         let values = Rc::new(self.program.values(&point));
         self.trials.spent += values.len() as u64;
+        (0..values.len()).for_each(|node| self.charge(node, 1));
         let mut roots = self.program.roots.iter();
         if roots.any(|&root| values[root] == Value::Bool(false)) {
             self.refuting.get_or_insert(point.clone());
@@ -279,6 +290,7 @@ impl<'a> Search<'a> {
             given.clear();
             given.extend(self.program.operands(node).iter().map(|&one| other[one]));
             other[node] = self.applied(made.then_some(slip), node, &given);
+            self.charge(node, 1);
         }
         self.trials.spent += slip.nodes.len() as u64;
         other
@@ -354,6 +366,7 @@ impl<'a> Search<'a> {
         about.extend(&given);
         let mut trials = self.trials.values(given[index], &about);
         self.trials.spent += 2 * trials.len() as u64;
+        self.charge(node, 2 * trials.len() as u64);
         trials.retain(|&value| {
             (given[index], changed[index]) = (value, value);
             self.applied(None, node, &given) != self.applied(made, node, &changed)
@@ -417,12 +430,14 @@ impl<'a> Search<'a> {
         let mut about = vec![wanted];
         about.extend(others.map(|one| given[one]));
         about.extend([given[index], values[node]]);
+        let before = self.trials.spent;
         let found = self.trials.inverses(&apply, given[index], wanted, &about);
+        self.charge(node, self.trials.spent - before);
         let found = self.trials.random.pick(&found).copied();
         found.is_some_and(|value| self.move_to(values, operands[index], value, point, depth + 1))
     }
 
-    /// Moves the variables below a node with truth values as operands so that all of them together give it a value.
+    /// Moves the variables below a node so that all its operands together give it a value.
     fn move_all(
         &mut self,
         values: &[Value],
@@ -434,19 +449,10 @@ impl<'a> Search<'a> {
         let Node::Apply { head, operands } = &self.program.nodes[node] else {
             return false;
         };
-        let truths = operands.iter().all(|&one| values[one].sort() == Sort::Bool);
-        if !truths || operands.len() > 8 {
-            return false;
-        }
-        let given = |bits: usize| -> Vec<Value> {
-            (0..operands.len())
-                .map(|one| Value::Bool(bits >> one & 1 == 1))
-                .collect()
-        };
-        let all = (0..1 << operands.len()).map(given);
-        let fitting: Vec<Vec<Value>> = all
-            .filter(|given| operator_value(head, given) == wanted)
-            .collect();
+        let now: Vec<Value> = operands.iter().map(|&one| values[one]).collect();
+        let mut fitting = together(&now);
+        self.charge(node, fitting.len() as u64);
+        fitting.retain(|given| operator_value(head, given) == wanted);
         let Some(given) = self.trials.random.pick(&fitting).cloned() else {
             return false;
         };
@@ -455,5 +461,77 @@ impl<'a> Search<'a> {
             moved &= self.move_to(values, operand, value, point, depth + 1);
         }
         moved
+    }
+}
+
+/// Values of all operands of a node to try together, in the place of those that they have now: of a few truths all that there are, of many those that are alike but
+/// for one, of more than two words of one width those that are alike.
+fn together(now: &[Value]) -> Vec<Vec<Value>> {
+    let alike = now.windows(2).all(|two| two[0].sort() == two[1].sort());
+    match now.first().map(|first| first.sort()) {
+        Some(Sort::Bool) if alike && now.len() <= FEW_TRUTHS => {
+            let given = |bits: usize| {
+                (0..now.len())
+                    .map(|one| Value::Bool(bits >> one & 1 == 1))
+                    .collect()
+            };
+            (0..1 << now.len()).map(given).collect()
+        }
+        Some(Sort::Bool) if alike => [true, false]
+            .into_iter()
+            .flat_map(|holds| all_but_one(now.len(), holds))
+            .collect(),
+        Some(Sort::BitVec(_)) if alike && now.len() > 2 => {
+            now.iter().map(|&one| vec![one; now.len()]).collect()
+        }
+        _ => Vec::new(),
+    }
+}
+
+/// So many truths that are alike, and those in which one is not.
+fn all_but_one(count: usize, holds: bool) -> Vec<Vec<Value>> {
+    let alike = vec![Value::Bool(holds); count];
+    let but = |index: usize| {
+        let mut given = alike.clone();
+        given[index] = Value::Bool(!holds);
+        given
+    };
+    (0..count).map(but).chain([alike.clone()]).collect()
+}
+
+#[cfg(test)]
+mod tests {
+    use super::*;
+    use crate::program::program;
+
+    /// Whether a point is found at which a constraint on variables v0 to v9 is false.
+    fn refuted(constraint: &str) -> bool {
+        let variables = (0..10).map(|index| format!("(declare-var v{index} (_ BitVec 32))"));
+        let text = format!(
+            "(set-logic BV){}(synth-fun f () Bool ((B Bool)) ((B Bool (true))))(constraint {constraint})(check-synth)",
+            variables.collect::<String>()
+        );
+        let script = simple::script::read(text.as_bytes()).expect("a sound script");
+        let bodies = simple::response::read(b"((define-fun f () Bool true))", &script);
+        let bodies = bodies.expect("a sound response");
+        let program = program(&script, &bodies).expect("a program");
+        let points = search(&program, &[(0..10).collect(), (20..30).collect()], 1);
+        let root = program.roots[0];
+        let is_false = |point: &Vec<u64>| program.values(point)[root] == Value::Bool(false);
+        points.first().is_some_and(is_false)
+    }
+
+    #[test]
+    fn operands_of_operators_with_many_are_moved_together() {
+        let equations = (0..10).map(|index| format!(" (= v{index} #x1234567{index})"));
+        let equations: String = equations.collect();
+        for constraint in [
+            "(not (= v0 v1 v2 (_ bv305419896 32)))".to_string(),
+            format!("(not (and{equations}))"),
+            format!("(=>{equations} (not f))"),
+            format!("(or{} (not f))", equations.replace("(= ", "(distinct ")),
+        ] {
+            assert!(refuted(&constraint), "{constraint}");
+        }
     }
 }

@@ -1,7 +1,8 @@
 //! The question that points cannot settle, for an SMT solver: is a constraint false at some point? Its text is outside the proof.
 
+use crate::pieces::{pieces, Piece};
 use simple::grammar::Sorted;
-use simple::operators::Sort;
+use simple::operators::{operator, Sort};
 use simple::script::Script;
 use simple::tree::{joined, Tree};
 use std::fmt::Write;
@@ -119,12 +120,11 @@ fn name(own: &str) -> String {
 
 /// A term with its names as SMT-LIB may have them.
 fn term(term: &Tree) -> String {
-    let words = term.words().into_iter();
-    let words = words.map(|(_, word)| match simple::operators::operator(word) {
-        Some(_) => word.to_string(),
-        None => name(word),
-    });
-    let words: Vec<String> = words.collect();
+    let word = |piece: Piece| match piece.value.is_some() || operator(&piece.text).is_some() {
+        true => piece.text,
+        false => name(&piece.text),
+    };
+    let words: Vec<String> = pieces(term).into_iter().map(word).collect();
     joined(words.iter().map(String::as_str))
 }
 
@@ -136,6 +136,7 @@ mod tests {
     fn the_question_of_a_script() {
         let script = "(set-logic BV)(declare-var as Bool)(define-fun bvid ((x Bool)) Bool x)
             (synth-fun f ((x Bool)) Bool ((B Bool)) ((B Bool ((Variable Bool)))))
+            (define-fun bv5 () (_ BitVec 8) (_ bv5 8))(constraint (= bv5 (_ bv5 8) #x05))
             (constraint (= (f as) (bvid as)))(constraint (=> as (f as)))(check-synth)";
         let script = simple::script::read(script.as_bytes()).expect("a sound script");
         let bodies = simple::response::read(b"((define-fun f ((x Bool)) Bool x))", &script);
@@ -146,8 +147,10 @@ mod tests {
             [
                 "(declare-fun |as of the script| () Bool)",
                 "(define-fun |bvid of the script| ((x Bool)) Bool x)",
+                "(define-fun |bv5 of the script| () (_ BitVec 8) (_ bv5 8))",
                 "(define-fun f ((x Bool)) Bool x)",
                 "(assert (or",
+                "  (not (= |bv5 of the script| (_ bv5 8) #x05))",
                 "  (not (= (f |as of the script|) (|bvid of the script| |as of the script|)))",
                 "  (not (=> |as of the script| (f |as of the script|)))))",
                 "(check-sat)",

@@ -161,18 +161,22 @@ fn write_derivation(derived: &Derived, to: &mut impl Write) -> io::Result<()> {
     Ok(())
 }
 
-/// Writes one step: rule, non-terminal, the rule's text, and below it the term so far.
+/// Writes one step: rule, non-terminal, the rule's text and how the body has it, and below it the term so far.
 fn write_step(count: usize, step: &Step, to: &mut impl Write) -> io::Result<()> {
     let Step {
         number,
         nonterminal,
         rule,
         given,
+        written,
         term,
     } = step;
     write!(to, "{count:>4}. rule {number:<3}  {nonterminal} -> {rule}")?;
-    if let Some(word) = given {
-        write!(to, ", here {word}")?;
+    if let Some(given) = given {
+        write!(to, ", here {given}")?;
+    }
+    if let Some(written) = written {
+        write!(to, ", in the body {written}")?;
     }
     writeln!(to, "\n      {term}")
 }

@@ -1,7 +1,8 @@
 //! The shapes of the carried commands, for the script and the response alike.
 
+use crate::constants::digits_after_bv;
 use crate::terms::{
-    is_sort, is_term, node_past_limit, width_past_limit, CARRIED_COMMANDS, OTHER_COMMANDS,
+    is_sort, is_term, term_past_limit, width_past_limit, CARRIED_COMMANDS, OTHER_COMMANDS,
 };
 use crate::tree::Tree;
 
@@ -91,7 +92,8 @@ fn is_without_grammar(items: &[Tree]) -> bool {
     items[0].symbol() == Some("synth-fun") && items.len() == 4
 }
 
-/// "any list begun by `let`, `exists`, `forall`, `!`, or by `_` and then neither `BitVec` nor `extract`".
+/// "any list begun by `let`, `exists`, `forall`, `!`, or by `_` and then neither `BitVec` nor `extract`"; "Answer 6 gives way
+/// to" `bv` with a numeral.
 fn holds_list_not_carried(tree: &Tree) -> bool {
     let Some(items) = tree.items() else {
         return false;
@@ -99,7 +101,10 @@ fn holds_list_not_carried(tree: &Tree) -> bool {
     let symbol = |index: usize| items.get(index).and_then(Tree::symbol);
     let begun = match symbol(0) {
         Some("let" | "exists" | "forall" | "!") => true,
-        Some("_") => !matches!(symbol(1), Some("BitVec" | "extract")),
+        Some("_") => {
+            let known = matches!(symbol(1), Some("BitVec" | "extract"));
+            !known && items.get(1).and_then(digits_after_bv).is_none()
+        }
         _ => false,
     };
     begun || items.iter().any(holds_list_not_carried)
@@ -232,10 +237,10 @@ impl<'a> Header<'a> {
 }
 
 impl DefineFun<'_> {
-    /// All places past a limit in a definition: those of its header and the body's node past the limit.
+    /// All places past a limit in a definition: those of its header and the first of its body.
     pub fn past_limit(&self) -> Vec<usize> {
         let mut places = self.header.past_limit();
-        places.extend(node_past_limit(self.body));
+        places.extend(term_past_limit(self.body));
         places
     }
 }

@@ -1,5 +1,6 @@
 //! "Values and cost", and the points.
 
+use crate::constants::constant;
 use crate::grammar::Sorted;
 use crate::operators::Sort;
 use crate::script::{Constraint, Script};
@@ -215,14 +216,17 @@ impl<'a> Functions<'a> {
             let names = function.arguments.iter().map(|one| one.name.as_str());
             return self.value(function.body, &names.zip(values).collect());
         }
+        if let Some(value) = literal_value(term) {
+            return value;
+        }
         match term {
-            Tree::Leaf(word) => literal_value(term).unwrap_or_else(|| leaves[word.text.as_str()]),
+            Tree::Leaf(word) => leaves[word.text.as_str()],
             Tree::List { items, .. } => operator_value(&items[0], &values),
         }
     }
 }
 
-/// The value of a literal, none if the tree is another one.
+/// The value of a literal, which has its width: `true`, `false`, "`#x` and `#b` words", and `(_ bvN n)` within its bounds.
 pub fn literal_value(tree: &Tree) -> Option<Value> {
     match tree {
         Tree::Leaf(word) => match word.kind {
@@ -231,7 +235,13 @@ pub fn literal_value(tree: &Tree) -> Option<Value> {
             _ if word.text == "false" => Some(Value::Bool(false)),
             _ => None,
         },
-        Tree::List { .. } => None,
+        Tree::List { .. } => {
+            let constant = constant(tree)?;
+            Some(Value::Bits {
+                width: constant.width,
+                bits: constant.value()?,
+            })
+        }
     }
 }
 
@@ -264,17 +274,43 @@ fn extract(i: u32, j: u32, value: Value) -> Value {
     }
 }
 
-/// The value of an operator other than extract, "As in SMT-LIB".
+/// The first truth joined with the second, the result with the third, and so on.
+fn from_left(operands: &[Value], join: fn(bool, bool) -> bool) -> Value {
+    let truths = operands.iter().map(|&operand| operand == Value::Bool(true));
+    Value::Bool(truths.reduce(join).expect("an operand"))
+}
+
+/// The last truth but one joined with the last, the one before with the result, and so on.
+fn from_right(operands: &[Value], join: fn(bool, bool) -> bool) -> Value {
+    let truths = operands.iter().map(|&operand| operand == Value::Bool(true));
+    let joined = truths.rev().reduce(|right, left| join(left, right));
+    Value::Bool(joined.expect("an operand"))
+}
+
+/// Whether each operand equals the next one.
+fn chained(operands: &[Value]) -> Value {
+    let mut neighbours = operands.iter().zip(&operands[1..]);
+    Value::Bool(neighbours.all(|(a, b)| a == b))
+}
+
+/// Whether no operand equals a later one.
+fn pairwise_distinct(operands: &[Value]) -> Value {
+    let mut each = operands.iter().enumerate();
+    Value::Bool(each.all(|(index, operand)| !operands[index + 1..].contains(operand)))
+}
+
+/// The value of an operator other than extract, "As in SMT-LIB"; "`and or xor` group from the left, `=>` from the right, `=`
+/// chains, `distinct` is pairwise".
 fn apply(operator: &str, operands: &[Value]) -> Value {
     use Value::{Bits, Bool};
     match (operator, operands) {
         ("not", [Bool(a)]) => Bool(!a),
-        ("and", [Bool(a), Bool(b)]) => Bool(*a && *b),
-        ("or", [Bool(a), Bool(b)]) => Bool(*a || *b),
-        ("xor", [Bool(a), Bool(b)]) => Bool(a != b),
-        ("=>", [Bool(a), Bool(b)]) => Bool(!a || *b),
-        ("=", [a, b]) => Bool(a == b),
-        ("distinct", [a, b]) => Bool(a != b),
+        ("and", _) => from_left(operands, |a, b| a && b),
+        ("or", _) => from_left(operands, |a, b| a || b),
+        ("xor", _) => from_left(operands, |a, b| a != b),
+        ("=>", _) => from_right(operands, |a, b| !a || b),
+        ("=", _) => chained(operands),
+        ("distinct", _) => pairwise_distinct(operands),
         ("ite", [Bool(condition), a, b]) => {
             if *condition {
                 *a

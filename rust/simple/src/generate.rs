@@ -42,7 +42,7 @@ pub fn valid(seed: u64) -> Case {
 /// A case made from a sound one by one to three mutations, or with bodies that need not be derived.
 pub fn mutated(seed: u64) -> Case {
     let mut random = Random::new(!seed);
-    let estranged = random.percent(15);
+    let estranged = random.percent(22);
     let mut draft = match random.percent(2) {
         true => tower(&mut random),
         false => draft(&mut random, !estranged),

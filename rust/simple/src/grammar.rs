@@ -1,5 +1,6 @@
 //! "Derivation": which non-terminals derive a node, and the derivation that is shown.
 
+use crate::eval::literal_value;
 use crate::operators::Sort;
 use crate::terms::{literal_sort, operands};
 use crate::tree::Tree;
@@ -134,10 +135,14 @@ impl<'a> Search<'a> {
         }
     }
 
-    /// "the term equals the rule with each non-terminal replaced, place by place, by a term it derives".
+    /// "the term equals the rule with each non-terminal replaced, place by place, by a term it derives"; "A literal is its value
+    /// and width".
     fn equals(&self, rule: &Tree, node: &Tree) -> bool {
         if let Some(nonterminal) = self.grammar.nonterminal(rule) {
             return self.has(nonterminal, node);
+        }
+        if let Some(value) = literal_value(rule) {
+            return literal_value(node) == Some(value);
         }
         match (rule.items(), node.items()) {
             (Some([rule_head, rule_operands @ ..]), Some([node_head, node_operands @ ..])) => {

@@ -1,10 +1,11 @@
-//! A simple reference checker, written straight from document 01. Each function names the sentence that it follows.
+//! A simple reference checker, written straight from document 01 and the requests that change it. Each function names the sentence that it follows.
 //!
 //! `check` is the whole of it. Its parts are there for other programs that read the same texts: the words of a text (`words`), trees of words (`tree`), sorts
-//! (`operators`), the forms of commands and terms (`commands`, `terms`), what a script and a response say (`script`, `response`, `grammar`), and values and costs of
-//! terms (`eval`).
+//! (`operators`), the forms of commands, terms and constants (`commands`, `terms`, `constants`), what a script and a response say (`script`, `response`, `grammar`), and
+//! values and costs of terms (`eval`).
 
 pub mod commands;
+pub mod constants;
 pub mod eval;
 pub mod generate;
 pub mod grammar;

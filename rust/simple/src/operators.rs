@@ -34,7 +34,7 @@ impl fmt::Display for Sort {
 pub enum SortRule {
     /// All operands are Bool, and so is the result.
     Bools,
-    /// The operands have one sort, the result is Bool.
+    /// All operands have one sort, the result is Bool.
     Alike,
     /// A Bool and two operands of one sort, which is the result's.
     Choice,
@@ -48,32 +48,45 @@ pub enum SortRule {
     Part,
 }
 
-/// A row of the table.
+/// A row of the table; where more operands may stand, `operands` is the least number.
 #[derive(Debug)]
 pub struct Operator {
     pub name: &'static str,
     pub operands: usize,
+    pub or_more: bool,
     pub rule: SortRule,
 }
 
-/// Makes a row of the table.
+/// Makes a row of an operator that has so many operands.
 const fn row(name: &'static str, operands: usize, rule: SortRule) -> Operator {
     Operator {
         name,
         operands,
+        or_more: false,
         rule,
     }
 }
 
-/// "Operators, two operands each unless said".
+/// Makes a row of an operator "with two or more operands as Core says".
+const fn core(name: &'static str, rule: SortRule) -> Operator {
+    Operator {
+        name,
+        operands: 2,
+        or_more: true,
+        rule,
+    }
+}
+
+/// "Operators, two operands each unless said"; "`and or xor` group from the left, `=>` from the right, `=` chains, `distinct`
+/// is pairwise, each with two or more operands".
 pub const OPERATORS: [Operator; 23] = [
     row("not", 1, SortRule::Bools),
-    row("and", 2, SortRule::Bools),
-    row("or", 2, SortRule::Bools),
-    row("xor", 2, SortRule::Bools),
-    row("=>", 2, SortRule::Bools),
-    row("=", 2, SortRule::Alike),
-    row("distinct", 2, SortRule::Alike),
+    core("and", SortRule::Bools),
+    core("or", SortRule::Bools),
+    core("xor", SortRule::Bools),
+    core("=>", SortRule::Bools),
+    core("=", SortRule::Alike),
+    core("distinct", SortRule::Alike),
     row("ite", 3, SortRule::Choice),
     row("bvnot", 1, SortRule::Bits),
     row("bvneg", 1, SortRule::Bits),
@@ -98,9 +111,14 @@ pub fn operator(name: &str) -> Option<&'static Operator> {
 }
 
 impl Operator {
+    /// Whether it may have so many operands.
+    pub fn takes(&self, count: usize) -> bool {
+        count == self.operands || self.or_more && count > self.operands
+    }
+
     /// The sort of an application, none if the operand count or a sort is at fault; `part` is i and j of an extract.
     pub fn sort(&self, part: Option<(u32, u32)>, operands: &[Sort]) -> Option<Sort> {
-        if operands.len() != self.operands {
+        if !self.takes(operands.len()) {
             return None;
         }
         match (self.rule, operands) {
@@ -108,7 +126,10 @@ impl Operator {
                 let all_bool = operands.iter().all(|&sort| sort == Sort::Bool);
                 all_bool.then_some(Sort::Bool)
             }
-            (SortRule::Alike, [a, b]) => (a == b).then_some(Sort::Bool),
+            (SortRule::Alike, [first, others @ ..]) => {
+                let alike = others.iter().all(|sort| sort == first);
+                alike.then_some(Sort::Bool)
+            }
             (SortRule::Choice, [Sort::Bool, a, b]) => (a == b).then_some(*a),
             (SortRule::Bits, [a @ Sort::BitVec(_)]) => Some(*a),
             (SortRule::Bits, [a @ Sort::BitVec(_), b]) => (a == b).then_some(*a),

@@ -1,4 +1,5 @@
-//! A judge of the lent area that shares nothing with the search: it replays the shown rule numbers, leftmost first.
+//! A judge of the lent area that shares nothing with the search: it replays the shown rule numbers, leftmost first, on the
+//! words of the body.
 
 use crate::grammar::{Form, Sorted};
 use crate::operators::Sort;
@@ -41,7 +42,7 @@ pub fn area_fault(script: &[u8], response: &[u8], number: u8, area: &[u16]) -> O
 /// "No non-terminal is used twice at the same place of the body".
 fn replay(function: &Synthesized, body: &Tree, shown: &[u16]) -> Result<(), String> {
     let grammar = &function.grammar;
-    let mut body = body.words().into_iter().map(|(_, word)| word).peekable();
+    let mut body = spelt(body).into_iter().peekable();
     let mut place = 0;
     let mut shown = shown.iter();
     let mut used = HashSet::new();
@@ -49,7 +50,7 @@ fn replay(function: &Synthesized, body: &Tree, shown: &[u16]) -> Result<(), Stri
     while let Some(word) = pending.pop() {
         let nonterminal = grammar.nonterminals.iter().position(|one| one.name == word);
         let Some(nonterminal) = nonterminal else {
-            if body.next() != Some(word.as_str()) {
+            if body.next().as_ref() != Some(&word) {
                 return Err(format!("word {place} of the body is not {word}"));
             }
             place += 1;
@@ -62,12 +63,9 @@ fn replay(function: &Synthesized, body: &Tree, shown: &[u16]) -> Result<(), Stri
         let rule = grammar.rules.get(usize::from(*number));
         let rule = rule.filter(|rule| rule.nonterminal == nonterminal);
         let rule = rule.ok_or(format!("{number} is no rule of {word}"))?;
-        let given = body.peek().copied().unwrap_or("");
+        let given = body.peek().map_or("", String::as_str);
         match &rule.form {
-            Form::Term(term) => {
-                let words = term.words().into_iter().rev();
-                pending.extend(words.map(|(_, word)| word.to_string()));
-            }
+            Form::Term(term) => pending.extend(spelt(term).into_iter().rev()),
             Form::Constant(sort) if is_literal(given, *sort) => pending.push(given.to_string()),
             Form::Variable(sort) if is_argument(given, *sort, &function.arguments) => {
                 pending.push(given.to_string());
@@ -80,6 +78,39 @@ fn replay(function: &Synthesized, body: &Tree, shown: &[u16]) -> Result<(), Stri
         (Some(word), _) => Err(format!("{word} is left of the body")),
         (None, Some(number)) => Err(format!("{number} is left of the list")),
     }
+}
+
+/// The words of a term without fault, each literal of bits as one word that begins with `#b`: "A literal is its value and width:
+/// case, `#x` or `#b` make no difference. Carry `(_ bv15 8)` too".
+fn spelt(term: &Tree) -> Vec<String> {
+    let words: Vec<&str> = term.words().into_iter().map(|(_, word)| word).collect();
+    let mut spelt = Vec::new();
+    let mut rest = &words[..];
+    while let Some((first, after_first)) = rest.split_first() {
+        let (word, after) = match rest {
+            ["(", "_", word, width, ")", after @ ..] => (constant_in_binary(word, width), after),
+            _ => (word_in_binary(first), after_first),
+        };
+        spelt.push(word);
+        rest = after;
+    }
+    spelt
+}
+
+/// A word of bits in binary, another word as it is.
+fn word_in_binary(word: &str) -> String {
+    let digit = |digit: char| format!("{:04b}", digit.to_digit(16).expect("a hex digit"));
+    match word.strip_prefix("#x") {
+        Some(digits) => format!("#b{}", digits.chars().map(digit).collect::<String>()),
+        None => word.to_string(),
+    }
+}
+
+/// The binary word of a constant, by its word bvN and its width.
+fn constant_in_binary(word: &str, width: &str) -> String {
+    let value: u64 = word[2..].parse().expect("a number below 2^64");
+    let width: usize = width.parse().expect("a width");
+    format!("#b{value:0width$b}")
 }
 
 /// "`(Constant σ)` derives any literal of sort σ".

@@ -4,7 +4,7 @@ use crate::commands::{command, not_carried, rule_form, Command, Header, RuleForm
 use crate::grammar::{Form, Grammar, Rule, Sorted};
 use crate::operators::Sort;
 use crate::terms::{
-    body_fault, faulty_sort, is_reserved, node_past_limit, sort, sort_of, unknown_name,
+    body_fault, faulty_sort, is_reserved, sort, sort_of, term_past_limit, unknown_name,
     unknown_sort, width_past_limit, Name,
 };
 use crate::tree::{trees, Tree};
@@ -197,7 +197,7 @@ impl Script {
             Command::DeclareVar { sort, .. } => places.extend(width_past_limit(sort)),
             Command::DefineFun(definition) => places.extend(definition.past_limit()),
             Command::SynthFun(synth) => places.extend(past_limit_in_synth_fun(synth)),
-            Command::Constraint(term) => places.extend(node_past_limit(term)),
+            Command::Constraint(term) => places.extend(term_past_limit(term)),
             Command::SetLogic | Command::CheckSynth => {}
         }
         places.into_iter().min()
@@ -370,7 +370,7 @@ fn header_words(header: &Header) -> Vec<String> {
     words.map(|(_, word)| word.to_string()).collect()
 }
 
-/// All places past a limit in a `synth-fun`: those of its header, the non-terminal, widths, the rule and nodes.
+/// All places past a limit in a `synth-fun`: those of its header, the non-terminal, widths, the rule and terms.
 fn past_limit_in_synth_fun(synth: &SynthFun) -> Vec<usize> {
     let mut places = synth.header.past_limit();
     let nonterminal = synth.predeclared.get(MOST_NONTERMINALS);
@@ -382,7 +382,7 @@ fn past_limit_in_synth_fun(synth: &SynthFun) -> Vec<usize> {
     );
     let mut rules = synth.groups.iter().flat_map(|group| group.rules);
     places.extend(rules.nth(MOST_RULES).map(Tree::start));
-    places.extend(rule_terms(synth).into_iter().filter_map(node_past_limit));
+    places.extend(rule_terms(synth).into_iter().filter_map(term_past_limit));
     places
 }
 

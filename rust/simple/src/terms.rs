@@ -1,11 +1,12 @@
 //! Sorts, names and terms: their shape, their limits, the names they see and their sorts.
 
+use crate::constants::constant;
+use crate::eval::{literal_value, Value};
 use crate::operators::{operator, Sort};
 use crate::tree::Tree;
-use crate::words::Kind;
 
 /// "n from 1 to 64".
-const MOST_WIDTH: u32 = 64;
+pub const MOST_WIDTH: u32 = 64;
 /// "256 nodes (literals, names, applications; no head is one) a body, constraint or rule".
 const MOST_NODES: usize = 256;
 
@@ -66,16 +67,9 @@ pub fn is_reserved(name: &str) -> bool {
         || OTHER_RESERVED.contains(&name)
 }
 
-/// "`true`, `false`, `#x` and `#b` words are the literals": the sort of a literal.
+/// The sort of a literal.
 pub fn literal_sort(tree: &Tree) -> Option<Sort> {
-    match tree {
-        Tree::Leaf(word) => match word.kind {
-            Kind::Bits { width, .. } => Some(Sort::BitVec(width)),
-            Kind::Symbol if word.text == "true" || word.text == "false" => Some(Sort::Bool),
-            _ => None,
-        },
-        Tree::List { .. } => None,
-    }
+    literal_value(tree).map(Value::sort)
 }
 
 /// i and j of exactly `(_ extract i j)`.
@@ -130,7 +124,7 @@ pub fn is_term(tree: &Tree) -> bool {
     let Some(items) = tree.items() else {
         return true;
     };
-    if extract_indices(tree).is_some() {
+    if is_indexed(tree) {
         return true;
     }
     match items {
@@ -149,10 +143,15 @@ fn is_head(head: &Tree) -> bool {
     }
 }
 
-/// The operands of an application; a leaf and a bare `(_ extract i j)` have none.
+/// Whether a tree is exactly `(_ bvN n)`, which is "one node", or a bare `(_ extract i j)`.
+fn is_indexed(tree: &Tree) -> bool {
+    constant(tree).is_some() || extract_indices(tree).is_some()
+}
+
+/// The operands of an application; a leaf, `(_ bvN n)` and a bare `(_ extract i j)` have none.
 pub fn operands(term: &Tree) -> &[Tree] {
     match term.items() {
-        Some([_, operands @ ..]) if extract_indices(term).is_none() => operands,
+        Some([_, operands @ ..]) if !is_indexed(term) => operands,
         _ => &[],
     }
 }
@@ -167,9 +166,18 @@ fn nodes(term: &Tree) -> Vec<usize> {
     places
 }
 
-/// "256 nodes ... a body, constraint or rule": the first word of the node past the limit.
-pub fn node_past_limit(term: &Tree) -> Option<usize> {
-    nodes(term).get(MOST_NODES).copied()
+/// "256 nodes ... a body, constraint or rule": the first word of the node past the limit, or of a constant's words past one.
+pub fn term_past_limit(term: &Tree) -> Option<usize> {
+    let node = nodes(term).get(MOST_NODES).copied();
+    node.into_iter().chain(constant_past_limit(term)).min()
+}
+
+/// The first word of a term's constants that is past a limit.
+fn constant_past_limit(term: &Tree) -> Option<usize> {
+    match constant(term) {
+        Some(constant) => constant.past_limit(),
+        None => operands(term).iter().find_map(constant_past_limit),
+    }
 }
 
 /// The least place of a name that is unknown or reserved; "in a term an operator or function without its operands,
@@ -177,7 +185,7 @@ pub fn node_past_limit(term: &Tree) -> Option<usize> {
 pub fn unknown_name(term: &Tree, seen: &[&str]) -> Option<usize> {
     let name = match term.items() {
         None => Some(term),
-        Some(_) if extract_indices(term).is_some() => None,
+        Some(_) if is_indexed(term) => None,
         Some(items) => items.first(),
     };
     let unknown = |name: &&Tree| match name.symbol() {
@@ -203,8 +211,8 @@ pub fn sort_of(term: &Tree, seen: &[Name]) -> Result<Sort, usize> {
     application_sort(term, &sorts, seen).ok_or(term.start())
 }
 
-/// The sort of a name or application by the sorts of its operands, none if it is at fault: a numeral, a wrong number
-/// of operands, or operands of wrong sorts.
+/// The sort of a name or application by the sorts of its operands, none if it is at fault: a numeral, a constant not below
+/// 2^n, a wrong number of operands, or operands of wrong sorts.
 fn application_sort(term: &Tree, sorts: &[Sort], seen: &[Name]) -> Option<Sort> {
     let head = term.items().map_or(term, |items| &items[0]);
     if let Some(part) = extract_indices(head) {

@@ -98,7 +98,7 @@ impl Tree {
         }
     }
 
-    /// Whether two trees have the same words, "symbols and literals being compared as written".
+    /// Whether two trees have the same words: "Apart from literals, derivations still compare terms as written".
     pub fn same_words(&self, other: &Tree) -> bool {
         match (self, other) {
             (Tree::Leaf(a), Tree::Leaf(b)) => a.text == b.text,

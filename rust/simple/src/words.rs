@@ -78,8 +78,14 @@ pub fn word(text: &[u8], at: usize) -> usize {
 }
 
 /// "a numeral: `0`, or digits not starting with 0".
-fn is_numeral(word: &[u8]) -> bool {
-    word == b"0" || (word.iter().all(u8::is_ascii_digit) && word[0] != b'0')
+pub fn is_numeral(word: &[u8]) -> bool {
+    match word {
+        [] => false,
+        [first, others @ ..] => {
+            let digits = word.iter().all(u8::is_ascii_digit);
+            digits && (*first != b'0' || others.is_empty())
+        }
+    }
 }
 
 /// "`#x` with hex digits of either case, or `#b` with 0 and 1, at least one digit": the radix and the digits.

@@ -16,7 +16,7 @@ use Rattle.lexemes.specs.code.Standing.{Source, Stands}
 use Rattle.lexemes.specs.code.Table.{nextAt}
 use Rattle.shapes.specs.Shapes.{termShape}
 use Rattle.term_nodes.specs.code.Table.{rawTable, rowWidth as rawWidth, uncountedTable}
-use Rattle.term_nodes.specs.Terms.{nodeWord, rawTerm}
+use Rattle.term_nodes.specs.Terms.{rawTerm, wordPast}
 use Rattle.names.specs.Scopes.{View, formsOf}
 use Rattle.names.specs.code.Lookup.{Sees, sourceOf}
 use Rattle.names.specs.Unknown.{unknownIn}
@@ -44,7 +44,7 @@ pub record Limited {lexemes raw : List ℕ} {i : ℕ} (p : TermAt lexemes raw i)
   pub long : length rawAfter ≡ length raw
   pub rows-are : b .rows ≡ size (rawTerm (p .label) (p .operands))
   pub few : b .rows ≤ nextAt lexemes i - i
-  pub place-is : b .place ≡ nodeWord nowhere most (nodesOf (rawTerm (p .label) (p .operands)))
+  pub place-is : b .place ≡ wordPast nowhere most (nodesOf (rawTerm (p .label) (p .operands)))
 
 -- The nodes of a term of a text are gathered, not counted yet; names are seen; and there is room for the forms from row `base` on.
 pub record Naming (text lexemes names raw nodes : List ℕ) (seen : Seen) (count base nowhere : ℕ) : Type 0 where

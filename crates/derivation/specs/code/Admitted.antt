@@ -9,20 +9,18 @@ use Rattle.forest.specs.Forest.{Forest, count, none, tree}
 use Rattle.terms.specs.Labels.{Label, Terms, defined, function, literal, name, operator}
 use Rattle.terms.specs.code.Nodes.{Plain}
 use Rattle.derivation.specs.Derivation.{Item, Argument, Grammar, headOf, formOf, the, nonTerminal, anyLiteral, anyArgument}
-use Rattle.terms.specs.code.Codes.{sortCount}
 
--- Non-terminals are below k, and neither they nor `(Constant σ)` and `(Variable σ)`, whose sorts a code can hold, have operands; labels are told by their
--- numbers.
+-- Non-terminals are below k, and neither they nor `(Constant σ)` and `(Variable σ)` have operands; labels are told by their numbers.
 unfoldable pub Proper : ℕ → Forest Item → Type 0
 Proper k none = Unit {0}
 Proper k (tree (the l) ps qs) = Plain l × Proper k ps × Proper k qs
 Proper k (tree (nonTerminal A) ps qs) = (A < k) × (ps ≡ none) × Proper k qs
-Proper k (tree (anyLiteral s) ps qs) = (s < sortCount) × (ps ≡ none) × Proper k qs
-Proper k (tree (anyArgument s) ps qs) = (s < sortCount) × (ps ≡ none) × Proper k qs
+Proper k (tree (anyLiteral s) ps qs) = (ps ≡ none) × Proper k qs
+Proper k (tree (anyArgument s) ps qs) = (ps ≡ none) × Proper k qs
 
 -- A literal is a value of its sort, and a name an argument of the function, of its sort.
 abbrev pub LeafFits : (arguments : List ℕ) → Label → Type 0
-LeafFits arguments (literal s v w) = Fit s v
+LeafFits arguments (literal s v) = Fit s v
 LeafFits arguments (name s k) = Argument arguments s k
 LeafFits arguments (operator o i j) = Unit {0}
 LeafFits arguments (defined k) = Unit {0}

@@ -4,7 +4,7 @@ use Prim.Native.Nat.{ℕ, _<_}
 use mathlib.Core.List.{List}
 use lib.Dec.{eqb}
 use Rattle.terms.specs.code.Nodes.{codeAt, operandsAt, valueAt}
-use Rattle.terms.specs.code.Codes.{literalKind, nameKind, anyArgumentKind, anyLiteralKind, headOf, kindOf, literalSort}
+use Rattle.terms.specs.code.Codes.{literalKind, nameKind, anyArgumentKind, anyLiteralKind, headOf, kindOf}
 use mathlib.Core.Path.{_≡_}
 use lib.ListN.{length}
 use Rattle.forest.specs.Forest.{none, tree}
@@ -14,13 +14,17 @@ use Rattle.derivation.specs.Derivation.{nonTerminal, Grammar, formOf}
 use Rattle.derivation.specs.code.Masks.{has}
 use Rattle.derivation.specs.code.Search.{Fits, NoChain, Asks}
 
--- The code of a node of a rule says `(Constant σ)`, and the code of a node of the body a literal of that sort.
-unfoldable pub literalFits : (code found : ℕ) → Bool
-literalFits code found = eqb (kindOf code) anyLiteralKind && eqb (kindOf found) literalKind && eqb (headOf code) (literalSort found)
+-- The code of a node of a rule is of the kind of any leaf of a sort, and the code of a node of the body of the kind of such a leaf, of that sort.
+unfoldable pub leafFits : (whole leaf code found : ℕ) → Bool
+leafFits whole leaf code found = eqb (kindOf code) whole && eqb (kindOf found) leaf && eqb (headOf code) (headOf found)
 
--- The code of a node of a rule says `(Variable σ)`, and the code of a node of the body a name of that sort.
-unfoldable pub argumentFits : (code found : ℕ) → Bool
-argumentFits code found = eqb (kindOf code) anyArgumentKind && eqb (kindOf found) nameKind && eqb (headOf code) (headOf found)
+-- `(Constant σ)`, and a literal of that sort.
+abbrev pub literalFits : (code found : ℕ) → Bool
+literalFits code found = leafFits anyLiteralKind literalKind code found
+
+-- `(Variable σ)`, and a name of that sort.
+abbrev pub argumentFits : (code found : ℕ) → Bool
+argumentFits code found = leafFits anyArgumentKind nameKind code found
 
 -- Node p of the rules, which is no non-terminal, and node j of the body have as many operands, and the same label, or the one is any leaf of the other's sort.
 unfoldable pub alike : List ℕ → ℕ → List ℕ → ℕ → Bool

@@ -6,12 +6,12 @@ use mathlib.Core.Path.{_≡_}
 use lib.Dec.{eqb, ltb}
 use lib.ListN.{getD, length}
 use Rattle.forest.specs.Forest.{none, tree}
-use Rattle.forest.specs.code.Cursors.{from}
+use Rattle.forest.specs.code.Cursors.{from, size}
 use Rattle.terms.specs.Labels.{Label, Terms, defined, function, literal, name, operator}
 use Rattle.terms.specs.code.Nodes.{AllPlain, nodeTable}
 use Rattle.terms.specs.code.Codes.{definedKind, functionKind, kindOf}
 use Rattle.terms.specs.Sorts.{Definition}
-use Rattle.forest.specs.Limits.{mostArguments, mostDefined, mostFunctions}
+use Rattle.forest.specs.Limits.{mostDefined, mostFunctions, mostNodes}
 
 -- The term t begins at node i of the terms `all`.
 pub record TermStands (all : Terms) (i : ℕ) (t : Terms) : Type 0 where
@@ -30,7 +30,7 @@ BodiesAt all bodies base (d ∷ earlier) = TermStands all (getD bodies (base + l
 abbrev pub Callable : (defs funs : ℕ) → Label → Type 0
 Callable defs funs (defined k) = k < defs
 Callable defs funs (function k) = k < funs
-Callable defs funs (literal s v w) = Unit {0}
+Callable defs funs (literal s v) = Unit {0}
 Callable defs funs (name s k) = Unit {0}
 Callable defs funs (operator o i j) = Unit {0}
 
@@ -49,10 +49,10 @@ unfoldable pub CallsDefined : (defs : ℕ) → List Definition → Type 0
 CallsDefined defs [] = Unit {0}
 CallsDefined defs (f ∷ others) = CallsKnown defs 0 (f .body) × CallsDefined defs others
 
--- Each of the functions has no more arguments than a function may have.
-unfoldable pub FewArguments : List Definition → Type 0
-FewArguments [] = Unit {0}
-FewArguments (d ∷ earlier) = (length (d .signature .arguments) ≤ mostArguments) × FewArguments earlier
+-- The body of each of the functions has no more nodes than a body may have.
+unfoldable pub SmallBodies : List Definition → Type 0
+SmallBodies [] = Unit {0}
+SmallBodies (d ∷ earlier) = (size (d .body) ≤ mostNodes) × SmallBodies earlier
 
 -- Tables that hold these `define-fun`s and synthesized functions, the last first.
 pub record BodiesHold (nodes bodies : List ℕ) (defs funs : List Definition) : Type 0 where
@@ -62,8 +62,8 @@ pub record BodiesHold (nodes bodies : List ℕ) (defs funs : List Definition) : 
   pub plain : AllPlain all
   pub defined-at : BodiesAt all bodies 0 defs
   pub functions-at : BodiesAt all bodies mostDefined funs
-  pub few-defined : FewArguments defs
-  pub few-functions : FewArguments funs
+  pub small-defined : SmallBodies defs
+  pub small-functions : SmallBodies funs
   pub defined-calls : CallsEarlier defs
   pub function-calls : CallsDefined (length defs) funs
   pub defined-most : length defs ≤ mostDefined

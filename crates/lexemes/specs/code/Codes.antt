@@ -106,9 +106,17 @@ wordsBefore = firstOperatorCode - firstCode
 abbrev pub knownCount : ℕ
 knownCount = wordsBefore + operatorCount
 
--- Any other symbol.
+-- Any other symbol, but for the words of constants.
 abbrev pub otherCode : ℕ
 otherCode = firstOperatorCode + operatorCount
+
+-- The word `bvN` of a constant `(_ bvN n)`.
+abbrev pub decimalCode : ℕ
+decimalCode = otherCode + 1
+
+-- One of too many digits.
+abbrev pub longDecimalCode : ℕ
+longDecimalCode = decimalCode + 1
 
 -- `extract`, the last operator
 abbrev pub extractCode : ℕ

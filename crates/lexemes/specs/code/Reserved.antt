@@ -3,6 +3,8 @@ use Prim.Native.Nat.{ℕ, _+_}
 use Prim.Native.String.{String}
 use mathlib.Core.Bool.{cond}
 use mathlib.Core.List.{List, [], _∷_, _++_, map}
+use lib.ListN.{length}
+use Rattle.word_kinds.specs.Decimals.{isDecimal, isLong}
 use Rattle.operators.specs.Operators.{Operator, operators}
 use Rattle.lexemes.specs.Reserved.{carriedCommands, otherCommands, otherWords, isWord}
 
@@ -21,6 +23,7 @@ placeAmong (w ∷ more) k name =
     let later = placeAmong more (k + 1) name in
     cond (isWord w name) k later
 
--- The number of a name: its place among the known words, past the last of them where it is none.
+-- The number of a name: its place among the known words; past the last of them where it is none, one more for the word of a constant `(_ bvN n)`, and two
+-- more for one of too many digits.
 unfoldable pub wordNumber : (name : List ℕ) → ℕ
-wordNumber name = placeAmong knownWords 0 name
+wordNumber name = cond (isDecimal name) (length knownWords + cond (isLong name) 2 1) (placeAmong knownWords 0 name)

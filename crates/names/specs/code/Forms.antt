@@ -10,7 +10,7 @@ use Rattle.forest.specs.code.Cursors.{size}
 use Rattle.derivation.specs.code.Tables.{formTable}
 use Rattle.term_nodes.specs.code.Says.{AllSay}
 use Rattle.term_nodes.specs.code.Table.{rawTable}
-use Rattle.term_nodes.specs.Terms.{Raw, word}
+use Rattle.term_nodes.specs.Terms.{Raw}
 use Rattle.names.specs.Scopes.{View, formsOf}
 use Rattle.names.specs.Unknown.{unknownIn}
 use Rattle.names.specs.declared.Seen.{Seen}

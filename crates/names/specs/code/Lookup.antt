@@ -5,10 +5,8 @@ use mathlib.Core.List.{List}
 use mathlib.Core.Option.{Option}
 use mathlib.Core.Path.{_≡_}
 use lib.ListN.{getD, length}
-use Rattle.forest.specs.Forest.{none}
 use Rattle.forest.specs.Limits.{mostDefined, mostFunctions, mostNonTerminals}
 use Rattle.word_kinds.specs.Limits.{numeralDigits}
-use Rattle.forest.specs.code.Cursors.{size}
 use Rattle.operators.specs.Operators.{operatorCount}
 use Rattle.operators.specs.Sorts.{Fit}
 use Rattle.lexemes.specs.Reserved.{isWord}
@@ -17,7 +15,7 @@ use Rattle.derivation.specs.Derivation.{Item}
 use Rattle.derivation.specs.code.Tables.{itemCode, itemValue}
 use Rattle.lexemes.specs.code.Standing.{Source, spelt}
 use Rattle.lexemes.specs.code.Table.{codeAt, literalCode, numeralCode, valueAt, widthAt}
-use Rattle.term_nodes.specs.Terms.{Raw, constant, cut, number, pattern, word, writtenOf}
+use Rattle.term_nodes.specs.Terms.{Raw, constant, cut, decimal, number, pattern, word}
 use Rattle.names.specs.Scopes.{View, definedNames, functionNames, inOrder, itemOr, namesOf, namedSorts}
 use Rattle.names.specs.code.Table.{definedRow, functionRow, longest, namesFrom, nonTerminalRow, rowCount, rowWidth, sortsFrom}
 use Rattle.names.specs.declared.Meaning.{Meaning}
@@ -52,10 +50,6 @@ pub record Sees (names : List ℕ) (seen : Seen) (view : View) : Type 0 where
   pub few-functions : seen .functions ≤ mostFunctions
   pub few-nonTerminals : seen .«non_terminals» ≤ mostNonTerminals
 
--- The number that says how a literal of at most 64 bits is written is below this.
-abbrev pub mostWritten : ℕ
-mostWritten = 2 ^ 17
-
 -- The two numbers are those of what a node stands for.
 pub record Stated (i : Option Item) (m : Meaning) : Type 0 where
   pub code-is : m .code ≡ itemCode (itemOr i)
@@ -72,14 +66,14 @@ bytesAt text lexemes i = spelt (sourceOf text lexemes) i
 -- What the words of a text keep to: a numeral has at most nine digits, and a literal is a value of a sort of at most 64 bits.
 pub record Bounded (s : Source) : Type 0 where
   pub numerals : (i : ℕ) → codeAt (s .lexemes) i ≡ numeralCode → valueAt (s .lexemes) i < 10 ^ numeralDigits
-  pub literals : (i : ℕ) → codeAt (s .lexemes) i ≡ literalCode → writtenOf (spelt s i) < mostWritten
   pub fit : (i : ℕ) → codeAt (s .lexemes) i ≡ literalCode → Fit (widthAt (s .lexemes) i) (valueAt (s .lexemes) i)
 
 -- A symbol that heads a list is neither `Constant` nor `Variable`.
 abbrev pub Headed : Raw → Type 0
 Headed (word at head name) = at < head → isWord "Constant" name || isWord "Variable" name ≡ false
 Headed (number at v) = Unit {0}
-Headed (constant at width v written) = Unit {0}
+Headed (constant at width v) = Unit {0}
+Headed (decimal at head name width) = Unit {0}
 Headed (cut at head i j) = Unit {0}
 Headed (pattern at c s held) = Unit {0}
 

@@ -9,7 +9,7 @@ use Rattle.lexemes.specs.Reserved.{isWord}
 use Rattle.names.specs.Scopes.{View, isKnown, symbolMeans}
 use Rattle.names.specs.declared.Meaning.{Meaning}
 use Rattle.names.specs.declared.Seen.{Seen}
-use Rattle.names.specs.code.Lookup.{Names, Sees, Stated}
+use Rattle.names.specs.code.Lookup.{Sees, Stated}
 
 -- Names that are seen.
 pub record Seeing (names : List ℕ) (seen : Seen) : Type 0 where

@@ -11,7 +11,7 @@ use Rattle.lexemes.specs.code.Codes.{constantCode, variableCode}
 use Rattle.lexemes.specs.code.Standing.{Source}
 use Rattle.term_nodes.specs.code.Says.{Says, SaysPattern}
 use Rattle.term_nodes.specs.code.Table.{headWord}
-use Rattle.term_nodes.specs.Terms.{Raw, constant, cut, firstWord, number, pattern, word}
+use Rattle.term_nodes.specs.Terms.{Raw, constant, cut, decimal, firstWord, number, pattern, word}
 use Rattle.names.specs.Scopes.{View, means}
 use Rattle.names.specs.Unknown.{unknownAt}
 use Rattle.names.specs.declared.Meaning.{Meaning}
@@ -22,7 +22,8 @@ use Rattle.names.specs.code.Lookup.{Sees, Stated, sourceOf, Bounded, Hea
 abbrev pub nameWord : Raw → ℕ
 nameWord (word at head name) = head
 nameWord (number at v) = at
-nameWord (constant at width v written) = at
+nameWord (constant at width v) = at
+nameWord (decimal at head name width) = head
 nameWord (cut at head i j) = head
 nameWord (pattern at c s held) = at + 2
 

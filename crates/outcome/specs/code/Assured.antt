@@ -8,9 +8,11 @@ use Rattle.forest.specs.code.Cursors.{size}
 use Rattle.terms.specs.Sorts.{sortsOf as termSorts}
 use Rattle.derivation.specs.code.Admitted.{Admitted}
 use Rattle.evaluation.specs.code.Points.{SortsSmall}
+use Rattle.evaluation.specs.code.Running.{SmallTerms}
+use Rattle.evaluation.specs.code.Tables.{SmallBodies}
 use Rattle.names.specs.Scopes.{Defined, Function, namedSorts}
 use Rattle.term_faults.specs.Faults.{scopeOf}
-use Rattle.script.specs.Script.{Known}
+use Rattle.script.specs.Script.{Known, definitionsOf}
 use Rattle.outcome.specs.code.Sorted.{Sorted}
 use Rattle.script.specs.Response.{Body, responseView}
 
@@ -19,11 +21,17 @@ unfoldable pub AllAdmitted : List Function → Type 0
 AllAdmitted [] = Unit {0}
 AllAdmitted (f ∷ others) = Admitted (f .grammar) × AllAdmitted others
 
+-- The bodies of `define-fun`s and the constraints of a script have at most 256 nodes each.
+pub record FewNodes (k : Known) : Type 0 where
+  pub bodies : SmallBodies (definitionsOf (k .defined))
+  pub constraints : SmallTerms (k .constraints)
+
 -- A script that passes.
 pub record Assured (k : Known) : Type 0 where
   pub sorted : Sorted k
   pub admitted : AllAdmitted (k .functions)
   pub small : SortsSmall (namedSorts (k .variables))
+  pub few : FewNodes k
 
 -- A body for each function, in script order, of the function's sort, with at most 256 nodes.
 unfoldable pub BodiesFit : (defs : List Defined) → List Function → List Body → Type 0

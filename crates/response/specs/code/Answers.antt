@@ -3,11 +3,10 @@ use Prim.Native.Nat.{ℕ, _+_, _*_, _≤_, _<_}
 use mathlib.Core.List.{List, [], _∷_}
 use mathlib.Core.Path.{_≡_}
 use lib.ListN.{drop, length}
-use Rattle.words.specs.Trees.{list}
 use Rattle.terms.specs.Labels.{Terms}
 use Rattle.terms.specs.code.Nodes.{rowWidth as nodeWidth}
 use Rattle.evaluation.specs.code.Tables.{TermStands}
-use Rattle.lexemes.specs.Lists.{Items, is, item}
+use Rattle.lexemes.specs.Lists.{Items}
 use Rattle.lexemes.specs.code.Standing.{Stands}
 use Rattle.lexemes.specs.code.Table.{nextAt}
 use Rattle.term_nodes.specs.code.Table.{rowWidth as rawWidth}

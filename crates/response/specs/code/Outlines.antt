@@ -5,7 +5,6 @@ use mathlib.Core.List.{List}
 use mathlib.Core.Path.{_≡_}
 use lib.Dec.{ltb}
 use lib.ListN.{length}
-use Rattle.words.specs.Trees.{list}
 use Rattle.lexemes.specs.Lists.{Items, inside, is, item}
 use Rattle.lexemes.specs.code.Standing.{ListAt}
 use Rattle.lexemes.specs.code.Table.{codeAt, nextAt}

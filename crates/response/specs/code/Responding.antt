@@ -22,7 +22,7 @@ use Rattle.script.specs.code.Tables.{Counted, GrammarsHold, NamesHold, PlacesHo
 use Rattle.script.specs.code.Places.{bodyIn, functionsPlace, offsetIn}
 use Rattle.script.specs.declared.Progress.{Progress}
 use Rattle.script.specs.Outcome.{offsetOf}
-use Rattle.script.specs.Response.{Body, bodies}
+use Rattle.script.specs.Response.{Body}
 
 -- The table of lexemes has the offset of each of so many words.
 abbrev pub Starts : (text lexemes : List ℕ) → (nowhere : ℕ) → Type 0

@@ -5,17 +5,24 @@ use Rattle.forest.specs.Forest.{Forest, Node, count, nodesOf, none}
 use Rattle.forest.specs.code.Cursors.{size}
 use Rattle.forest.specs.code.Rows.{numberAt}
 use Rattle.forest.specs.Tables.{rows}
-use Rattle.term_nodes.specs.Terms.{Raw, firstWord, rawTerms, word, number, constant, cut, pattern}
-use mathlib.Core.Bool.{true, cond}
+use Rattle.term_nodes.specs.Terms.{Raw, firstWord, rawTerms, word, number, constant, cut, decimal, pattern}
+use mathlib.Core.Bool.{Bool, true, cond, _&&_}
+use lib.Dec.{eqb, ltb}
+use Rattle.lexemes.specs.code.Codes.{otherCode}
 use Rattle.lexemes.specs.Lists.{Items, is, item}
 
--- The word that says what a node is: the symbol, the numeral, the literal, the i of `(_ extract i j)`, or `Constant` or `Variable`.
+-- The word that says what a node is: the symbol, the numeral, the literal, the word `bvN`, the i of `(_ extract i j)`, or `Constant` or `Variable`.
 abbrev pub headWord : Raw → ℕ
 headWord (word at head name) = head
 headWord (number at v) = at
-headWord (constant at width v written) = at
+headWord (constant at width v) = at
+headWord (decimal at head name width) = head
 headWord (cut at head i j) = head
 headWord (pattern at c s held) = at + 1
+
+-- Whether a node is a constant `(_ bvN n)`, by its first word, the word that says what it is and the code of that.
+unfoldable pub isConstantHead : (first head code : ℕ) → Bool
+isConstantHead first head code = ltb otherCode code && eqb head (first + 2)
 
 -- The operands of a term, by the items of its list.
 abbrev pub operandsOf : Items → Forest Raw

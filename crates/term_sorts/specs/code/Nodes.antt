@@ -9,7 +9,7 @@ use lib.ListN.{length}
 use Rattle.forest.specs.Forest.{Forest, none, tree}
 use Rattle.forest.specs.code.Cursors.{from}
 use Rattle.derivation.specs.Derivation.{Item}
-use Rattle.terms.specs.code.Codes.{nonTerminalKind, functionKind, literalKind, headOf, kindOf, literalSort}
+use Rattle.terms.specs.code.Codes.{nonTerminalKind, functionKind}
 use Rattle.term_sorts.specs.Forms.{FormScope, formSorts, sorted, treeSort}
 use Rattle.term_sorts.specs.code.Forms.{sortNumber}
 use Rattle.term_sorts.specs.code.Signatures.{Sortable, functionSignature, nonTerminalSignature}
@@ -18,10 +18,6 @@ use Rattle.term_sorts.specs.code.Operands.{Stand}
 -- The row of the first `define-fun`, synthesized function or non-terminal, by the kind.
 abbrev pub firstRow : (kind : ℕ) → ℕ
 firstRow kind = cond (eqb kind functionKind) functionSignature (cond (eqb kind nonTerminalKind) nonTerminalSignature 0)
-
--- The sort that the code of a literal, a name, `(Constant σ)` or `(Variable σ)` says.
-abbrev pub leafSort : (code : ℕ) → ℕ
-leafSort code = cond (eqb (kindOf code) literalKind) (literalSort code) (headOf code)
 
 -- The sorts of the trees of forms.
 unfoldable pub treeSorts : FormScope → Forest Item → List (Option ℕ)

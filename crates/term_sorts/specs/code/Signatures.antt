@@ -51,7 +51,7 @@ SortsAre signatures r (s ∷ more) = RowIs signatures r (record { arguments = []
 -- A literal's value is one of its sort, the numbers of `extract` are below 64, and a name, a function or a non-terminal is one of those in scope, a name of its
 -- sort: the reader makes no others.
 abbrev pub Real : FormScope → Item → Type 0
-Real scope (the (literal s v w)) = Fit s v
+Real scope (the (literal s v)) = Fit s v
 Real scope (the (name s k)) = (k < length (scope .terms .names)) × (getD (scope .terms .names) k 0 ≡ s)
 Real scope (the (operator o i j)) = j < maxWidth
 Real scope (the (defined k)) = k < length (scope .terms .defined)

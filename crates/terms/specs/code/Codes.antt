@@ -37,10 +37,6 @@ anyArgumentKind = 7
 abbrev pub kindCount : ℕ
 kindCount = 16
 
--- The sort in a literal's code is a number below this.
-abbrev pub sortCount : ℕ
-sortCount = 128
-
 -- The number j of `(_ extract i j)` is below this.
 abbrev pub lowCount : ℕ
 lowCount = 64
@@ -53,21 +49,9 @@ codeWith kind head = kind + kindCount * head
 abbrev pub kindOf : (code : ℕ) → ℕ
 kindOf code = code % kindCount
 
--- What stands beside the kind in a code: a name's sort, an operator's number, or the sort of `(Constant σ)` or `(Variable σ)`.
+-- What stands beside the kind in a code: the sort of a literal, a name, `(Constant σ)` or `(Variable σ)`, or an operator's number.
 abbrev pub headOf : (code : ℕ) → ℕ
 headOf code = code / kindCount
-
--- What stands beside a literal's kind: its sort, and how it is written.
-abbrev pub literalHead : (sort written : ℕ) → ℕ
-literalHead sort written = sort + sortCount * written
-
--- The sort in a literal's code.
-abbrev pub literalSort : (code : ℕ) → ℕ
-literalSort code = headOf code % sortCount
-
--- How the literal of a code is written.
-abbrev pub writtenIn : (code : ℕ) → ℕ
-writtenIn code = headOf code / sortCount
 
 -- The value of `(_ extract i j)`.
 abbrev pub cutValue : (i j : ℕ) → ℕ

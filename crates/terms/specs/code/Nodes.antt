@@ -6,11 +6,11 @@ use Rattle.forest.specs.code.Cursors.{size}
 use Rattle.forest.specs.code.Rows.{numberAt}
 use Rattle.forest.specs.Tables.{rows}
 use Rattle.terms.specs.Labels.{Label, Terms, defined, function, literal, name, operator}
-use Rattle.terms.specs.code.Codes.{codeWith, definedKind, functionKind, literalHead, literalKind, nameKind, operatorKind, cutValue, lowCount, sortCount}
+use Rattle.terms.specs.code.Codes.{codeWith, definedKind, functionKind, literalKind, nameKind, operatorKind, cutValue, lowCount}
 
--- The code of a label: its kind, and with it a literal's sort and how it is written, a name's sort, or an operator's number.
+-- The code of a label: its kind, and with it the sort of a literal or a name, or an operator's number.
 abbrev pub codeOf : Label → ℕ
-codeOf (literal s v w) = codeWith literalKind (literalHead s w)
+codeOf (literal s v) = codeWith literalKind s
 codeOf (name s k) = codeWith nameKind s
 codeOf (operator o i j) = codeWith operatorKind o
 codeOf (defined k) = codeWith definedKind 0
@@ -19,7 +19,7 @@ codeOf (function k) = codeWith functionKind 0
 -- The value of a label: a literal's, the numbers of `(_ extract i j)`, or which name or function it is. It tells i and j only where j is small
 -- enough (`Plain`), which the bounds of `extract` see to.
 abbrev pub valueOf : Label → ℕ
-valueOf (literal s v w) = v
+valueOf (literal s v) = v
 valueOf (name s k) = k
 valueOf (operator o i j) = cutValue i j
 valueOf (defined k) = k
@@ -55,7 +55,7 @@ sizeAt nodes i = numberAt rowWidth nodes i 3
 
 -- A label that its two numbers tell.
 abbrev pub Plain : Label → Type 0
-Plain (literal s v w) = s < sortCount
+Plain (literal s v) = Unit {0}
 Plain (operator o i j) = j < lowCount
 Plain (name s k) = Unit {0}
 Plain (defined k) = Unit {0}

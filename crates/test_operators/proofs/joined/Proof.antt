@@ -1,6 +1,6 @@
 use native.Mathlib.Omega.{arith}
-use borrow.Author.Needs.{needs}
 use Rattle.test_operators.proofs.Taken.{joined-taken, room}
+use borrow.Author.Needs.{needs}
 use Rattle.test_operators.proofs.joined.Statement.{statement}
 use Rattle.test_operators.proofs.joined.Tie as tie
 
@@ -19,6 +19,9 @@ add-other c = omega (arith, room (c .before .args .source) (c .before .pre .2) (
 low-requires : tie.Need-low-requires
 low-requires c κs = search room
 
+slice-aggregate-apply : tie.Need-slice-aggregate-apply
+slice-aggregate-apply c = search needs
+
 apply-requires : tie.Need-apply-requires
 apply-requires c κs = search joined-taken
 
@@ -26,4 +29,14 @@ returns-2 : tie.Need-returns-2
 returns-2 c = search needs
 
 pub joined-spec : {M : Type 1} → statement M
-joined-spec = tie.close (tie.spec returns sub-other rem-other add-other low-requires apply-requires returns-2)
+joined-spec =
+    tie.close
+    (tie.spec
+    returns
+    sub-other
+    rem-other
+    add-other
+    low-requires
+    slice-aggregate-apply
+    apply-requires
+    returns-2)

@@ -5,10 +5,10 @@ use Rattle.test_operators.proofs.line.Statement.{statement}
 use Rattle.test_operators.proofs.line.Tie as tie
 
 abbrev Inv-loop : tie.InvT-loop
-Inv-loop width operator₀ t3 t4 operator = operator ≤ operatorCount
+Inv-loop width operator₀ t3 operator = operator ≤ operatorCount
 
 abbrev μ-loop : tie.MeasureT-loop
-μ-loop width operator₀ t3 t4 operator = operatorCount - operator
+μ-loop width operator₀ t3 operator = operatorCount - operator
 
 print-decimal-requires : tie.Need-print-decimal-requires Inv-loop μ-loop
 print-decimal-requires c κs = search needs
@@ -16,20 +16,14 @@ print-decimal-requires c κs = search needs
 loop-holds : tie.Need-loop-holds Inv-loop μ-loop
 loop-holds c = search needs
 
-slice-aggregate-write-all : tie.Need-slice-aggregate-write-all Inv-loop μ-loop
-slice-aggregate-write-all c = search needs
-
-write-all-requires : tie.Need-write-all-requires Inv-loop μ-loop
-write-all-requires c κs = search needs
-
 edges-requires : tie.Need-edges-requires Inv-loop μ-loop
 edges-requires c κs = search needs
 
 pairs-requires : tie.Need-pairs-requires Inv-loop μ-loop
 pairs-requires c κs = search needs
 
-print-hex-requires : tie.Need-print-hex-requires Inv-loop μ-loop
-print-hex-requires c κs = search needs
+print-hash-requires : tie.Need-print-hash-requires Inv-loop μ-loop
+print-hash-requires c κs = search needs
 
 add-operator : tie.Need-add-operator Inv-loop μ-loop
 add-operator c = search needs
@@ -40,11 +34,14 @@ loop-less c = search needs
 loop-again : tie.Need-loop-again Inv-loop μ-loop
 loop-again c = search needs
 
-slice-aggregate-write-all-2 : tie.Need-slice-aggregate-write-all-2 Inv-loop μ-loop
-slice-aggregate-write-all-2 c = search needs
+further-requires : tie.Need-further-requires Inv-loop μ-loop
+further-requires c κs = search needs
 
-write-all-requires-2 : tie.Need-write-all-requires-2 Inv-loop μ-loop
-write-all-requires-2 c κs = search needs
+slice-aggregate-write-all : tie.Need-slice-aggregate-write-all Inv-loop μ-loop
+slice-aggregate-write-all c = search needs
+
+write-all-requires : tie.Need-write-all-requires Inv-loop μ-loop
+write-all-requires c κs = search needs
 
 returns : tie.Need-returns Inv-loop μ-loop
 returns c = search needs
@@ -57,14 +54,13 @@ line-spec =
     μ-loop
     print-decimal-requires
     loop-holds
-    slice-aggregate-write-all
-    write-all-requires
     edges-requires
     pairs-requires
-    print-hex-requires
+    print-hash-requires
     add-operator
     loop-less
     loop-again
-    slice-aggregate-write-all-2
-    write-all-requires-2
+    further-requires
+    slice-aggregate-write-all
+    write-all-requires
     returns)

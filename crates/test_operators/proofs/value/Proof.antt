@@ -1,5 +1,5 @@
+use Rattle.test_operators.proofs.Taken.{logic-alike, plain-alike, rule-is}
 use borrow.Author.Needs.{needs}
-use Rattle.test_operators.proofs.Taken.{choice-taken, logic-taken, plain-taken, rule-is}
 use Rattle.test_operators.proofs.value.Statement.{statement}
 use Rattle.test_operators.proofs.value.Tie as tie
 
@@ -18,17 +18,14 @@ low-requires-3 c κs = search needs
 low-requires-4 : tie.Need-low-requires-4
 low-requires-4 c κs = search needs
 
-second-requires : tie.Need-second-requires
-second-requires c κs = search needs
-
-apply-requires : tie.Need-apply-requires
-apply-requires c κs = search logic-taken
+alike-requires : tie.Need-alike-requires
+alike-requires c κs = search logic-alike
 
 low-requires-5 : tie.Need-low-requires-5
 low-requires-5 c κs = search needs
 
-apply-requires-2 : tie.Need-apply-requires-2
-apply-requires-2 c κs = search choice-taken
+chosen-requires : tie.Need-chosen-requires
+chosen-requires c κs = (search needs, rule-is _ (c .before .before .rule-of .ensures) (c .before .match .keys2), search needs, search needs)
 
 joined-requires : tie.Need-joined-requires
 joined-requires c κs = (search needs, rule-is _ (c .before .rule-of .ensures) (c .match .keys3), search needs)
@@ -36,14 +33,8 @@ joined-requires c κs = (search needs, rule-is _ (c .before .rule-of .ensures) (
 extracted-requires : tie.Need-extracted-requires
 extracted-requires c κs = (search needs, rule-is _ (c .before .rule-of .ensures) (c .match .keys4), search needs)
 
-second-requires-2 : tie.Need-second-requires-2
-second-requires-2 c κs = search needs
-
-second-requires-3 : tie.Need-second-requires-3
-second-requires-3 c κs = search needs
-
-apply-requires-3 : tie.Need-apply-requires-3
-apply-requires-3 c κs = search plain-taken
+alike-requires-2 : tie.Need-alike-requires-2
+alike-requires-2 c κs = search plain-alike
 
 returns : tie.Need-returns
 returns c = search needs
@@ -69,15 +60,12 @@ value-spec =
     rule-of-requires
     low-requires-3
     low-requires-4
-    second-requires
-    apply-requires
+    alike-requires
     low-requires-5
-    apply-requires-2
+    chosen-requires
     joined-requires
     extracted-requires
-    second-requires-2
-    second-requires-3
-    apply-requires-3
+    alike-requires-2
     returns
     returns-2
     returns-3

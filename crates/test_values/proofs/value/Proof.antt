@@ -11,6 +11,9 @@ nodes-requires c κs = search needs
 bodies-requires : tie.Need-bodies-requires
 bodies-requires c κs = search needs
 
+stack-requires : tie.Need-stack-requires
+stack-requires c κs = search needs
+
 slice-aggregate-eval-term : tie.Need-slice-aggregate-eval-term
 slice-aggregate-eval-term c = search needs
 
@@ -21,12 +24,13 @@ slice-aggregate-eval-term-3 : tie.Need-slice-aggregate-eval-term-3
 slice-aggregate-eval-term-3 c = search needs
 
 eval-term-requires : tie.Need-eval-term-requires
-eval-term-requires c κs = evaluable (c .before .before .before .before .nodes .ensures) (c .before .before .before .bodies .ensures)
+eval-term-requires c κs =
+    evaluable (c .before .before .before .before .before .nodes .ensures) (c .before .before .before .before .bodies .ensures) (c .before .before .before .stack .ensures)
 
 returns : tie.Need-returns
-returns c = let nodes = c .before .before .before .before .before .nodes .ensures in
-    let value = c .eval-term .ensures (evaluable nodes (c .before .before .before .before .bodies .ensures)) in
-    ap (λ (v : Value). v .number) value
+returns c =
+    let given = c .before .eval-term .ensures (evaluable (c .before .before .before .before .before .before .before .nodes .ensures) (c .before .before .before .before .before .before .bodies .ensures) (c .before .before .before .before .before .stack .ensures)) in
+    ap (λ (v : Value). v .number) (given .is)
 
 pub value-spec : {M : Type 1} → statement M
 value-spec =
@@ -34,6 +38,7 @@ value-spec =
     (tie.spec
     nodes-requires
     bodies-requires
+    stack-requires
     slice-aggregate-eval-term
     slice-aggregate-eval-term-2
     slice-aggregate-eval-term-3

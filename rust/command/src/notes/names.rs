@@ -8,6 +8,7 @@ use simple::operators::OPERATORS;
 use simple::script::{arguments, header_names, names_of, synth_fun_sorts};
 use simple::terms::{is_reserved, Name};
 use simple::tree::Tree;
+use simple::words::is_numeral;
 
 /// Operators of SMT-LIB on bit vectors that are not carried.
 const NOT_CARRIED: [&str; 15] = [
@@ -78,8 +79,10 @@ fn unknown(reading: &Reading, tree: &Tree, word: &str) -> Cause {
     let mut others = others.filter_map(|one| new_names(one).first().copied());
     let unseen = others.find(|name| name.symbol() == Some(word));
     let hint = unseen.map(|name| Hint::at(name, format!("a name `{word}` stands here, but is not seen there")));
+    let numbered = word.strip_prefix("bv").is_some_and(|digits| is_numeral(digits.as_bytes()));
     let question = match &hint {
         Some(_) => String::new(),
+        None if numbered => format!(": a constant is `(_ {word} n)`, with its width n"),
         None => question(word, known),
     };
     Cause {

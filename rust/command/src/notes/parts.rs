@@ -1,11 +1,18 @@
 //! Answer 13: the smallest part of a body that is not derived at its place.
 
 use super::Hint;
+use crate::answers::counted;
+use crate::pieces::pieces;
 use simple::eval::literal_value;
 use simple::grammar::{Form, Grammar, Rule, Search};
+use simple::operands;
 use simple::script::Synthesized;
+use simple::terms::literal_sort;
 use simple::tree::Tree;
 use std::collections::HashMap;
+
+/// So many literals are listed.
+const MOST_LISTED: usize = 8;
 
 /// A part of a body that is not what its place wants.
 #[derive(Clone)]
@@ -29,7 +36,7 @@ struct Blame<'a> {
     found: HashMap<(usize, usize), Part<'a>>,
 }
 
-/// The smallest part of a body that no rule derives at its place, and how a literal there is written in the grammar.
+/// The smallest part of a body that no rule derives at its place, and what could stand there in the place of a literal or of its operands.
 pub fn hints(function: &Synthesized, body: &Tree) -> Vec<Hint> {
     let mut blame = Blame {
         grammar: &function.grammar,
@@ -47,11 +54,17 @@ pub fn hints(function: &Synthesized, body: &Tree) -> Vec<Hint> {
         Wanted::Words(words) => format!("the rule has `{words}` in this place"),
     };
     let mut hints = vec![Hint::at(part.node, wanted)];
-    if let Some(word) = blame.other_writing(&part) {
-        let message = format!("the grammar has this literal as `{word}`: literals are compared as they are written, see docs/SOLVERS.md");
-        hints.push(Hint::at(part.node, message));
-    }
+    let more = blame.about_literal(&part).or_else(|| blame.about_count(&part));
+    hints.extend(more.map(|message| Hint::at(part.node, message)));
     hints
+}
+
+/// Whether two terms without non-terminals are the same: literals by value and width, all else as it is written.
+fn same(term: &Tree, node: &Tree) -> bool {
+    match (literal_value(term), literal_value(node)) {
+        (None, None) => term.same_words(node),
+        (term, node) => term == node,
+    }
 }
 
 impl<'a> Blame<'a> {
@@ -97,8 +110,9 @@ impl<'a> Blame<'a> {
 
     /// Whether a rule's term and a node are applications of the same head to as many operands.
     fn alike(&self, term: &Tree, node: &Tree) -> bool {
-        match (term.items(), node.items()) {
-            (Some(term), Some(node)) => term.len() == node.len() && term[0].same_words(&node[0]),
+        match (operands(term), operands(node), term.items(), node.items()) {
+            ([], ..) => false,
+            (own, other, Some(term), Some(node)) => own.len() == other.len() && term[0].same_words(&node[0]),
             _ => false,
         }
     }
@@ -111,29 +125,69 @@ impl<'a> Blame<'a> {
         }
         if !self.alike(term, node) {
             let wanted = Wanted::Words(term);
-            return (!term.same_words(node)).then_some(Part { node, wanted });
+            return (!same(term, node)).then_some(Part { node, wanted });
         }
-        let operands = term.items()?.iter().zip(node.items()?).skip(1);
-        operands.filter_map(|(term, node)| self.within(term, node)).next()
+        let mut pairs = operands(term).iter().zip(operands(node));
+        pairs.find_map(|(term, node)| self.within(term, node))
     }
 
-    /// How a literal is written in a rule that has it, where it is written otherwise in the body.
-    fn other_writing(&self, part: &Part) -> Option<String> {
-        let value = literal_value(part.node)?;
-        let term = |rule: &&'a Rule| match &rule.form {
+    /// What the place of a literal wants: another sort, or one of the literals that stand in rules.
+    fn about_literal(&self, part: &Part) -> Option<String> {
+        let found = literal_sort(part.node)?;
+        let (wanted, index) = match part.wanted {
+            Wanted::Nonterminal(index) => (self.grammar.nonterminals[index].sort, Some(index)),
+            Wanted::Words(term) => (literal_sort(term)?, None),
+        };
+        if found != wanted {
+            return Some(format!("this literal has the sort {found}, expected is {wanted}"));
+        }
+        let literals = self.literals(index?);
+        let name = &self.grammar.nonterminals[index?].name;
+        (!literals.is_empty()).then(|| format!("the literals that `{name}` derives are {}", listed(&literals)))
+    }
+
+    /// A rule with the operator of an application, but another number of operands, where no rule has as many.
+    fn about_count(&self, part: &Part) -> Option<String> {
+        let Wanted::Nonterminal(index) = part.wanted else {
+            return None;
+        };
+        let count = operands(part.node).len();
+        let head = part.node.items().filter(|_| count > 0)?.first()?;
+        let terms = self.terms(index).into_iter();
+        let mut terms = terms.filter(|term| term.items().is_some_and(|items| items[0].same_words(head)));
+        let first = terms.next()?;
+        let fits = |term: &Tree| operands(term).len() == count;
+        let own = counted(operands(first).len() as u64, "operand");
+        let other = !fits(first) && !terms.any(fits);
+        other.then(|| format!("the rule `{first}` has {own}, here are {count}"))
+    }
+
+    /// The literals that are whole rules of a non-terminal, or of those that are the whole of such a rule.
+    fn literals(&self, nonterminal: usize) -> Vec<String> {
+        let terms = self.terms(nonterminal).into_iter();
+        let literals = terms.filter(|term| literal_value(term).is_some());
+        literals.map(|term| format!("`{term}`")).collect()
+    }
+
+    /// The terms among the rules of a non-terminal, and of those that are the whole of such a rule.
+    fn terms(&self, nonterminal: usize) -> Vec<&'a Tree> {
+        let term = |rule: &'a Rule| match &rule.form {
             Form::Term(term) => Some(term),
             _ => None,
         };
-        let terms: Vec<&Tree> = match part.wanted {
-            Wanted::Nonterminal(index) => self.rules(index).iter().filter_map(term).collect(),
-            Wanted::Words(term) => vec![term],
-        };
-        let same = terms.into_iter().find(|term| literal_value(term) == Some(value));
-        same.map(Tree::to_string)
+        self.rules(nonterminal).into_iter().filter_map(term).collect()
     }
 }
 
-/// How many words a tree has.
+/// Texts in a row, of many only the first.
+fn listed(texts: &[String]) -> String {
+    match texts.get(..MOST_LISTED) {
+        Some(first) if texts.len() > MOST_LISTED => format!("{} and {} more", first.join(", "), texts.len() - MOST_LISTED),
+        _ => texts.join(", "),
+    }
+}
+
+/// How many words and literals a tree has.
 fn size(tree: &Tree) -> usize {
-    tree.words().len()
+    pieces(tree).len()
 }

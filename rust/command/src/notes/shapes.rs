@@ -3,6 +3,7 @@
 use super::near::meant;
 use super::{Hint, Reading};
 use simple::commands::rule_form;
+use simple::constants::digits_after_bv;
 use simple::terms::{is_sort, is_term, CARRIED_COMMANDS, OTHER_COMMANDS};
 use simple::tree::Tree;
 
@@ -51,7 +52,7 @@ fn list_not_carried(tree: &Tree) -> Option<&Tree> {
     let symbol = |index: usize| items.get(index).and_then(Tree::symbol);
     let begun = match symbol(0) {
         Some("let" | "exists" | "forall" | "!") => true,
-        Some("_") => !matches!(symbol(1), Some("BitVec" | "extract")),
+        Some("_") => !matches!(symbol(1), Some("BitVec" | "extract")) && !begins_constant(items),
         _ => false,
     };
     match begun {
@@ -76,16 +77,22 @@ fn instead(reading: &Reading, list: &Tree) -> &'static str {
     match (symbol(0), symbol(1)) {
         (Some("let"), _) if reading.in_response => ": cvc5 prints none with --dag-thresh=0",
         (Some("let"), _) => ": write the term out, or as a `define-fun`",
-        (Some("_"), Some(name)) if is_numbered(name) => ": write the literal with `#x` or `#b`; cvc5 does without --bv-print-consts-as-indexed-symbols",
+        (Some("_"), Some(name)) if is_numbered(name) => ": in `(_ bvN n)` the number N is `0`, or digits that do not begin with 0",
         (Some("_"), _) => ": docs/LANGUAGE.md says what to write instead",
         _ => "",
     }
 }
 
-/// Whether a name is `bv` and digits.
+/// Whether a name is `bv` with digits or none.
 fn is_numbered(name: &str) -> bool {
-    let digits = name.strip_prefix("bv").unwrap_or_default();
-    !digits.is_empty() && digits.bytes().all(|digit| digit.is_ascii_digit())
+    let digits = name.strip_prefix("bv");
+    digits.is_some_and(|digits| digits.bytes().all(|digit| digit.is_ascii_digit()))
+}
+
+/// Whether the items of a list begin as those of a constant `(_ bvN n)`.
+fn begins_constant(items: &[Tree]) -> bool {
+    let mark = items.first().and_then(Tree::symbol);
+    mark == Some("_") && items.get(1).and_then(digits_after_bv).is_some()
 }
 
 /// What is wrong with the shape or the order of a command.
@@ -214,6 +221,7 @@ fn term_misfit(term: &Tree) -> Option<Hint> {
     let head = items.first().and_then(Tree::symbol);
     Some(match (head, items.len()) {
         (_, 0) => Hint::at(term, "an empty list is no term"),
+        (Some("_"), _) if begins_constant(items) => Hint::at(term, "a constant is `(_ bvN n)`: its value, and its width as a numeral"),
         (Some("_"), _) => Hint::at(term, format!("`{term}` is no term")),
         (Some("Constant" | "Variable"), _) => Hint::at(term, format!("`{term}` may be a rule, but not a part of a term")),
         (Some("true" | "false"), _) => Hint::at(term, "a term does not begin with a literal"),

@@ -4,6 +4,7 @@ use super::names::seen;
 use super::{Cause, Reading};
 use crate::answers::counted;
 use simple::commands::{command, Command};
+use simple::constants::{constant, Constant};
 use simple::operands;
 use simple::operators::{operator, Operator, Sort, SortRule};
 use simple::script::rule_terms;
@@ -47,7 +48,10 @@ fn part(term: &Tree, place: usize) -> Option<&Tree> {
 /// What is wrong with a term whose operands have no fault.
 fn fault(term: &Tree, seen: &[Name]) -> Option<String> {
     if term.numeral().is_some() {
-        return Some(format!("the numeral `{term}` is no literal: write it with `#x` or `#b`, in all digits of its width"));
+        return Some(format!("the numeral `{term}` is no literal: write it as `(_ bv{term} n)`, n its width, or with `#x` or `#b` in all digits of its width"));
+    }
+    if let Some(constant) = constant(term) {
+        return Some(constant_fault(&constant));
     }
     let sorts: Vec<Sort> = operands(term).iter().filter_map(|one| sort_of(one, seen).ok()).collect();
     let bare = extract_indices(term).is_some();
@@ -56,16 +60,36 @@ fn fault(term: &Tree, seen: &[Name]) -> Option<String> {
         return Some(extract_fault(head, indices, &sorts));
     }
     let name = head.symbol()?;
-    let found = seen.iter().find(|one| one.name == name);
-    let count = operator(name).map(|one| one.operands).or_else(|| found.map(|one| one.operands.len()))?;
-    if sorts.len() != count {
-        return Some(format!("`{name}` takes {}, here {}", counted(count as u64, "operand"), are(sorts.len())));
-    }
-    let wanted = match (operator(name), found) {
-        (Some(operator), _) => wanted(operator).to_string(),
-        (None, found) => listed(&found?.operands),
+    let (taken, count, wanted) = match operator(name) {
+        Some(operator) => (operator.takes(sorts.len()), count(operator), wanted(operator).to_string()),
+        None => {
+            let found = &seen.iter().find(|one| one.name == name)?.operands;
+            (found.len() == sorts.len(), counted(found.len() as u64, "operand"), listed(found))
+        }
     };
-    Some(format!("`{name}` takes {wanted}, found {}", listed(&sorts)))
+    Some(match taken {
+        true => format!("`{name}` takes {wanted}, found {}", listed(&sorts)),
+        false => format!("`{name}` takes {count}, here {}", are(sorts.len())),
+    })
+}
+
+/// What is wrong with a constant `(_ bvN n)`.
+fn constant_fault(constant: &Constant) -> String {
+    match constant.width {
+        0 => "a width of 0 is none: a width is at least 1".to_string(),
+        width => {
+            let greatest = Sort::BitVec(width).greatest();
+            format!("the value {} does not fit {}: the greatest is {greatest}", constant.digits, counted(width.into(), "bit"))
+        }
+    }
+}
+
+/// How many operands an operator takes.
+fn count(operator: &Operator) -> String {
+    match operator.or_more {
+        true => format!("{} or more operands", operator.operands),
+        false => counted(operator.operands as u64, "operand"),
+    }
 }
 
 /// What is wrong with an `extract`.

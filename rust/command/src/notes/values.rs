@@ -1,7 +1,8 @@
 //! Answer 14: the values of the left sides of `=>` and of every application of a synthesized function.
 
 use super::Hint;
-use crate::evaluation::value;
+use crate::evaluation::{differing, value};
+use crate::guards::sides;
 use crate::run::Given;
 use simple::tree::Tree;
 
@@ -13,7 +14,9 @@ pub fn hints(given: &Given, constraint: usize, point: &[u64]) -> Vec<Hint> {
     let mut terms = Vec::new();
     guards(&constraint.term, &mut terms);
     applications(given, &constraint.term, &mut terms);
-    terms.retain(|term| !is_side(term, &constraint.term));
+    let said = differing(&given.read, &given.bodies, &constraint.term, point);
+    let said = said.map(|sides| sides.map(|(side, _)| side.start()));
+    terms.retain(|term| !said.is_some_and(|said| said.contains(&term.start())));
     let mut hints: Vec<Hint> = Vec::new();
     for term in terms {
         let value = value(&given.read, &given.bodies, term, point);
@@ -23,21 +26,11 @@ pub fn hints(given: &Given, constraint: usize, point: &[u64]) -> Vec<Hint> {
     hints
 }
 
-/// Whether a term is a side of an equation, whose values are said beside it.
-fn is_side(term: &Tree, constraint: &Tree) -> bool {
-    match constraint.items() {
-        Some([head, sides @ ..]) if head.symbol() == Some("=") => sides.iter().any(|side| side.start() == term.start()),
-        _ => false,
-    }
-}
-
 /// The left sides of a `=>`, and of those in its right side.
 fn guards<'a>(term: &'a Tree, terms: &mut Vec<&'a Tree>) {
-    if let Some([head, left, right]) = term.items() {
-        if head.symbol() == Some("=>") {
-            terms.push(left);
-            guards(right, terms);
-        }
+    if let Some((lefts, right)) = sides(term) {
+        terms.extend(lefts);
+        guards(right, terms);
     }
 }
 

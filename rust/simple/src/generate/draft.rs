@@ -1,14 +1,17 @@
 //! A random sound script with grammars, and a response derived from them, as lists of words.
 
 use super::random::Random;
-use crate::operators::{Sort, SortRule, OPERATORS};
+use crate::operators::{operator, Operator, Sort, SortRule, OPERATORS};
 use crate::terms::{is_reserved, Name};
 
 /// Names to take new ones from; few, so that commands often share them.
-const NAMES: [&str; 26] = [
+const NAMES: [&str; 30] = [
     "x", "y", "z", "a", "b", "c", "A", "B", "C", "Start", "BV32", "f", "g", "h", "d0", "d1", "x.1",
-    "@k", "~", "as", "fail", "bvsle", "<=", "Int", "a/b?!$", "*_-+&^%>",
+    "@k", "~", "as", "fail", "bvsle", "<=", "Int", "a/b?!$", "*_-+&^%>", "bv", "bv1", "bv5",
+    "bv05",
 ];
+/// The most nodes of a term.
+const MOST_NODES: usize = 256;
 
 /// The words of a script and a response, and the points.
 pub struct Draft {
@@ -17,12 +20,13 @@ pub struct Draft {
     pub points: Vec<u64>,
 }
 
-/// A term as it is made: the words of its head, its operands, none for a leaf, and its sort.
+/// A term as it is made: the words of its head, its operands, none for a leaf, its sort, and a literal's value where it has bits.
 #[derive(Clone)]
 struct Shape {
     head: Vec<String>,
     operands: Vec<Shape>,
     sort: Sort,
+    bits: Option<u64>,
 }
 
 /// A rule as it is made.
@@ -40,11 +44,12 @@ struct Group {
     ending: usize,
 }
 
-/// A synthesized function with its derived body.
+/// A synthesized function with its derived body, and one that is nearly derived where there is one.
 struct Function {
     name: Name,
     arguments: Vec<Name>,
     body: Shape,
+    slipped: Option<Shape>,
 }
 
 /// What is made so far.
@@ -67,6 +72,34 @@ impl Shape {
             head: vec![word.to_string()],
             operands: Vec::new(),
             sort,
+            bits: None,
+        }
+    }
+
+    /// A literal of bits.
+    fn bits(random: &mut Random, width: u32, value: u64) -> Shape {
+        Shape {
+            head: spelt(random, width, value),
+            operands: Vec::new(),
+            sort: Sort::BitVec(width),
+            bits: Some(value),
+        }
+    }
+
+    /// A random literal of a sort.
+    fn literal(random: &mut Random, sort: Sort) -> Shape {
+        let value = value(random, sort);
+        match sort {
+            Sort::Bool => Shape::leaf(truth(value), sort),
+            Sort::BitVec(width) => Shape::bits(random, width, value),
+        }
+    }
+
+    /// The literal of bits that it is, spelt anew.
+    fn respelt(&self, random: &mut Random) -> Option<Shape> {
+        match (self.sort, self.bits) {
+            (Sort::BitVec(width), Some(value)) => Some(Shape::bits(random, width, value)),
+            _ => None,
         }
     }
 
@@ -76,6 +109,7 @@ impl Shape {
             head: words(head),
             operands,
             sort,
+            bits: None,
         }
     }
 
@@ -94,21 +128,32 @@ impl Shape {
         list(inner.collect())
     }
 
+    /// Whether it compares its operands, which may then have any sort.
+    fn compares(&self) -> bool {
+        matches!(self.head[0].as_str(), "=" | "distinct")
+    }
+
+    /// Whether it or a part of it compares its operands.
+    fn holds_comparison(&self) -> bool {
+        self.compares() || self.operands.iter().any(Shape::holds_comparison)
+    }
+
     /// The number of its nodes.
     fn nodes(&self) -> usize {
         1 + self.operands.iter().map(Shape::nodes).sum::<usize>()
     }
 
     /// The term with each leaf replaced where a replacement is given.
-    fn replaced(&self, replacement: &mut dyn FnMut(&str) -> Option<Shape>) -> Shape {
+    fn replaced(&self, replacement: &mut dyn FnMut(&Shape) -> Option<Shape>) -> Shape {
         if self.operands.is_empty() {
-            return replacement(&self.head[0]).unwrap_or_else(|| self.clone());
+            return replacement(self).unwrap_or_else(|| self.clone());
         }
         let operands = self.operands.iter();
         Shape {
             head: self.head.clone(),
             operands: operands.map(|one| one.replaced(replacement)).collect(),
             sort: self.sort,
+            bits: None,
         }
     }
 }
@@ -139,18 +184,35 @@ pub fn sort_words(sort: Sort) -> Vec<String> {
     }
 }
 
-/// A random literal of a sort.
-pub fn literal(random: &mut Random, sort: Sort) -> String {
-    let Sort::BitVec(width) = sort else {
-        return random.pick(&["true", "false"]).to_string();
-    };
-    let value = value(random, sort);
-    let digits = width as usize / 4;
-    match width % 4 == 0 && random.percent(70) {
-        true if random.percent(50) => format!("#x{value:0digits$x}"),
-        true => format!("#x{value:0digits$X}"),
-        false => format!("#b{value:0width$b}", width = width as usize),
+/// The literal of Bool that a number stands for.
+fn truth(value: u64) -> &'static str {
+    match value {
+        0 => "false",
+        _ => "true",
     }
+}
+
+/// The words of a random literal of a sort.
+pub fn literal(random: &mut Random, sort: Sort) -> Vec<String> {
+    Shape::literal(random, sort).head
+}
+
+/// The words of a literal of bits in one of its spellings: `#x` in either case or both, `#b` or `(_ bvN n)`.
+pub fn spelt(random: &mut Random, width: u32, value: u64) -> Vec<String> {
+    let (hex, binary) = (width as usize / 4, width as usize);
+    let way = match width % 4 {
+        0 => random.below(5),
+        _ => random.between(3, 4),
+    };
+    words(&match way {
+        0 => format!("#x{value:0hex$x}"),
+        1 => format!("#x{value:0hex$X}"),
+        2 => format!("#x{value:0hex$x}")
+            .replace('a', "A")
+            .replace('f', "F"),
+        3 => format!("#b{value:0binary$b}"),
+        _ => format!("( _ bv{value} {width} )"),
+    })
 }
 
 /// A random number of a sort, often at an end or about the width.
@@ -211,10 +273,13 @@ pub fn tower(random: &mut Random) -> Draft {
     let levels = random.between(4, 31);
     for level in 1..=levels {
         let last = Shape::leaf(&format!("d{}", level - 1), Sort::Bool);
-        let mut body = last.clone();
-        for _ in 0..random.between(1, 6) {
-            body = Shape::apply_bool("and", vec![last.clone(), body]);
-        }
+        let body = match random.percent(50) {
+            true => Shape::apply_bool("and", vec![last; random.between(2, 7)]),
+            false => {
+                let add = |body, _| Shape::apply_bool("and", vec![last.clone(), body]);
+                (0..random.between(1, 6)).fold(last.clone(), add)
+            }
+        };
         script.extend(words(&format!("( define-fun d{level} ( ) Bool")));
         script.extend(body.words());
         script.extend(words(")"));
@@ -318,7 +383,7 @@ impl Maker<'_> {
         let sort = self.sort();
         let seen = [&arguments[..], &self.definitions].concat();
         let size = self.random.between(1, 8);
-        let body = self.term(sort, &seen, size);
+        let body = self.bounded_term(sort, &seen, size);
         self.script.extend(joined([
             words("define-fun"),
             header_words(&name, &arguments, sort),
@@ -332,20 +397,13 @@ impl Maker<'_> {
         let name = self.fresh(&[]);
         let count = self.argument_count();
         let arguments = self.fresh_names(count, vec![name.clone()]);
-        let sort = self.sort();
+        let sort = match self.derived || self.random.percent(40) {
+            true => self.sort(),
+            false => Sort::Bool,
+        };
         let mut in_scope = vec![name.clone()];
         in_scope.extend(arguments.iter().map(|one| one.name.clone()));
-        let count = match self.random.percent(3) {
-            true => 16,
-            false => self.random.between(1, 4),
-        };
-        let mut nonterminals = self.fresh_names(count, in_scope);
-        nonterminals[0].sort = sort;
-        for nonterminal in &mut nonterminals[1..] {
-            if self.random.percent(50) {
-                nonterminal.sort = sort;
-            }
-        }
+        let nonterminals = self.nonterminals(sort, in_scope);
         let groups = self.groups(&arguments, &nonterminals);
         let pair = |one: &Name| joined([words(&one.name), sort_words(one.sort)]);
         self.script.extend(joined([
@@ -355,11 +413,33 @@ impl Maker<'_> {
             joined(groups.iter().map(group_words)),
         ]));
         let body = self.body(&groups, &arguments);
+        let slipped = match self.derived {
+            true => None,
+            false => self.slipped(&groups, &arguments),
+        };
         self.functions.push(Function {
             name: function_name(name, &arguments, sort),
             arguments,
             body,
+            slipped,
         });
+    }
+
+    /// The non-terminals of a grammar, of which the start has a sort and others often too.
+    fn nonterminals(&mut self, sort: Sort, in_scope: Vec<String>) -> Vec<Name> {
+        let count = match self.random.percent(3) {
+            true => 16,
+            false => self.random.between(1, 4),
+        };
+        let mut nonterminals = self.fresh_names(count, in_scope);
+        nonterminals[0].sort = sort;
+        let alike = if sort == Sort::Bool { 20 } else { 50 };
+        for nonterminal in &mut nonterminals[1..] {
+            if self.random.percent(alike) {
+                nonterminal.sort = sort;
+            }
+        }
+        nonterminals
     }
 
     /// The response: the `define-fun` of each function.
@@ -370,11 +450,13 @@ impl Maker<'_> {
             name,
             arguments,
             body,
+            slipped,
         } in functions
         {
-            let body = match self.derived {
-                true => body,
-                false => self.estranged(&body, &[&arguments[..], &self.definitions].concat()),
+            let body = match slipped {
+                _ if self.derived => body,
+                Some(slipped) => slipped,
+                None => self.estranged(&body, &[&arguments[..], &self.definitions].concat()),
             };
             let header = header_words(&name.name, &arguments, name.sort);
             parts.push(joined([words("define-fun"), header, body.words()]));
@@ -414,23 +496,37 @@ impl Maker<'_> {
         }
     }
 
-    /// Any rule of a sort: a chain, `(Constant σ)`, `(Variable σ)`, an equation of two non-terminals or a term.
+    /// Any rule of a sort: a chain, `(Constant σ)`, `(Variable σ)`, an operator of Core on non-terminals or a term.
     fn rule(&mut self, sort: Sort, seen: &[Name], nonterminals: &[Name]) -> Rule {
-        match self.random.below(10) {
-            0 => Rule::Constant(sort),
-            1 => Rule::Variable(sort),
-            2 | 3 => Rule::Term(self.leaf(sort, nonterminals)),
-            4 | 5 if sort == Sort::Bool => {
-                let one = self.random.pick(nonterminals);
-                let one = Shape::leaf(&one.name, one.sort);
-                let other = self.leaf(one.sort, nonterminals);
-                Rule::Term(Shape::apply_bool("=", vec![one, other]))
-            }
+        match self.random.below(12) {
+            0 | 1 => Rule::Constant(sort),
+            2 | 3 => Rule::Variable(sort),
+            4 | 5 => Rule::Term(self.leaf(sort, nonterminals)),
+            6..=8 if sort == Sort::Bool => Rule::Term(self.core_term(nonterminals)),
             _ => {
                 let size = self.random.between(2, 6);
-                Rule::Term(self.term(sort, seen, size))
+                Rule::Term(self.bounded_term(sort, seen, size))
             }
         }
+    }
+
+    /// An operator of Core on two to four non-terminals, of bits where there are some, or on literals alone.
+    fn core_term(&mut self, nonterminals: &[Name]) -> Shape {
+        let compares = self.random.percent(65);
+        let mut sorts: Vec<Sort> = nonterminals.iter().map(|one| one.sort).collect();
+        sorts.sort_by_key(|&sort| sort == Sort::Bool);
+        let (head, sort) = match compares {
+            true if self.random.percent(70) => ("=", sorts[0]),
+            true => ("=", self.random.pick(&sorts)),
+            false => (self.random.pick(&["and", "or", "xor", "=>"]), Sort::Bool),
+        };
+        let literals = compares && self.random.percent(25);
+        let count = self.random.pick(&[2, 2, 2, 2, 3, 4]);
+        let operand = |_| match literals {
+            true => Shape::literal(self.random, sort),
+            false => self.leaf(sort, nonterminals),
+        };
+        Shape::apply_bool(head, (0..count).map(operand).collect())
     }
 
     /// A body derived at random from the start, small enough for the limits.
@@ -465,7 +561,7 @@ impl Maker<'_> {
             }
         }
         match &group.rules[chosen] {
-            Rule::Constant(sort) => Shape::leaf(&literal(self.random, *sort), *sort),
+            Rule::Constant(sort) => Shape::literal(self.random, *sort),
             Rule::Variable(sort) => {
                 let fitting = arguments.iter().filter(|one| one.sort == *sort);
                 let fitting: Vec<&Name> = fitting.collect();
@@ -474,21 +570,70 @@ impl Maker<'_> {
                     false => Shape::leaf(&self.random.pick(&fitting).name, *sort),
                 }
             }
-            Rule::Term(term) => term.replaced(&mut |leaf| {
-                let inner = groups.iter().position(|one| one.name == leaf)?;
-                Some(self.derived(groups, arguments, inner, depth.saturating_sub(1)))
-            }),
+            Rule::Term(term) => self.expanded(term, groups, arguments, depth.saturating_sub(1)),
         }
     }
 
-    /// The term with one part replaced by a random one of its sort, or with other operands where it compares two.
+    /// A rule's term with each non-terminal replaced by a term that it derives, and each literal of bits spelt anew.
+    fn expanded(
+        &mut self,
+        term: &Shape,
+        groups: &[Group],
+        arguments: &[Name],
+        depth: usize,
+    ) -> Shape {
+        term.replaced(&mut |leaf| {
+            let mut names = groups.iter().map(|one| one.name.as_str());
+            match names.position(|name| leaf.head == [name]) {
+                None => leaf.respelt(self.random),
+                Some(inner) => Some(self.derived(groups, arguments, inner, depth)),
+            }
+        })
+    }
+
+    /// A body by a rule of the start that has an operator of Core, nearly derived: its operands have another sort than the rule's,
+    /// are grouped otherwise, or are one more.
+    fn slipped(&mut self, groups: &[Group], arguments: &[Name]) -> Option<Shape> {
+        let rules = groups[0].rules.iter().filter_map(|rule| match rule {
+            Rule::Term(term) if operator(&term.head[0]).is_some_and(|one| one.or_more) => {
+                Some(term)
+            }
+            _ => None,
+        });
+        let rules: Vec<&Shape> = rules.collect();
+        if rules.is_empty() {
+            return None;
+        }
+        let rule = self.random.pick(&rules);
+        if rule.compares() && self.random.percent(70) {
+            let mut body = rule.clone();
+            self.estrange_operands(&mut body.operands, arguments);
+            return Some(body);
+        }
+        let mut body = self.expanded(rule, groups, arguments, 1);
+        if body.operands.len() > 2 && self.random.percent(60) {
+            let at = self.random.below(body.operands.len() - 1);
+            let pair = body.operands.drain(at..at + 2).collect();
+            let group = Shape::apply_bool(&body.head[0], pair);
+            body.operands.insert(at, group);
+        } else {
+            body.operands.push(body.operands[0].clone());
+        }
+        Some(body)
+    }
+
+    /// The term with one part replaced by a random one of its sort, or with other operands where it compares them.
     fn estranged(&mut self, term: &Shape, seen: &[Name]) -> Shape {
         let mut changed = term.clone();
-        let compares = matches!(term.head[0].as_str(), "=" | "distinct");
-        let chosen = self.random.below(term.operands.len() + 1);
-        if compares && self.random.percent(60) {
-            let sort = self.sort();
-            changed.operands.fill_with(|| self.leaf(sort, seen));
+        let comparing =
+            (0..term.operands.len()).filter(|&one| term.operands[one].holds_comparison());
+        let comparing: Vec<usize> = comparing.collect();
+        let chosen = match comparing.is_empty() || self.random.percent(30) {
+            true => self.random.below(term.operands.len() + 1),
+            false => self.random.pick(&comparing),
+        };
+        if term.compares() && self.random.percent(60) {
+            self.estrange_operands(&mut changed.operands, seen);
         } else if chosen < term.operands.len() {
             changed.operands[chosen] = self.estranged(&term.operands[chosen], seen);
         } else {
@@ -496,6 +641,30 @@ impl Maker<'_> {
             changed = self.term(term.sort, seen, size);
         }
         changed
+    }
+
+    /// Puts leaves of another sort in the places of all operands: literals, which keep the values of literals, or arguments.
+    fn estrange_operands(&mut self, operands: &mut [Shape], seen: &[Name]) {
+        let leaves = seen.iter().filter(|one| one.operands.is_empty());
+        let mut sorts: Vec<Sort> = leaves.map(|one| one.sort).collect();
+        sorts.extend([
+            self.sort(),
+            sort(self.random),
+            Sort::BitVec(8),
+            Sort::BitVec(4),
+        ]);
+        sorts.retain(|&one| one != operands[0].sort);
+        let sort = self.random.pick(&sorts);
+        let literals = self.random.percent(50);
+        for operand in operands {
+            *operand = match (sort, operand.bits) {
+                (Sort::BitVec(width), Some(value)) => {
+                    Shape::bits(self.random, width, value & sort.greatest())
+                }
+                _ if literals => Shape::literal(self.random, sort),
+                _ => self.leaf(sort, seen),
+            };
+        }
     }
 
     /// `(constraint t)`: by a function's own body, true by its form, or any.
@@ -526,7 +695,8 @@ impl Maker<'_> {
         }
         let function = &self.functions[index];
         let body = function.body.replaced(&mut |leaf| {
-            let argument = function.arguments.iter().position(|one| one.name == leaf)?;
+            let mut arguments = function.arguments.iter();
+            let argument = arguments.position(|one| leaf.head == [one.name.as_str()])?;
             Some(operands[argument].clone())
         });
         let call = Shape::apply(&name.name, operands, name.sort);
@@ -544,7 +714,7 @@ impl Maker<'_> {
         let at = self.random.below(width as usize);
         let bit = Sort::BitVec(1);
         let part = Shape::apply(&format!("( _ extract {at} {at} )"), vec![term], bit);
-        Shape::apply_bool("=", vec![part, Shape::leaf("#b1", bit)])
+        Shape::apply_bool("=", vec![part, Shape::bits(self.random, 1, 1)])
     }
 
     /// A constraint that is true by its form.
@@ -552,17 +722,34 @@ impl Maker<'_> {
         let sort = self.sort();
         let any = self.term(sort, seen, 6);
         let one = self.term(Sort::Bool, seen, 6);
+        let other = self.term(Sort::Bool, seen, 3);
+        let between = self.term(sort, seen, 3);
         let negated = |term| Shape::apply_bool("not", vec![term]);
-        match self.random.below(5) {
-            0 => Shape::apply_bool("=", vec![any.clone(), any]),
+        match self.random.below(7) {
+            0 => Shape::apply_bool("=", vec![any; self.random.between(2, 5)]),
             1 => negated(Shape::apply_bool("distinct", vec![any.clone(), any])),
-            2 => Shape::apply_bool("or", vec![one.clone(), negated(one)]),
-            3 => Shape::apply_bool("=>", vec![one.clone(), one]),
+            2 => negated(Shape::apply_bool(
+                "distinct",
+                vec![any.clone(), between, any],
+            )),
+            3 => Shape::apply_bool("or", vec![one.clone(), other, negated(one)]),
+            4 => Shape::apply_bool("=>", vec![one.clone(), one]),
+            5 => Shape::apply_bool("=>", vec![one.clone(), other, one]),
             _ => negated(Shape::apply_bool("xor", vec![one.clone(), one])),
         }
     }
 
-    /// A random term of a sort with about so many nodes.
+    /// A random term of a sort with about so many nodes, and no more than a term may have.
+    fn bounded_term(&mut self, sort: Sort, seen: &[Name], size: usize) -> Shape {
+        loop {
+            let term = self.term(sort, seen, size);
+            if term.nodes() <= MOST_NODES {
+                return term;
+            }
+        }
+    }
+
+    /// A random term of a sort with about so many nodes, more where an operator has many operands.
     fn term(&mut self, sort: Sort, seen: &[Name], size: usize) -> Shape {
         if size <= 1 {
             return self.leaf(sort, seen);
@@ -576,8 +763,31 @@ impl Maker<'_> {
             return Shape::apply(&name.name, operands, sort);
         }
         let (head, operands) = self.operator(sort);
-        let operands = self.operand_terms(&operands, seen, size);
+        let mut operands = self.operand_terms(&operands, seen, size);
+        if operator(&head).is_some_and(|one| one.or_more) {
+            self.repeat_some(&mut operands);
+        }
         Shape::apply(&head, operands, sort)
+    }
+
+    /// Where there are more than two operands, often repeats earlier ones, or makes all but one alike.
+    fn repeat_some(&mut self, operands: &mut [Shape]) {
+        let (way, last) = (self.random.below(3), operands.len() - 1);
+        let other = match self.random.percent(50) {
+            true => last,
+            false => self.random.below(last),
+        };
+        for index in 2..operands.len() {
+            let earlier = self.random.below(index);
+            match way {
+                0 if self.random.percent(50) => operands[index] = operands[earlier].clone(),
+                1 if index != other => operands[index] = operands[0].clone(),
+                _ => {}
+            }
+        }
+        if way == 1 && other > 1 {
+            operands[1] = operands[0].clone();
+        }
     }
 
     /// Random terms of these sorts for an application with about so many nodes.
@@ -593,20 +803,32 @@ impl Maker<'_> {
         let names = names.filter(|one| one.sort == sort && one.operands.is_empty());
         let names: Vec<&Name> = names.collect();
         if names.is_empty() || self.random.percent(20) {
-            return Shape::leaf(&literal(self.random, sort), sort);
+            return Shape::literal(self.random, sort);
         }
         Shape::leaf(&self.random.pick(&names).name, sort)
+    }
+
+    /// How many operands an operator gets: mostly few where it may have more than two, at times nearly as many as a term can hold.
+    fn operand_count(&mut self, operator: &Operator) -> usize {
+        match self.random.below(100) {
+            _ if !operator.or_more => operator.operands,
+            0..=54 => operator.operands,
+            55..=79 => self.random.between(3, 5),
+            80..=97 => self.random.between(6, 12),
+            _ => self.random.between(11, MOST_NODES - 1),
+        }
     }
 
     /// An operator that gives a sort, as its words and the sorts of its operands.
     fn operator(&mut self, sort: Sort) -> (String, Vec<Sort>) {
         loop {
             let operator = &OPERATORS[self.random.below(OPERATORS.len())];
-            let alike = vec![sort; operator.operands];
+            let count = self.operand_count(operator);
+            let alike = vec![sort; count];
             let other = self.sort();
             let operands = match (operator.rule, sort, other) {
                 (SortRule::Bools, Sort::Bool, _) => alike,
-                (SortRule::Alike, Sort::Bool, _) => vec![other, other],
+                (SortRule::Alike, Sort::Bool, _) => vec![other; count],
                 (SortRule::Order, Sort::Bool, Sort::BitVec(_)) => vec![other, other],
                 (SortRule::Choice, _, _) => vec![Sort::Bool, sort, sort],
                 (SortRule::Bits, Sort::BitVec(_), _) => alike,

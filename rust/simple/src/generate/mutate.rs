@@ -1,8 +1,9 @@
 //! Mutations of a draft, word by word, tree by tree and command by command, and of a text, byte by byte.
 
-use super::draft::{literal, sort_words, words, Draft};
+use super::draft::{literal, sort_words, spelt, words, Draft};
 use super::noise::tree;
 use super::random::Random;
+use crate::eval::{literal_value, Value};
 use crate::operators::{operator, Sort, OPERATORS};
 use crate::terms::{CARRIED_COMMANDS, OTHER_COMMANDS, OTHER_RESERVED};
 use std::ops::Range;
@@ -11,10 +12,11 @@ use std::ops::Range;
 const WORDS: &str = "( ) 0 1 8 64 65 999999999 1000000000 00 07 #x #b2 #xG #xAB #xab #b1
     #x00000000000000000 true false Bool BitVec _ ! let exists forall Constant Variable extract
     and not ite bvadd concat bvult = set-logic check-synth assume define-fun synth-fun declare-var
-    constraint define-fun-rec BV LIA Int x y A B f nosuch \"s |q| :k a'b é -5";
+    constraint define-fun-rec BV LIA Int x y A B f nosuch \"s |q| :k a'b é -5 or xor => distinct
+    bv bv0 bv5 bv05 bv256 bv111111111111111111111";
 
 /// Trees that tend to break a rule wherever they stand.
-const TREES: [&str; 26] = [
+const TREES: [&str; 32] = [
     "( )",
     "( true )",
     "( x )",
@@ -41,6 +43,30 @@ const TREES: [&str; 26] = [
     "( Constant ( _ BitVec 65 ) )",
     "( concat #x00000000 #x000000001 )",
     "( bvadd #x00 #x0 )",
+    "( and true )",
+    "( and true true true )",
+    "( bvand #x00 #x00 #x00 )",
+    "( = #x00 #x00 #x0 )",
+    "( distinct true true 5 )",
+    "( bv5 true )",
+];
+
+/// Lists that are nearly a constant `(_ bvN n)`, and such a constant where it may not stand.
+const NEAR_CONSTANTS: [&str; 14] = [
+    "( _ bv 8 )",
+    "( _ bv05 8 )",
+    "( _ bv00 8 )",
+    "( _ bv5x 8 )",
+    "( _ Bv5 8 )",
+    "( _ bv5 )",
+    "( _ bv5 x )",
+    "( _ bv5 #x8 )",
+    "( _ bv5 8 8 )",
+    "( _ bv5 ( 8 ) )",
+    "( ( _ bv5 8 ) true )",
+    "( ( _ bv5 8 ) )",
+    "( bv5 8 )",
+    "( Constant ( _ bv5 8 ) )",
 ];
 
 /// Commands to be put in.
@@ -81,10 +107,25 @@ pub fn odd_word(random: &mut Random) -> String {
 
 /// A tree that tends to break a rule, or one at random.
 fn odd_tree(random: &mut Random) -> Vec<String> {
-    match random.percent(75) {
-        true => words(random.pick(&TREES)),
-        false => words(&tree(random, 3)),
+    match random.below(20) {
+        0..=10 => words(random.pick(&TREES)),
+        11..=15 => odd_constant(random),
+        _ => words(&tree(random, 3)),
     }
+}
+
+/// A constant about its bounds, or nearly one.
+fn odd_constant(random: &mut Random) -> Vec<String> {
+    let width = random.pick(&[0, 1, 8, 8, 32, 63, 64, 64, 65]);
+    let digits = match random.below(4) {
+        0 => return words(random.pick(&NEAR_CONSTANTS)),
+        1 => random.pick(&["1", "9"]).repeat(random.between(19, 21)),
+        2 if random.percent(20) => "1".repeat(random.between(61, 64)),
+        _ => ((1_u128 << width) + random.below(3) as u128)
+            .saturating_sub(2)
+            .to_string(),
+    };
+    words(&format!("( _ bv{digits} {width} )"))
 }
 
 /// One of the reserved words.
@@ -98,7 +139,7 @@ fn reserved_word(random: &mut Random) -> String {
 
 /// Changes a draft in one place.
 pub fn mutate(random: &mut Random, draft: &mut Draft) {
-    match random.below(24) {
+    match random.below(28) {
         0 | 1 => mutate_points(random, &mut draft.points),
         2 => draft.response = words(random.pick(&RESPONSES)),
         3 => mutate_operator(random, &mut draft.response),
@@ -106,6 +147,8 @@ pub fn mutate(random: &mut Random, draft: &mut Draft) {
         5 => borrow_name(random, draft),
         6 | 7 => rename_everywhere(random, draft),
         8..=12 => mutate_words(random, &mut draft.response),
+        13 | 14 => regroup(random, &mut draft.response),
+        15 | 16 => mutate_literal(random, &mut draft.script),
         _ => mutate_words(random, &mut draft.script),
     }
 }
@@ -189,7 +232,7 @@ fn mutate_words(random: &mut Random, words: &mut Vec<String>) {
     if words.is_empty() {
         return;
     }
-    match random.below(16) {
+    match random.below(17) {
         0 => mutate_one_word(random, words),
         1 => mutate_command(random, words),
         2 => mutate_sort(random, words),
@@ -201,13 +244,14 @@ fn mutate_words(random: &mut Random, words: &mut Vec<String>) {
         8 | 9 => mutate_grammar(random, words),
         10..=12 => mutate_term(random, words),
         13 => mutate_numeral(random, words),
+        14 => regroup(random, words),
         _ => mutate_tree(random, words),
     }
 }
 
 /// Changes a sort, a literal, a name, an operator, a count or a grammar.
 fn mutate_within_shape(random: &mut Random, words: &mut Vec<String>) {
-    match random.below(15) {
+    match random.below(16) {
         0..=2 => mutate_sort(random, words),
         3 => mutate_literal(random, words),
         4 | 5 => mutate_name(random, words),
@@ -216,6 +260,7 @@ fn mutate_within_shape(random: &mut Random, words: &mut Vec<String>) {
         9 => mutate_count(random, words),
         10 => mutate_term(random, words),
         11 => mutate_numeral(random, words),
+        12 => regroup(random, words),
         _ => mutate_grammar(random, words),
     }
 }
@@ -321,60 +366,109 @@ fn mutate_sort(random: &mut Random, list: &mut Vec<String>) {
     if places.is_empty() {
         return;
     }
-    let sort = match random.below(8) {
+    let sort = match random.below(9) {
         0 => words("Int"),
         1 => words("( _ BitVec 0 )"),
         2 => words("( _ BitVec 65 )"),
         3 => words("8"),
         4 => sort_words(Sort::Bool),
+        5 => words("( _ bv5 8 )"),
         _ => sort_words(Sort::BitVec(random.between(1, 64) as u32)),
     };
     replace(list, random.pick(&places), sort);
 }
 
-/// Replaces a literal by another one, mostly of another width.
-fn mutate_literal(random: &mut Random, words: &mut [String]) {
-    let is_literal = |word: &String| word.starts_with('#') || word == "true" || word == "false";
-    let places: Vec<usize> = (0..words.len())
-        .filter(|&at| is_literal(&words[at]))
-        .collect();
-    if places.is_empty() {
-        return;
-    }
-    let at = random.pick(&places);
-    let digits = words[at].len().saturating_sub(2) as u32;
-    let alike = match words[at].get(..2) {
-        Some("#x") => Sort::BitVec(4 * digits.clamp(1, 16)),
-        Some("#b") => Sort::BitVec(digits.clamp(1, 64)),
-        _ => Sort::Bool,
-    };
-    words[at] = match random.below(6) {
-        0 => words[at]
-            .to_uppercase()
-            .replace("#X", "#x")
-            .replace("#B", "#b"),
-        1 => format!("{}0", words[at]),
-        2 => "7".to_string(),
-        3 => literal(random, Sort::BitVec(8)),
-        _ => literal(random, alike),
-    };
+/// The value of the literal that words are, none if they are another tree.
+fn literal_of(words: &[String]) -> Option<Value> {
+    let text = words.join(" ");
+    let words = crate::words::read(text.as_bytes(), words.len()).ok()?;
+    literal_value(crate::tree::trees(words).first()?)
 }
 
-/// Makes a numeral one more or one less, or another one.
+/// Spells a literal otherwise, or replaces it by another one or by a constant about its bounds.
+fn mutate_literal(random: &mut Random, list: &mut Vec<String>) {
+    let literals = trees(list).into_iter().filter(|tree| tree.len() <= 5);
+    let literals = literals.filter_map(|tree| Some((literal_of(&list[tree.clone()])?, tree)));
+    let literals: Vec<(Value, Range<usize>)> = literals.collect();
+    if literals.is_empty() {
+        return;
+    }
+    let (value, place) = random.pick(&literals);
+    let other = match (random.below(12), value) {
+        (0 | 1, Value::Bits { width, bits }) => spelt(random, width, bits),
+        (2, Value::Bits { width, bits }) => spelt(random, (width + 1).min(64), bits),
+        (3 | 4, Value::Bits { width, bits }) => damaged(random, width, bits),
+        (5..=7, _) => odd_constant(random),
+        (8, _) => words("7"),
+        (9, _) => literal(random, Sort::BitVec(8)),
+        _ => literal(random, value.sort()),
+    };
+    replace(list, place, other);
+}
+
+/// A constant of a width and a value with one thing wrong.
+fn damaged(random: &mut Random, width: u32, value: u64) -> Vec<String> {
+    let past = (1_u128 << width) + u128::from(value);
+    words(&match random.below(7) {
+        0 => format!("( _ bv{past} {width} )"),
+        1 => format!("( _ bv{} {width} )", 1_u128 << width),
+        2 => format!("( _ bv0{value} {width} )"),
+        3 => "( _ bv0 0 )".to_string(),
+        4 => format!("( _ bv{value} 65 )"),
+        5 => format!("( _ bv{value} )"),
+        _ => format!("( _ bv{value} {width} {width} )"),
+    })
+}
+
+/// Makes a numeral, or the one behind `bv`, one more or one less, or another one.
 fn mutate_numeral(random: &mut Random, words: &mut [String]) {
-    let numeral = |at: &usize| words[*at].parse::<u32>().is_ok();
-    let places: Vec<usize> = (0..words.len()).filter(numeral).collect();
+    let numeral = |word: &str| word.trim_start_matches("bv").parse::<u64>().ok();
+    let places = (0..words.len()).filter_map(|at| Some((at, numeral(&words[at])?)));
+    let places: Vec<(usize, u64)> = places.collect();
     if places.is_empty() {
         return;
     }
-    let at = random.pick(&places);
-    let value: u32 = words[at].parse().expect("a numeral");
+    let (at, value) = random.pick(&places);
     let value = match random.below(3) {
         0 => value.saturating_add(1),
         1 => value.saturating_sub(1),
-        _ => random.below(70) as u32,
+        _ => random.below(70) as u64,
     };
-    words[at] = value.to_string();
+    let mark = if words[at].starts_with("bv") {
+        "bv"
+    } else {
+        ""
+    };
+    words[at] = format!("{mark}{value}");
+}
+
+/// Groups two operands of an operator that may have more, takes such a group apart, or doubles an operand.
+fn regroup(random: &mut Random, list: &mut Vec<String>) {
+    let grouping = |at: usize| operator(&list[at]).is_some_and(|one| one.or_more);
+    let mut places = trees(list);
+    places.retain(|tree| tree.len() > 3 && grouping(tree.start + 1));
+    if places.is_empty() {
+        return;
+    }
+    let place = random.pick(&places);
+    let head = list[place.start + 1].clone();
+    let operands = items(list, &place).split_off(1);
+    let at = random.below(operands.len());
+    let mut groups = operands.iter().filter(|one| one.len() > 3);
+    match (
+        random.below(3),
+        groups.find(|one| list[one.start + 1] == head),
+    ) {
+        (0, _) if at > 0 => {
+            insert(list, operands[at].end, words(")"));
+            insert(list, operands[at - 1].start, vec!["(".to_string(), head]);
+        }
+        (1, Some(group)) => {
+            list.remove(group.end - 1);
+            list.drain(group.start..group.start + 2);
+        }
+        _ => insert(list, operands[at].end, list[operands[at].clone()].to_vec()),
+    }
 }
 
 /// Replaces an operator by another one, mostly with operands of the same number and sorts.
@@ -444,7 +538,7 @@ fn mutate_grammar(random: &mut Random, list: &mut Vec<String>) {
         1 | 2 => drop(list.drain(one)),
         3 => insert(list, other.end, list[one].to_vec()),
         4 => swap(list, one, other),
-        _ => replace(list, one, words(&literal(random, Sort::BitVec(8)))),
+        _ => replace(list, one, literal(random, Sort::BitVec(8))),
     }
 }
 

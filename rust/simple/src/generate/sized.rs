@@ -11,7 +11,8 @@ pub struct Sized {
     pub points: Vec<u64>,
 }
 
-/// How many there are of each thing that a limit counts, and how large each is.
+/// How many there are of each thing that a limit counts, how large each is, and whether all operands of a large term stand side
+/// by side.
 #[derive(Clone)]
 struct Counts {
     variables: usize,
@@ -33,11 +34,14 @@ struct Counts {
     name_bytes: usize,
     hex_digits: usize,
     binary_digits: usize,
+    decimal_digits: usize,
+    constant_width: usize,
     script_words: usize,
     response_words: usize,
     script_bytes: usize,
     response_bytes: usize,
     point_numbers: usize,
+    wide: bool,
 }
 
 /// Counts of a small case.
@@ -61,18 +65,21 @@ const SMALL: Counts = Counts {
     name_bytes: 1,
     hex_digits: 1,
     binary_digits: 1,
+    decimal_digits: 1,
+    constant_width: 64,
     script_words: 0,
     response_words: 0,
     script_bytes: 0,
     response_bytes: 0,
     point_numbers: 1,
+    wide: false,
 };
 
 /// A count and its limit.
 type Limit = (fn(&mut Counts) -> &mut usize, usize);
 
 /// "Numbers the checker holds to".
-const LIMITS: [Limit; 24] = [
+const LIMITS: [Limit; 26] = [
     (|counts| &mut counts.variables, 16),
     (|counts| &mut counts.definitions, 32),
     (|counts| &mut counts.functions, 8),
@@ -92,6 +99,8 @@ const LIMITS: [Limit; 24] = [
     (|counts| &mut counts.name_bytes, 64),
     (|counts| &mut counts.hex_digits, 16),
     (|counts| &mut counts.binary_digits, 64),
+    (|counts| &mut counts.decimal_digits, 20),
+    (|counts| &mut counts.constant_width, 64),
     (|counts| &mut counts.script_words, 4_096),
     (|counts| &mut counts.response_words, 2_048),
     (|counts| &mut counts.script_bytes, 32_768),
@@ -105,6 +114,10 @@ pub fn sized(random: &mut Random) -> Sized {
     for _ in 0..random.pick(&[1, 1, 2]) {
         let (count, limit) = LIMITS[random.below(LIMITS.len())];
         *count(&mut counts) = random.between(limit - 1, limit + 2);
+    }
+    counts.wide = random.percent(40);
+    if counts.wide && counts.body_nodes > 1 && random.percent(50) {
+        counts.rule_nodes = counts.body_nodes;
     }
     if counts.response_words > 0 {
         counts.functions = counts.functions.max(5);
@@ -150,14 +163,15 @@ fn repeated(count: usize, part: impl Fn(usize) -> String) -> String {
     (0..count).map(part).collect()
 }
 
-/// A Bool term with so many nodes.
-fn with_nodes(nodes: usize) -> String {
+/// A true term with so many nodes, all operands side by side or two by two.
+fn with_nodes(nodes: usize, wide: bool) -> String {
     match nodes {
         0 | 1 => "true".to_string(),
         2 => "(not false)".to_string(),
+        _ if wide => format!("(and{})", " true".repeat(nodes - 1)),
         _ => {
             let half = (nodes - 1) / 2;
-            let (one, other) = (with_nodes(half), with_nodes(nodes - 1 - half));
+            let (one, other) = (with_nodes(half, wide), with_nodes(nodes - 1 - half, wide));
             format!("(and {one} {other})")
         }
     }
@@ -221,7 +235,7 @@ fn script(counts: &Counts) -> String {
 /// A `define-fun` of the script.
 fn definition(index: usize, counts: &Counts) -> String {
     let arguments = arguments(counts.definition_arguments);
-    let body = with_nodes(counts.definition_nodes);
+    let body = with_nodes(counts.definition_nodes, counts.wide);
     format!("(define-fun d{index} {arguments} Bool {body})\n")
 }
 
@@ -231,7 +245,7 @@ fn function(index: usize, counts: &Counts) -> String {
     let others = counts.nonterminals.saturating_sub(1);
     let predeclared = repeated(counts.nonterminals, |index| format!("(N{index} Bool) "));
     let first = ["(Constant Bool)", "(not N0)", "(and N0 N0)"];
-    let largest = with_nodes(counts.rule_nodes);
+    let largest = with_nodes(counts.rule_nodes, counts.wide);
     let rules = repeated(counts.rules.saturating_sub(others).max(1), |index| {
         let rule = first.get(index).copied().unwrap_or(&largest);
         format!("{rule} ")
@@ -247,17 +261,18 @@ fn constraint(counts: &Counts) -> String {
     let nested = with_nesting(counts.constraint_nesting - 1);
     match counts.constraint_nodes {
         1 => format!("(constraint {nested})\n"),
-        nodes => format!("(constraint {})\n", with_nodes(nodes)),
+        nodes => format!("(constraint {})\n", with_nodes(nodes, counts.wide)),
     }
 }
 
 /// A `define-fun` with long literals.
 fn literals(counts: &Counts) -> String {
-    let (hex, binary) = (
-        "7".repeat(counts.hex_digits),
-        "1".repeat(counts.binary_digits),
-    );
-    format!("(define-fun k () Bool (and (= #x{hex} #x{hex}) (= #b{binary} #b{binary})))\n")
+    let hex = format!("#x{}", "7".repeat(counts.hex_digits));
+    let binary = format!("#b{}", "1".repeat(counts.binary_digits));
+    let digits = "1".repeat(counts.decimal_digits);
+    let decimal = format!("(_ bv{digits} {})", counts.constant_width);
+    let equations = [hex, binary, decimal].map(|one| format!(" (= {one} {one})"));
+    format!("(define-fun k () Bool (and{}))\n", equations.concat())
 }
 
 /// `define-fun`s that bring a script with so many words to the number wanted, `check-synth` counted.
@@ -280,7 +295,7 @@ fn response(counts: &Counts) -> String {
     let left = counts.response_words.saturating_sub(headers);
     let share = left / counts.functions;
     let body = |index: usize| match (counts.body_nodes, left) {
-        (nodes @ 2.., _) => with_nodes(nodes),
+        (nodes @ 2.., _) => with_nodes(nodes, counts.wide),
         (_, 0) => with_nesting(counts.body_nesting - 2),
         _ if index == 0 => with_words(share + left % counts.functions),
         _ => with_words(share),

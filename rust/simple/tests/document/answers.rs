@@ -83,7 +83,7 @@ fn what_is_not_carried_is_6() {
         "(constraint (let ((x true)) x))",
         "(constraint (! true))",
         "(constraint (forall ((x Bool)) x))",
-        "(constraint (= #x00 (_ bv0 8)))",
+        "(constraint (= #x00 (_ bv 8)))",
         "(declare-var x (_ FloatingPoint 8 24))",
         "(check-synth (exists))",
     ] {

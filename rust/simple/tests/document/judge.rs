@@ -68,3 +68,19 @@ fn other_places_are_refused() {
     assert!(!taken("x", 0, &two[1..]));
     assert!(taken("x", 16, &area(0, &[])));
 }
+
+#[test]
+fn literals_are_judged_by_value_and_width() {
+    let script = b"(set-logic BV)(synth-fun f () Bool ((bv15 Bool))
+        ((bv15 Bool ((= #x0F #x0F) (and bv15 (= (_ bv15 8) #b00001111))))))(check-synth)";
+    let taken = |body: &str, list: &[u16]| {
+        let response = format!("((define-fun f () Bool {body}))");
+        replay::area_fault(script, response.as_bytes(), 0, &area(0, list)).is_none()
+    };
+    assert!(taken("(= #x0f (_ bv15 8))", &[0]));
+    assert!(taken("(and (= #x0f #x0F) (= #x0F #x0f))", &[1, 0]));
+    assert!(!taken("(= #x0f (_ bv14 8))", &[0]));
+    assert!(!taken("(= #xf (_ bv15 4))", &[0]));
+    assert!(!taken("(= #b000001111 (_ bv15 9))", &[0]));
+    assert!(!taken("(and (= #x0f #x0F) (= #x0F #x0f))", &[1, 0, 0]));
+}

@@ -1,8 +1,9 @@
-//! Document 01 run: the readings, the vectors, the bench, every limit and every row of the table of answers.
+//! Document 01 run: the readings, the vectors, the bench, constants, every limit and every row of the table of answers.
 
 mod answers;
 mod bench;
 mod cases;
+mod constants;
 mod generated;
 mod judge;
 mod limits;

@@ -9,8 +9,8 @@ next-at-requires c κs = search needs
 gather-terms-requires : tie.Need-gather-terms-requires
 gather-terms-requires c κs = search term-gathering
 
-node-past-requires : tie.Need-node-past-requires
-node-past-requires c κs = search term-nodes
+word-past-requires : tie.Need-word-past-requires
+word-past-requires c κs = search term-nodes
 
 same-length : tie.Need-same-length
 same-length c = search needs
@@ -21,4 +21,4 @@ returns c = search term-limited
 pub body-limit-spec : {M : Type 1} → statement M
 body-limit-spec =
     tie.close
-    (tie.spec next-at-requires gather-terms-requires node-past-requires same-length returns)
+    (tie.spec next-at-requires gather-terms-requires word-past-requires same-length returns)

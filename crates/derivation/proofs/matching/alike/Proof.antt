@@ -15,11 +15,11 @@ value-at-requires c κs = search needs
 value-at-requires-2 : tie.Need-value-at-requires-2
 value-at-requires-2 c κs = search needs
 
-literal-fits-requires : tie.Need-literal-fits-requires
-literal-fits-requires c κs = search needs
+leaf-fits-requires : tie.Need-leaf-fits-requires
+leaf-fits-requires c κs = search needs
 
-argument-fits-requires : tie.Need-argument-fits-requires
-argument-fits-requires c κs = search needs
+leaf-fits-requires-2 : tie.Need-leaf-fits-requires-2
+leaf-fits-requires-2 c κs = search needs
 
 operands-at-requires : tie.Need-operands-at-requires
 operands-at-requires c κs = search needs
@@ -39,8 +39,8 @@ alike-spec =
     code-at-requires-2
     value-at-requires
     value-at-requires-2
-    literal-fits-requires
-    argument-fits-requires
+    leaf-fits-requires
+    leaf-fits-requires-2
     operands-at-requires
     operands-at-requires-2
     returns)

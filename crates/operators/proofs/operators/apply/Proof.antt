@@ -1,88 +1,40 @@
-use mathlib.Core.Path.{refl}
-use borrow.Author.Needs.{needs}
 use Rattle.operators.specs.Operators.{operatorAt, operators}
-use Rattle.operators.proofs.Applying.{a-cut, a-pair, a-width, a-word, applied, applied-past, two-words}
+use Rattle.operators.proofs.Applying.{applied, fixed-gives, fixed-operable}
+use borrow.Author.Needs.{needs}
 use Rattle.operators.proofs.operators.apply.Statement.{statement}
 use Rattle.operators.proofs.operators.apply.Tie as tie
 
-not-of-requires : tie.Need-not-of-requires
-not-of-requires c κs = search needs
+group-left-requires : tie.Need-group-left-requires
+group-left-requires c κs = search needs
 
-and-of-requires : tie.Need-and-of-requires
-and-of-requires c κs = search needs
+group-left-requires-2 : tie.Need-group-left-requires-2
+group-left-requires-2 c κs = search needs
 
-or-of-requires : tie.Need-or-of-requires
-or-of-requires c κs = search needs
+group-left-requires-3 : tie.Need-group-left-requires-3
+group-left-requires-3 c κs = search needs
 
-xor-of-requires : tie.Need-xor-of-requires
-xor-of-requires c κs = search needs
+group-right-requires : tie.Need-group-right-requires
+group-right-requires c κs = search needs
 
-implies-requires : tie.Need-implies-requires
-implies-requires c κs = search needs
+all-alike-requires : tie.Need-all-alike-requires
+all-alike-requires c κs = search needs
 
-equal-requires : tie.Need-equal-requires
-equal-requires c κs = search needs
+all-differ-requires : tie.Need-all-differ-requires
+all-differ-requires c κs = search needs
 
-distinct-requires : tie.Need-distinct-requires
-distinct-requires c κs = search needs
+operand-requires : tie.Need-operand-requires
+operand-requires c κs = search needs
 
-ite-requires : tie.Need-ite-requires
-ite-requires c κs = search needs
+operand-requires-2 : tie.Need-operand-requires-2
+operand-requires-2 c κs = search needs
 
-bvnot-requires : tie.Need-bvnot-requires
-unfolding operatorAt operators
-bvnot-requires c κs = search a-word
+operand-requires-3 : tie.Need-operand-requires-3
+operand-requires-3 c κs = search needs
 
-bvneg-requires : tie.Need-bvneg-requires
-unfolding operatorAt operators
-bvneg-requires c κs = search a-word
-
-bvand-requires : tie.Need-bvand-requires
-bvand-requires c κs = search needs
-
-bvor-requires : tie.Need-bvor-requires
-bvor-requires c κs = search needs
-
-bvxor-requires : tie.Need-bvxor-requires
-bvxor-requires c κs = search needs
-
-bvadd-requires : tie.Need-bvadd-requires
-unfolding operatorAt operators
-bvadd-requires c κs = search a-width
-
-bvsub-requires : tie.Need-bvsub-requires
-unfolding operatorAt operators
-bvsub-requires c κs = search two-words
-
-bvmul-requires : tie.Need-bvmul-requires
-unfolding operatorAt operators
-bvmul-requires c κs = search a-width
-
-bvudiv-requires : tie.Need-bvudiv-requires
-unfolding operatorAt operators
-bvudiv-requires c κs = search a-width
-
-bvurem-requires : tie.Need-bvurem-requires
-bvurem-requires c κs = search needs
-
-bvshl-requires : tie.Need-bvshl-requires
-unfolding operatorAt operators
-bvshl-requires c κs = search a-width
-
-bvlshr-requires : tie.Need-bvlshr-requires
-unfolding operatorAt operators
-bvlshr-requires c κs = search a-width
-
-bvult-requires : tie.Need-bvult-requires
-bvult-requires c κs = search needs
-
-concat-requires : tie.Need-concat-requires
-unfolding operatorAt operators
-concat-requires c κs = search a-pair
-
-extract-requires : tie.Need-extract-requires
-unfolding operatorAt operators
-extract-requires c κs = a-cut (c .match .keys23) (c .before .pre) refl
+fixed-value-requires : tie.Need-fixed-value-requires
+fixed-value-requires c κs =
+    fixed-operable (c .before .before .before .match .rest) (c .before .before .operand .ensures) (c .before .operand2 .ensures) (c .operand3 .ensures)
+    (c .before .before .before .before .before .pre)
 
 returns : tie.Need-returns
 unfolding operatorAt operators
@@ -109,124 +61,28 @@ unfolding operatorAt operators
 returns-6 c = search applied
 
 returns-7 : tie.Need-returns-7
-unfolding operatorAt operators
-returns-7 c = search applied
-
-returns-8 : tie.Need-returns-8
-unfolding operatorAt operators
-returns-8 c = search applied
-
-returns-9 : tie.Need-returns-9
-unfolding operatorAt operators
-returns-9 c = search applied
-
-returns-10 : tie.Need-returns-10
-unfolding operatorAt operators
-returns-10 c = search applied
-
-returns-11 : tie.Need-returns-11
-unfolding operatorAt operators
-returns-11 c = search applied
-
-returns-12 : tie.Need-returns-12
-unfolding operatorAt operators
-returns-12 c = search applied
-
-returns-13 : tie.Need-returns-13
-unfolding operatorAt operators
-returns-13 c = search applied
-
-returns-14 : tie.Need-returns-14
-unfolding operatorAt operators
-returns-14 c = search applied
-
-returns-15 : tie.Need-returns-15
-unfolding operatorAt operators
-returns-15 c = search applied
-
-returns-16 : tie.Need-returns-16
-unfolding operatorAt operators
-returns-16 c = search applied
-
-returns-17 : tie.Need-returns-17
-unfolding operatorAt operators
-returns-17 c = search applied
-
-returns-18 : tie.Need-returns-18
-unfolding operatorAt operators
-returns-18 c = search applied
-
-returns-19 : tie.Need-returns-19
-unfolding operatorAt operators
-returns-19 c = search applied
-
-returns-20 : tie.Need-returns-20
-unfolding operatorAt operators
-returns-20 c = search applied
-
-returns-21 : tie.Need-returns-21
-unfolding operatorAt operators
-returns-21 c = search applied
-
-returns-22 : tie.Need-returns-22
-unfolding operatorAt operators
-returns-22 c = search applied
-
-returns-23 : tie.Need-returns-23
-unfolding operatorAt operators
-returns-23 c = search applied
-
-returns-24 : tie.Need-returns-24
-returns-24 c = applied-past (c .match .rest)
+returns-7 c =
+    fixed-gives (c .before .before .before .before .match .rest) (c .before .before .before .operand .ensures) (c .before .before .operand2 .ensures)
+    (c .before .operand3 .ensures) (c .fixed-value .ensures)
 
 pub apply-spec : {M : Type 1} → statement M
 apply-spec =
     tie.close
     (tie.spec
-    not-of-requires
-    and-of-requires
-    or-of-requires
-    xor-of-requires
-    implies-requires
-    equal-requires
-    distinct-requires
-    ite-requires
-    bvnot-requires
-    bvneg-requires
-    bvand-requires
-    bvor-requires
-    bvxor-requires
-    bvadd-requires
-    bvsub-requires
-    bvmul-requires
-    bvudiv-requires
-    bvurem-requires
-    bvshl-requires
-    bvlshr-requires
-    bvult-requires
-    concat-requires
-    extract-requires
+    group-left-requires
+    group-left-requires-2
+    group-left-requires-3
+    group-right-requires
+    all-alike-requires
+    all-differ-requires
+    operand-requires
+    operand-requires-2
+    operand-requires-3
+    fixed-value-requires
     returns
     returns-2
     returns-3
     returns-4
     returns-5
     returns-6
-    returns-7
-    returns-8
-    returns-9
-    returns-10
-    returns-11
-    returns-12
-    returns-13
-    returns-14
-    returns-15
-    returns-16
-    returns-17
-    returns-18
-    returns-19
-    returns-20
-    returns-21
-    returns-22
-    returns-23
-    returns-24)
+    returns-7)

@@ -28,8 +28,8 @@ loop-less c = omega arith
 loop-again : tie.Need-loop-again Inv-loop μ-loop
 loop-again c = search terms-word
 
-is-extract-requires : tie.Need-is-extract-requires Inv-loop μ-loop
-is-extract-requires c κs = as-item (search list-given)
+is-indexed-requires : tie.Need-is-indexed-requires Inv-loop μ-loop
+is-indexed-requires c κs = as-item (search list-given)
 
 next-at-requires : tie.Need-next-at-requires Inv-loop μ-loop
 next-at-requires c κs = search needs
@@ -72,7 +72,7 @@ term-shapes-spec =
     add-at
     loop-less
     loop-again
-    is-extract-requires
+    is-indexed-requires
     next-at-requires
     loop-less-2
     loop-again-2

@@ -6,8 +6,8 @@ use Rattle.term_nodes.proofs.rules.gather_one.Tie as tie
 gather-rule-requires : tie.Need-gather-rule-requires
 gather-rule-requires c κs = search rule-here
 
-node-past-requires : tie.Need-node-past-requires
-node-past-requires c κs = search nodes-here
+word-past-requires : tie.Need-word-past-requires
+word-past-requires c κs = search nodes-here
 
 least-requires : tie.Need-least-requires
 least-requires c κs = search needs
@@ -47,7 +47,7 @@ gather-one-spec =
     tie.close
     (tie.spec
     gather-rule-requires
-    node-past-requires
+    word-past-requires
     least-requires
     add-counted
     put-rule-requires

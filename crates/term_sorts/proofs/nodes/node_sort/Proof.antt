@@ -1,4 +1,4 @@
-use Rattle.term_sorts.proofs.NodeSorts.{call-ready, called-node, leaf-node, leaf-small, node-fails, operator-node, operands-ready, row-low}
+use Rattle.term_sorts.proofs.NodeSorts.{call-ready, called-node, leaf-node, node-fails, operator-node, operands-ready, row-low}
 use native.Mathlib.Omega.{arith}
 use borrow.Author.Needs.{needs}
 use Rattle.term_sorts.proofs.nodes.node_sort.Statement.{statement}
@@ -58,11 +58,11 @@ called-sort-requires c κs =
 returns-3 : tie.Need-returns-3
 returns-3 c = search called-node
 
-leaf-sort-requires : tie.Need-leaf-sort-requires
-leaf-sort-requires c κs = search needs
+head-of-requires-2 : tie.Need-head-of-requires-2
+head-of-requires-2 c κs = search needs
 
 add-number-when : tie.Need-add-number-when
-add-number-when c = omega (arith, leaf-small (c .before .before .before .before .before .before .code-at .result))
+add-number-when c = omega arith
 
 number-when-requires : tie.Need-number-when-requires
 number-when-requires c κs = search needs
@@ -88,7 +88,7 @@ node-sort-spec =
     add-called-sort
     called-sort-requires
     returns-3
-    leaf-sort-requires
+    head-of-requires-2
     add-number-when
     number-when-requires
     returns-4)

@@ -3,8 +3,8 @@ use borrow.Author.Needs.{needs}
 use Rattle.term_sorts.proofs.rules.operator_sort.Statement.{statement}
 use Rattle.term_sorts.proofs.rules.operator_sort.Tie as tie
 
-operands-of-requires : tie.Need-operands-of-requires
-operands-of-requires c κs = search needs
+takes-requires : tie.Need-takes-requires
+takes-requires c κs = search needs
 
 rule-of-requires : tie.Need-rule-of-requires
 rule-of-requires c κs = search needs
@@ -20,4 +20,4 @@ returns-2 c = search operator-fails
 
 pub operator-sort-spec : {M : Type 1} → statement M
 operator-sort-spec =
-    tie.close (tie.spec operands-of-requires rule-of-requires rule-sort-requires returns returns-2)
+    tie.close (tie.spec takes-requires rule-of-requires rule-sort-requires returns returns-2)

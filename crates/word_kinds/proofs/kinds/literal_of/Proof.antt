@@ -25,8 +25,7 @@ cast-t13 c = let b = bits-fit (c .before .before .before .before .pre) _ (c .if2
 spell-requires : tie.Need-spell-requires
 spell-requires c κs =
     let radix = c .before .before .before .before .pre in
-    let bytes = c .before .before .before .shared-slice-known .given in
-    (literal-digits radix _ _ (c .before .before .all-in .ensures) (c .before .if1 .left) (λ i. omega (arith, bytes i)), search literal-power)
+    (literal-digits radix _ _ (c .before .before .all-in .ensures) (c .before .if1 .left), search literal-power)
 
 returns-3 : tie.Need-returns-3
 returns-3 c = search literal-is
