@@ -173,7 +173,7 @@ fn open() -> Result<Library, Failure> {
 fn write(facts: &Facts, library: &str, form: Form, to: &mut impl Write) -> io::Result<()> {
     let mut text = Vec::new();
     match form {
-        Form::Full => text::write(facts, &mut text)?,
+        Form::Full => text::write(facts, text::columns(), &mut text)?,
         Form::Quiet => text::write_line(facts, &mut text)?,
         Form::Json => return writeln!(to, "{}", json::object(facts, library)),
     }

@@ -138,7 +138,9 @@ impl Reading<'_> {
     /// The cause of an answer in the text.
     fn cause(&self, given: &Given, answer: Answer) -> Cause {
         match answer.number {
-            2 => printed::hint(self).into(),
+            2 => printed::hint(self)
+                .or_else(|| printed::message(self))
+                .into(),
             3 => self.unclosed().into(),
             5 | 6 => printed::hint(self)
                 .or_else(|| shapes::hint(self, answer.number))

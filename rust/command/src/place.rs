@@ -4,8 +4,8 @@ use simple::words::cut;
 
 /// At most so many columns of a line are shown.
 const MOST_COLUMNS: usize = 100;
-/// At most so many columns are shown before the word.
-const MOST_BEFORE: usize = 50;
+/// So many columns of a line are shown at least, however narrow the terminal is.
+const LEAST_COLUMNS: usize = 20;
 /// What stands for the part of a line that is not shown.
 const CUT: &str = "...";
 
@@ -22,6 +22,24 @@ pub struct Place {
     pub source: String,
     /// Spaces, then a caret under each column of the word, at least one.
     pub carets: String,
+}
+
+impl Place {
+    /// The line and its carets, cut once more where they have more columns than these.
+    pub fn within(&self, columns: usize) -> (String, String) {
+        let Place { source, carets, .. } = self;
+        if source.len().max(carets.len()) <= columns {
+            return (source.clone(), carets.clone());
+        }
+        let start = carets.len() - carets.trim_start().len();
+        let end = carets.len().min(source.len());
+        window(
+            source[..start].to_string(),
+            &source[start..end],
+            source[end..].to_string(),
+            columns.max(LEAST_COLUMNS) - CUT.len(),
+        )
+    }
 }
 
 /// The place at an offset of a text where a word of this length starts.
@@ -43,6 +61,7 @@ pub fn place(text: &[u8], at: usize, length: usize) -> Place {
         shown(&text[end..stop])
             .trim_end_matches("\\x0d")
             .to_string(),
+        MOST_COLUMNS,
     );
     Place {
         line: 1 + text[..at].iter().filter(|&&byte| byte == b'\n').count(),
@@ -79,13 +98,14 @@ pub fn shown(bytes: &[u8]) -> String {
     line
 }
 
-/// The line around a word, and the carets under the word; all three parts are ASCII.
-fn window(mut before: String, word: &str, mut after: String) -> (String, String) {
-    if before.len() + word.len() + after.len() > MOST_COLUMNS {
-        if before.len() > MOST_BEFORE {
-            before = CUT.to_string() + &before[before.len() - MOST_BEFORE..];
+/// The line around a word, and the carets under the word; all three parts are ASCII. Of a line that is longer than `most` so many columns are left, about half of
+/// them before the word, and the mark of a cut behind them.
+fn window(mut before: String, word: &str, mut after: String, most: usize) -> (String, String) {
+    if before.len() + word.len() + after.len() > most {
+        if before.len() > most / 2 {
+            before = CUT.to_string() + &before[before.len() - most / 2..];
         }
-        let left = MOST_COLUMNS.saturating_sub(before.len());
+        let left = most.saturating_sub(before.len());
         let word = &word[..word.len().min(left)];
         let left = left - word.len();
         if after.len() > left {
@@ -156,5 +176,27 @@ mod tests {
         assert_eq!(carets, " ".repeat(at) + "^^^^");
         let (source, carets) = lines(&[b'c'; 30_000], 0, 30_000);
         assert_eq!((source.len(), carets.len()), (MOST_COLUMNS, MOST_COLUMNS));
+    }
+
+    #[test]
+    fn a_narrow_terminal_has_the_word_and_its_carets() {
+        let text = format!("{} word {}", "a".repeat(200), "b".repeat(200));
+        for (at, length) in [(201, 4), (0, 0), (0, 200), (206, 200), (406, 0)] {
+            let place = place(text.as_bytes(), at, length);
+            assert_eq!(
+                place.within(usize::MAX),
+                (place.source.clone(), place.carets.clone())
+            );
+            for columns in 0..=110 {
+                let (source, carets) = place.within(columns);
+                let widest = source.len().max(carets.len());
+                assert!(widest <= columns.max(LEAST_COLUMNS), "{at} in {columns}");
+                let start = carets.find('^').expect("a caret");
+                let under = source.get(start..carets.len()).unwrap_or_default();
+                let word = text[at..at + length].to_string();
+                assert!(length == 0 || word.starts_with(under), "{at} in {columns}");
+                assert!(length == 0 || !under.is_empty(), "{at} in {columns}");
+            }
+        }
     }
 }

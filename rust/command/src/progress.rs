@@ -37,10 +37,8 @@ impl Progress {
         let gone = self.start.elapsed().as_secs_f64();
         let left = gone / done as f64 * self.points.saturating_sub(done) as f64;
         let (done, points) = (grouped(done), grouped(self.points));
-        let _ = write!(
-            io::stderr(),
-            "\r\x1b[K{done} of {points} points, {left:.0} s left"
-        );
+        let line = format!("\r\x1b[K{done} of {points} points, {left:.0} s left");
+        let _ = io::stderr().write_all(line.as_bytes());
         (self.last, self.shown) = (Instant::now(), true);
     }
 }

@@ -5,7 +5,17 @@ use crate::derivation::Step;
 use crate::facts::{Derived, Facts, Judged, Located, Note};
 use crate::place::place;
 use crate::refute::Claim;
-use std::io::{self, Write};
+use std::env;
+use std::io::{self, IsTerminal, Write};
+
+/// How many columns a line has room for: those of the terminal, where standard output is one and the variable COLUMNS says how many; else any number.
+pub fn columns() -> usize {
+    let said = env::var("COLUMNS")
+        .ok()
+        .and_then(|value| value.parse().ok());
+    said.filter(|_| io::stdout().is_terminal())
+        .unwrap_or(usize::MAX)
+}
 
 /// Writes the one line that says the answer: the file with the place, where there is one, then the verdict.
 pub fn write_line(facts: &Facts, to: &mut impl Write) -> io::Result<()> {
@@ -27,17 +37,17 @@ pub fn write_line(facts: &Facts, to: &mut impl Write) -> io::Result<()> {
     writeln!(to)
 }
 
-/// Writes all that there is to say.
-pub fn write(facts: &Facts, to: &mut impl Write) -> io::Result<()> {
+/// Writes all that there is to say; lines of a text have so many columns.
+pub fn write(facts: &Facts, columns: usize, to: &mut impl Write) -> io::Result<()> {
     write_line(facts, to)?;
     if let Some(located) = &facts.located {
-        write_source(located, to)?;
+        write_source(located, columns, to)?;
     }
     if let Some(judged) = &facts.judged {
         write_judged(facts, judged, to)?;
     }
     for note in &facts.notes {
-        write_note(note, to)?;
+        write_note(note, columns, to)?;
     }
     if matches!(facts.answer.number, 0 | 14 | 15) {
         writeln!(to, "points: {}", facts.given.points.origin)?;
@@ -98,12 +108,12 @@ fn write_claim(facts: &Facts, to: &mut impl Write) -> io::Result<()> {
 }
 
 /// Writes a note, with the line of its place where it has one.
-fn write_note(note: &Note, to: &mut impl Write) -> io::Result<()> {
+fn write_note(note: &Note, columns: usize, to: &mut impl Write) -> io::Result<()> {
     let Some(located) = &note.located else {
         return writeln!(to, "note: {}", note.message);
     };
     writeln!(to, "{}: note: {}", position(located), note.message)?;
-    write_source(located, to)
+    write_source(located, columns, to)
 }
 
 /// A place as `file:line:column`.
@@ -115,10 +125,11 @@ fn position(located: &Located) -> String {
 }
 
 /// Writes the line of a place, and carets under its word.
-fn write_source(located: &Located, to: &mut impl Write) -> io::Result<()> {
-    let line = located.place.line.to_string();
-    writeln!(to, "{line:>5} | {}", located.place.source)?;
-    writeln!(to, "      | {}", located.place.carets)
+fn write_source(located: &Located, columns: usize, to: &mut impl Write) -> io::Result<()> {
+    let line = format!("{:>5} | ", located.place.line);
+    let (source, carets) = located.place.within(columns.saturating_sub(line.len()));
+    writeln!(to, "{line}{source}")?;
+    writeln!(to, "{:>1$}{carets}", "| ", line.len())
 }
 
 /// Writes the constraint and the point of answer 14 or 15.

@@ -22,10 +22,15 @@ pub fn cause(reading: &Reading) -> Option<Cause> {
         )));
     };
     let definition = define_fun(item)?;
-    let mut words = definition.header.words().into_iter().zip(&function.header);
-    let ((_, found), expected) = words.find(|((place, _), _)| *place == reading.place)?;
+    let words = definition.header.words().into_iter().zip(&function.header);
+    let mut words = words.enumerate();
+    let (at, ((_, found), expected)) =
+        words.find(|(_, ((place, _), _))| *place == reading.place)?;
+    let why = match at == 0 && declared.iter().any(|other| other.name == *found) {
+        true => "bodies stand in the order of the script's functions".to_string(),
+        false => format!("the script declares `{}` otherwise", function.name),
+    };
     Some(Cause::said(format!(
-        "expected `{expected}`, found `{found}`: the script declares `{}` otherwise",
-        function.name
+        "expected `{expected}`, found `{found}`: {why}"
     )))
 }

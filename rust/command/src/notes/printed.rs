@@ -1,6 +1,6 @@
 //! What solvers print in the place of a response, and texts that are exchanged.
 
-use super::{Hint, Reading};
+use super::{encodings, Hint, Reading};
 use simple::tree::Tree;
 use simple::words::cut;
 
@@ -39,6 +39,20 @@ fn in_response(reading: &Reading) -> Option<Hint> {
         )),
         _ => None,
     }
+}
+
+/// What stands outside the list of a response and is no word of the language, in a text that is plain ASCII: most often a message.
+pub fn message(reading: &Reading) -> Option<Hint> {
+    let before = cut(reading.bytes.get(..reading.place)?).into_iter();
+    let depth = before.fold(0, |depth, word| match &reading.bytes[word] {
+        b"(" => depth + 1,
+        b")" => depth - 1,
+        _ => depth,
+    });
+    let told = !reading.in_response || depth > 0 || encodings::hint(reading.bytes).is_some();
+    (!told).then(|| {
+        Hint::general("this stands outside the list: is it a message of the solver? Call it without -v, and keep its standard error apart")
+    })
 }
 
 /// A script that is a response.
