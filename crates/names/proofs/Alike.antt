@@ -1,4 +1,4 @@
--- Symbols stand for one label exactly where they are one word, whatever non-terminals are seen.
+-- Where the same names, define-funs and functions are seen, symbols stand for one label exactly where they are one word, whatever non-terminals are seen.
 use Prim.Native.Nat.{ℕ, suc}
 use native.Mathlib.Omega.{arith}
 use mathlib.Core.Path.{_≡_, refl, sym, ap, _∙_}
