@@ -3,8 +3,9 @@
 as many operands as it has, or two where it takes more; then of each that takes more, in the same order, a hash of its values with 3, with 4, with 5 and with 6
 operands.
 
-The values are computed here on Python's integers, from what SMT-LIB's theories Core and FixedSizeBitVectors say of the operators.
-Only the operands and the hash, which are said in the program's comments, are the program's.
+The values are computed here on Python's integers, from what SMT-LIB's theories Core and FixedSizeBitVectors say of the operators; those of the signed operators
+on the whole numbers that the operands stand for, and not by the cases of SMT-LIB's text. Only the operands and the hash, which are said in the program's comments,
+are the program's.
 
   python3 tests/operators.py > crates/test_operators/stdout
 """
@@ -42,6 +43,44 @@ def udiv(n, a, b):
 
 def urem(n, a, b):
     return a if b == 0 else a - a // b * b
+
+
+def whole(n, a):
+    """The whole number that a, n wide, stands for: from -2^(n - 1) to 2^(n - 1) - 1."""
+    return a - 2**n if a >= 2 ** (n - 1) else a
+
+
+def quotient(p, q):
+    """The quotient of whole numbers, rounded to zero."""
+    return abs(p) // abs(q) * (1 if (p < 0) == (q < 0) else -1)
+
+
+def sdiv(n, a, b):
+    p, q = whole(n, a), whole(n, b)
+    exact = quotient(p, q) if q else (1 if p < 0 else -1)
+    return exact % 2**n
+
+
+def srem(n, a, b):
+    """The remainder of the quotient rounded to zero: it has the dividend's sign."""
+    p, q = whole(n, a), whole(n, b)
+    return (p - quotient(p, q) * q) % 2**n if q else a
+
+
+def smod(n, a, b):
+    """Python's remainder of whole numbers, which has the divisor's sign."""
+    p, q = whole(n, a), whole(n, b)
+    return p % q % 2**n if q else a
+
+
+def ashr(n, a, b):
+    """Python's shift of a whole number, which rounds down; from n on it changes no more."""
+    return (whole(n, a) >> min(b, n)) % 2**n
+
+
+def ordered(f):
+    """The order of the whole numbers that two vectors stand for."""
+    return lambda n, a, b: f(whole(n, a), whole(n, b))
 
 
 def concat(n, a, y):
@@ -84,6 +123,21 @@ VECTOR = [
     lambda n, a, b: a >> min(b, n),
     lambda n, a, b: a < b,
 ]
+
+# The operators behind `(_ extract i j)`, by their names: of vectors a and b, n wide.
+LATER = {
+    "bvsdiv": sdiv,
+    "bvsrem": srem,
+    "bvsmod": smod,
+    "bvashr": ashr,
+    "bvslt": ordered(lambda p, q: p < q),
+    "bvsle": ordered(lambda p, q: p <= q),
+    "bvsgt": ordered(lambda p, q: p > q),
+    "bvsge": ordered(lambda p, q: p >= q),
+    "bvule": lambda n, a, b: a <= b,
+    "bvugt": lambda n, a, b: a > b,
+    "bvuge": lambda n, a, b: a >= b,
+}
 
 
 def implies(p, q):
@@ -140,14 +194,18 @@ def over_one(f):
     return lambda n, x, y: f(n, x % 2**n, y)
 
 
-# In the order of the operator table: `not` to `=>`, `=` and `distinct`, `ite`, `bvnot` to `bvult`, `concat`, `(_ extract i j)`.
+# In the order of the operator table: `not` to `=>`, `=` and `distinct`, `ite`, `bvnot` to `bvult`, `concat`, `(_ extract i j)`, `bvsdiv` to `bvuge`.
 OPERATORS = (
     [over_bools(f) for f in BOOLEAN]
     + [over_vectors(f) for f in VECTOR[:2]]
     + [choice]
     + [over_vectors(f) for f in VECTOR[2:]]
     + [over_one(concat), over_one(extract)]
+    + [over_vectors(f) for f in LATER.values()]
 )
+
+# Up to this width every pair of operands is taken.
+FULL_WIDTH = 4
 
 
 def random_pairs(n, count):
@@ -159,10 +217,16 @@ def random_pairs(n, count):
         x = following(y)
 
 
+def edges(n):
+    """The edge operands of width n: 0, 1, all ones, the highest bit, all below it, and all ones but the lowest."""
+    return [0, 1, WORD, 2 ** (n - 1), 2 ** (n - 1) - 1, WORD - 1]
+
+
 def operands(n):
-    """All pairs of edge operands of width n, then 10,000 pseudo-random pairs, of which the second has any number of bits."""
-    edges = [0, 1, WORD, 2 ** (n - 1)]
-    yield from itertools.product(edges, edges)
+    """All pairs of edge operands of width n, of a small width all pairs there are, then 10,000 pseudo-random pairs, of which the second has any number of bits."""
+    yield from itertools.product(edges(n), repeat=2)
+    if n <= FULL_WIDTH:
+        yield from itertools.product(range(2**n), repeat=2)
     yield from ((x, y >> (x >> 32) % 64) for x, y in random_pairs(n, 10_000))
 
 

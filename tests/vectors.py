@@ -1,7 +1,7 @@
 #!/usr/bin/env python3
 """The records of the program `test_vectors` and what it must write of them: tests/vectors.py [--check]
 
-It takes the readings of readings.jsonl, texts of its own whose words decide, and the cases of cases.py, operands.py, constants.py and limits.py, and writes
+It takes the readings of readings.jsonl, texts of its own whose words decide, and the cases of cases.py, operands.py, constants.py, signed.py and limits.py, and writes
 crates/test_vectors/stdin and crates/test_vectors/stdout; with --check it only says whether these two files are what it would write, and replays every list of
 rules in them (derivations.py). What the words of a text are is said by words.py, which is held to each reading whose answer arises from words. The checker's
 answer is that of the reading, or is known from how a text is made; the list shown is the one derivation that there is.
@@ -17,6 +17,7 @@ from cases import AREA, Case, all_cases
 from constants import all_constants
 from limits import all_limits
 from operands import all_operands
+from signed import all_signed
 from words import RESPONSE, SCRIPT
 
 HERE = os.path.dirname(os.path.abspath(__file__))
@@ -226,6 +227,7 @@ def records():
     yield from all_cases()
     yield from all_operands()
     yield from all_constants()
+    yield from all_signed()
     yield from all_limits()
 
 

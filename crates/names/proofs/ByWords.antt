@@ -9,7 +9,8 @@ use lib.ListN.{length}
 use borrow.Author.Tests.{eq-eqb, eqb-true, le-leb, le-ltb, leb-true, lt-leb, lt-ltb, ltb-true, ne-eqb}
 use Rattle.forest.specs.Lists.{sameBytes, spelling}
 use Rattle.forest.proofs.Bools.{and-left, and-right, apart}
-use Rattle.operators.specs.Operators.{named, operatorCount, operatorOf, operators}
+use Rattle.operators.specs.Operators.{named, operatorOf, operators}
+use Rattle.operators.specs.code.Operators.{extractNumber}
 use Rattle.words.specs.Trees.{Lexeme, symbol}
 use Rattle.lexemes.specs.Lists.{Items}
 use Rattle.lexemes.specs.code.Standing.{Source, spelt}
@@ -38,7 +39,8 @@ pub is-constant : (lexemes : List ℕ) (at : ℕ) {width value code : ℕ} → w
 is-constant lexemes at e c v view =
     record { stated = record { code-is = c ∙ ap (codeWith literalKind) e; value-is = v }; known-is = λ nowhere. refl }
 
-extract-number : operatorOf (spelling "extract") ≡ operatorCount - 1
+-- The number of `extract`.
+extract-number : operatorOf (spelling "extract") ≡ extractNumber
 unfolding named operatorOf operators sameBytes
 extract-number = refl
 

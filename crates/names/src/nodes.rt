@@ -36,7 +36,7 @@ ghost use Rattle.names.specs.Scopes.{View};
 ghost use Rattle.names.specs.code.Lookup.{bytesAt};
 ghost use Rattle.names.specs.code.Nodes.{NodeAt, NodeMeans, PatternAt, isPatternHead, patternKind, wordBy};
 
-// The code of `(_ extract i j)`: the last operator.
+// The code of `(_ extract i j)`.
 const CUT: u64 = OPERATOR + KINDS * EXTRACT as u64;
 
 // Whether a node is `(Constant σ)` or `(Variable σ)`, by its first word, the word that says what it is and the code of that.

@@ -1,21 +1,22 @@
 -- What `apply` asks of the functions that it calls, and what it gives, at any row of the table.
-use Prim.Native.Nat.{ℕ, zero, suc, _+_, _≤_, _<_}
+use Prim.Native.Nat.{ℕ, zero, suc, _+_, _-_, _≤_, _<_}
 use native.Mathlib.Omega.{arith}
-use mathlib.Core.Path.{_≡_, refl, sym, _∙_}
+use mathlib.Core.Path.{_≡_, refl, sym, ap, subst, _∙_}
 use mathlib.Core.Bool.{Bool, true, false, not, _&&_, _||_}
 use mathlib.Core.List.{List, [], _∷_}
 use mathlib.Core.Option.{some}
 use lib.Dec.{eqb, leb, ltb}
-use lib.ListN.{getD, length}
+use lib.ListN.{drop, getD, length}
+use lib.Seq.{getD-drop}
 use borrow.Author.Tests.{eqb-true, leb-false, leb-true, lt-leb, ltb-false, ltb-true, ne-eqb, not-true}
 use Rattle.forest.proofs.Bools.{and-right, apart, each, or-other}
 use Rattle.forest.proofs.Options.{passed}
-use Rattle.operators.specs.Operators.{Operands, Operator, operatorAt, operatorCount, operatorSort, operatorValue, operators, takes}
-use Rattle.operators.specs.Sorts.{cutting, joining, maxWidth, sortBy, width}
-use Rattle.operators.proofs.RuledOperands.{cut, pair, vectors}
-use Rattle.operators.specs.code.Operators.{Applied, FixedApplied, FixedOperable, Operable}
+use Rattle.operators.specs.Operators.{Operands, Operator, noOperator, operatorAt, operatorCount, operatorSort, operatorValue, operators, takes}
+use Rattle.operators.specs.Sorts.{cutting, joining, maxWidth, sortBy}
+use Rattle.operators.proofs.RuledOperands.{asksWidth, both, cut, pair, vectors}
+use Rattle.operators.specs.code.Operators.{Applied, FixedApplied, FixedOperable, LaterApplied, LaterOperable, Operable, extractNumber}
 use Rattle.operators.specs.code.Vectors.{Joined, Width, Word, Words}
-use Rattle.operators.proofs.Table.{past}
+use Rattle.operators.proofs.Table.{Each, each-at, past, _and_}
 
 -- The operands as `apply` has them: two widths and the values.
 abbrev pub given : (high low first second : ℕ) (values : List ℕ) → Operands
@@ -46,19 +47,19 @@ module _ {operator high low first second one two three k : ℕ} (at : operator �
       let p = passed (ltb k operatorCount && counts) (rw at at (e .sorted)) in
       (and-right (ltb k operatorCount) counts (p .0), p .1)
 
-  -- The first operand of a row with the rule `width`.
-  pub a-word : operatorAt k .rule ≡ width → Word first one
-  a-word q = rw (e .width-one, e .is-one) (vectors high low (e .fit) (rw q at (taken .1)) .first)
+  -- The first operand of a row whose rule asks for operands of one width.
+  pub a-word : asksWidth (operatorAt k .rule) ≡ true → Word first one
+  a-word q = rw (e .width-one, e .is-one) (vectors (operatorAt k .rule) q high low (e .fit) (taken .1) .first)
 
   -- Its width.
-  pub a-width : operatorAt k .rule ≡ width → Width first
+  pub a-width : asksWidth (operatorAt k .rule) ≡ true → Width first
   a-width q = a-word q .width
 
-  -- Both operands of a row with the rule `width`.
-  pub two-words : operatorAt k .rule ≡ width → operatorAt k .operands ≡ 2 → Words first one two
+  -- Both operands of such a row.
+  pub two-words : asksWidth (operatorAt k .rule) ≡ true → operatorAt k .operands ≡ 2 → Words first one two
   two-words q l =
       let counted : length (e .sorts) ≡ 2 = fixed-count (operatorAt k) _ (rw at at (e .fixed)) (taken .0) ∙ l in
-      record { first = a-word q; second = rw (e .width-one, e .is-two) (vectors high low (e .fit) (rw q at (taken .1)) .second counted) }
+      record { first = a-word q; second = rw (e .width-one, e .is-two) (vectors (operatorAt k .rule) q high low (e .fit) (taken .1) .second counted) }
 
   -- The operands of a row with the rule `joining`.
   pub a-pair : operatorAt k .rule ≡ joining → Joined first second one two
@@ -125,19 +126,84 @@ fixed-rows o f = by-case (ltb o operatorCount) refl
 pub fixed-row : (o : ℕ) → NoneOf Unit 1 6 o → operatorAt o .many ≡ false
 fixed-row o h = fixed-rows o (none-of Unit 1 6 o h)
 
--- An operator that has a fixed number of operands and is none of 0 and 7 to 22 is past the last.
-pub fixed-rest : {o : ℕ} → operatorAt o .many ≡ false → NoneOf (Unit × (o ≡ 0 → ⊥)) 7 16 o → operatorCount ≤ o
+-- An operator that has a fixed number of operands and is none of 0 and 7 to 22 stands behind `extract`.
+pub fixed-rest : {o : ℕ} → operatorAt o .many ≡ false → NoneOf (Unit × (o ≡ 0 → ⊥)) 7 16 o → extractNumber < o
 fixed-rest {o} f h = none-of (Unit × (o ≡ 0 → ⊥)) 7 16 o h (by-case (leb o 6) refl)
   where
     by-case : (t : Bool) → leb o 6 ≡ t → 7 ≤ o
     by-case true e = apart (sym f ∙ wide-rows o (omega (arith, besides (Unit × (o ≡ 0 → ⊥)) 7 16 o h .1)) (leb-true o 6 e))
     by-case false e = leb-false o 6 e
 
--- Past the last operator the value is 0.
-pub fixed-past : {operator high low first second one two three : ℕ} → operatorCount ≤ operator → FixedApplied operator high low first second one two three 0
+-- An operator behind `extract` has two operands of one width.
+later-rows : {o : ℕ} → extractNumber < o → o < operatorCount → (asksWidth (operatorAt o .rule) ≡ true) × (operatorAt o .operands ≡ 2)
+unfolding operatorAt operators
+later-rows {o} l h =
+    let row = each operatorCount (λ (k : ℕ). leb k extractNumber || asksWidth (operatorAt k .rule) && eqb (operatorAt k .operands) 2) tt o h in
+    let p = both (asksWidth (operatorAt o .rule)) (eqb (operatorAt o .operands) 2) (or-other (leb o extractNumber) _ (lt-leb o extractNumber l) row) in
+    (p .0, eqb-true (operatorAt o .operands) 2 (p .1))
+
+-- The two words that an operator behind `extract` is given.
+abbrev pub later-given : (width one two : ℕ) → Operands
+later-given width one two = record { i = 0; j = 0; sorts = width ∷ []; values = one ∷ two ∷ [] }
+
+-- A row's value over two words is the operator's.
+pub later-applied : (width one two : ℕ) {operator k r : ℕ} → operator ≡ k → r ≡ operatorAt k .value (later-given width one two)
+    → LaterApplied operator width one two r
 unfolding operatorValue
-fixed-past {high = high} {low = low} h e =
-    past (λ (r : Operator). r .value (record { i = high; j = low; sorts = e .sorts; values = e .values })) h
+later-applied width one two at h = rw at h
+
+-- Past the last operator the value is 0.
+pub later-past : {operator : ℕ} (width one two : ℕ) → extractNumber < operator → NoneOf Unit 23 11 operator → LaterApplied operator width one two 0
+unfolding operatorValue
+later-past {operator} width one two l h = past (λ (r : Operator). r .value (later-given width one two)) (none-of Unit 23 11 operator h l)
+
+-- A row that looks at the first width and the first two values alone.
+abbrev LooksAtWords : Operator → Type 0
+LooksAtWords r = (x : Operands) → r .value (later-given (getD (x .sorts) 0 0) (getD (x .values) 0 0) (getD (x .values) 1 0)) ≡ r .value x
+
+-- So do those behind `extract`.
+later-look : {o : ℕ} → extractNumber < o → LooksAtWords (operatorAt o)
+unfolding operatorAt operators
+later-look {o} l =
+    let k : 23 + (o - 23) ≡ o = omega arith in
+    let e = getD-drop 23 operators (o - 23) noOperator ∙ ap (λ (k : ℕ). getD operators k noOperator) k in
+    subst LooksAtWords e (each-at LooksAtWords (drop 23 operators) noOperator looks (λ x. refl) (o - 23))
+  where
+    looks : Each LooksAtWords (drop 23 operators)
+    looks =
+        (λ x. refl)
+        and (λ x. refl)
+        and (λ x. refl)
+        and (λ x. refl)
+        and (λ x. refl)
+        and (λ x. refl)
+        and (λ x. refl)
+        and (λ x. refl)
+        and (λ x. refl)
+        and (λ x. refl)
+        and (λ x. refl)
+        and tt
+
+module _ {operator high low first second one two three : ℕ} (rest : NoneOf (Unit × (operator ≡ 0 → ⊥)) 7 16 operator)
+    (e : FixedOperable operator high low first second one two three) where
+  -- `later_value` takes the operands of an operator that is none of `fixed_value`'s.
+  pub later-operable : LaterOperable operator first one two
+  unfolding operatorSort
+  later-operable =
+      let counts = takes (operatorAt operator) (length (e .sorts)) in
+      let tested = passed (ltb operator operatorCount && counts) (e .sorted) .0 in
+      let known = ltb-true operator operatorCount (both (ltb operator operatorCount) counts tested .0) in
+      let l = fixed-rest (e .fixed) rest in
+      let row = later-rows l known in
+      record { later = l; words = two-words refl e (row .0) (row .1) }
+
+  -- Its value is the operator's.
+  pub later-gives : {r : ℕ} → LaterApplied operator first one two r → r ≡ operatorValue operator high low (e .sorts) (e .values)
+  unfolding operatorValue
+  later-gives h =
+      h
+      ∙ rw (e .width-one, e .is-one, e .is-two)
+      (later-look (fixed-rest (e .fixed) rest) (record { i = high; j = low; sorts = e .sorts; values = e .values }))
 
 -- An operator that is none of 1 to 6, over the first three operands.
 module _ {operator high low first second one two three : ℕ} {values : List ℕ} (others : NoneOf Unit 1 6 operator) (is-one : one ≡ getD values 0 0)

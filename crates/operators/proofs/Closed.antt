@@ -1,12 +1,12 @@
 -- The value of an operator over operands of their sorts is a value of the result's sort.
-use Prim.Native.Nat.{ℕ, zero, suc, _^_, _≤_, _<_}
+use Prim.Native.Nat.{ℕ, suc, _^_, _≤_, _<_}
 use Prim.Native.String.{String}
 use native.Mathlib.Omega.{arith}
 use mathlib.Core.Path.{_≡_, refl, ap}
 use mathlib.Core.Bool.{Bool, true, false, cond, not, _&&_, _||_}
 use mathlib.Core.List.{List, [], _∷_}
 use mathlib.Core.Option.{some}
-use lib.Dec.{eqb, lit<, lit≤, ltb}
+use lib.Dec.{eqb, leb, lit<, lit≤, ltb}
 use lib.ListN.{drop, getD, length}
 use borrow.Author.Tests.{eqb-true, leb-true}
 use Rattle.forest.proofs.Options.{passed}
@@ -17,25 +17,11 @@ use Rattle.operators.specs.Sorts.{AllFit, Fit, SortRule, choice, cutting
 use Rattle.operators.specs.Sorts.AllFit.{no-more, also}
 use Rattle.operators.specs.code.Vectors.{Word, Words}
 use Rattle.operators.specs.Values.{chained, concatValue, differ, extractValue, groupLeft, groupRight, holds, iteValue, pairwise}
-use Rattle.operators.proofs.Below.{bvand-below, bvlshr-below, bvnot-below, bvor-below, bvshl-below, bvudiv-below, bvurem-below, bvxor-below}
-use Rattle.operators.proofs.Below.{concat-below, mod-below, truth-below}
+use Rattle.operators.proofs.Below.{bvand-below, bvashr-below, bvlshr-below, bvnot-below, bvor-below, bvsdiv-below, bvshl-below, bvsmod-below}
+use Rattle.operators.proofs.Below.{bvsrem-below, bvudiv-below, bvurem-below, bvxor-below, concat-below, mod-below, signs-below, truth-below}
+use Rattle.operators.proofs.Results.{width-sort}
+use Rattle.operators.proofs.Table.{Each, each-at, _and_}
 use Rattle.operators.proofs.RuledOperands.{chosen, cut, givesBool, pair, truths, vectors, word-fits}
-
--- P holds of each of some things.
-abbrev Each : {A : Type 0} → (A → Type 0) → List A → Type 0
-Each P [] = Unit
-Each P (x ∷ more) = P x × Each P more
-
--- It holds of what stands at k, if it holds of what stands for nothing.
-each-at : {A : Type 0} (P : A → Type 0) (l : List A) (d : A) → Each P l → P d → (k : ℕ) → P (getD l k d)
-each-at P [] d h g k = g
-each-at P (x ∷ more) d h g zero = h .0
-each-at P (x ∷ more) d h g (suc k) = each-at P more d (h .1) g k
-
--- Of the first of some things and of the others.
-infixr 5 _and_
-_and_ : {A B : Type 0} → A → B → A × B
-a and b = (a, b)
 
 -- A row's value is one of the sort that its rule gives.
 record Closed (r : Operator) : Type 0 where
@@ -87,8 +73,8 @@ unary : {name : String} {value : Operands → ℕ} → ((x : Operands) → Word 
 unary f =
     record {
       fits = λ x s a l h.
-          let v = vectors (x .i) (x .j) a h in
-          rw (← v .result) (word-fits (v .first .width) (f x (v .first)));
+          let v = vectors width refl (x .i) (x .j) a h in
+          rw (← width-sort (x .i) (x .j) (x .sorts) h) (word-fits (v .first .width) (f x (v .first)));
     }
 
 -- A row with two vectors.
@@ -97,8 +83,8 @@ binary : {name : String} {value : Operands → ℕ} → ((x : Operands) → Word
 binary f =
     record {
       fits = λ x s a l h.
-          let v = vectors (x .i) (x .j) a h in
-          rw (← v .result) (word-fits (v .first .width) (f x (record { first = v .first; second = v .second (eqb-true _ _ l) })));
+          let v = vectors width refl (x .i) (x .j) a h in
+          rw (← width-sort (x .i) (x .j) (x .sorts) h) (word-fits (v .first .width) (f x (record { first = v .first; second = v .second (eqb-true _ _ l) })));
     }
 
 -- Of two values of a sort either is one.
@@ -151,10 +137,21 @@ rows-closed =
     and binary (λ x w. bvudiv-below w)
     and binary (λ x w. bvurem-below w)
     and binary (λ x w. bvshl-below _ _ _)
-    and binary (λ x w. bvlshr-below w)
+    and binary (λ x w. bvlshr-below _ _ (w .first .below))
     and boolean refl (λ x. truth-below (ltb (one x) (two x)))
     and joined
     and extracted
+    and binary (λ x w. bvsdiv-below w)
+    and binary (λ x w. bvsrem-below w)
+    and binary (λ x w. bvsmod-below w)
+    and binary (λ x w. bvashr-below w)
+    and boolean refl (λ x. signs-below (widthOfOne x) (one x) (two x) (ltb (one x) (two x)))
+    and boolean refl (λ x. signs-below (widthOfOne x) (one x) (two x) (leb (one x) (two x)))
+    and boolean refl (λ x. signs-below (widthOfOne x) (two x) (one x) (ltb (two x) (one x)))
+    and boolean refl (λ x. signs-below (widthOfOne x) (two x) (one x) (leb (two x) (one x)))
+    and boolean refl (λ x. truth-below (leb (one x) (two x)))
+    and boolean refl (λ x. truth-below (ltb (two x) (one x)))
+    and boolean refl (λ x. truth-below (leb (two x) (one x)))
     and tt
 
 -- The value of an operator over operands of their sorts is a value of the result's sort.

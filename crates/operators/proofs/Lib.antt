@@ -5,5 +5,8 @@ pub mod Many
 pub mod RuledOperands
 pub mod Applying
 pub mod Below
+pub mod Magnitudes
 pub mod Closed
 pub mod Results
+pub mod Wholes
+pub mod SignedValues

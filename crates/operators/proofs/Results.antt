@@ -52,7 +52,7 @@ choice-sort i j (c ∷ []) h = never h
 choice-sort i j (c ∷ s ∷ more) h = ruled (eqb c bool && allAre s more) h .1
 
 -- What the rule `width` gives.
-width-sort : (i j : ℕ) (ss : List ℕ) {r : ℕ} → sortBy width i j ss ≡ some r → getD ss 0 0 ≡ r
+pub width-sort : (i j : ℕ) (ss : List ℕ) {r : ℕ} → sortBy width i j ss ≡ some r → getD ss 0 0 ≡ r
 unfolding sortBy
 width-sort i j [] h = never h
 width-sort i j (s ∷ more) h = ruled (vector s && allAre s more) h .1

@@ -65,19 +65,38 @@ truths width b i j ss h = apart b
 truths joining b i j ss h = apart b
 truths cutting b i j ss h = apart b
 
--- What the rule `width` says: the operands are words of one width, which is the result's.
-pub record Vectors (ss vs : List ℕ) (r : ℕ) : Type 0 where
-  pub result : getD ss 0 0 ≡ r
+-- Whether a rule asks for operands of one width.
+abbrev pub asksWidth : SortRule → Bool
+asksWidth logic = false
+asksWidth equality = false
+asksWidth order = true
+asksWidth choice = false
+asksWidth width = true
+asksWidth joining = false
+asksWidth cutting = false
+
+-- What such a rule says: the operands are words of one width.
+pub record Vectors (ss vs : List ℕ) : Type 0 where
   pub first : Word (getD ss 0 0) (getD vs 0 0)
   pub second : length ss ≡ 2 → Word (getD ss 0 0) (getD vs 1 0)
 
-pub vectors : (i j : ℕ) {ss vs : List ℕ} {r : ℕ} → AllFit ss vs → sortBy width i j ss ≡ some r → Vectors ss vs r
+-- A vector, and operands of its width.
+of-one-width : {s v : ℕ} {ss vs : List ℕ} → Fit s v → AllFit ss vs → vector s && allAre s ss ≡ true → Vectors (s ∷ ss) (v ∷ vs)
+of-one-width {s} {ss = ss} f more h =
+    let q = both (vector s) (allAre s ss) h in
+    record { first = word (q .0) f; second = λ l. word (q .0) (alike s more (q .1) 0 (omega arith)) }
+
+pub vectors : (rule : SortRule) → asksWidth rule ≡ true → (i j : ℕ) {ss vs : List ℕ} {r : ℕ} → AllFit ss vs → sortBy rule i j ss ≡ some r → Vectors ss vs
 unfolding sortBy
-vectors i j no-more h = never h
-vectors i j (also {s = s} {ss = ss} f more) h =
-    let p = ruled (vector s && allAre s ss) h in
-    let q = both (vector s) (allAre s ss) (p .0) in
-    record { result = p .1; first = word (q .0) f; second = λ l. word (q .0) (alike s more (q .1) 0 (omega arith)) }
+vectors width w i j no-more h = never h
+vectors width w i j (also {s = s} {ss = ss} f more) h = of-one-width f more (ruled (vector s && allAre s ss) h .0)
+vectors order w i j no-more h = never h
+vectors order w i j (also {s = s} {ss = ss} f more) h = of-one-width f more (ruled (vector s && allAre s ss) h .0)
+vectors logic w i j a h = apart w
+vectors equality w i j a h = apart w
+vectors choice w i j a h = apart w
+vectors joining w i j a h = apart w
+vectors cutting w i j a h = apart w
 
 -- What the rule `choice` says: the second and the third of three operands are values of the result's sort.
 pub record Choice (vs : List ℕ) (r : ℕ) : Type 0 where

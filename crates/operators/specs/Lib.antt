@@ -1,4 +1,5 @@
 pub mod Values
+pub mod Signed
 pub mod Sorts
 pub mod Operators
 pub mod code

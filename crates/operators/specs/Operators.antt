@@ -8,9 +8,10 @@ use lib.Dec.{eqb, leb, ltb}
 use lib.ListN.{drop, getD, length}
 use Rattle.forest.specs.Lists.{sameBytes, spelling}
 use Rattle.operators.specs.Sorts.{SortRule, choice, cutting, equality, joining, logic, order, sortBy, width}
-use Rattle.operators.specs.Values.{andValue, bvaddValue, bvandValue, bvlshrValue, bvmulValue, bvnegValue, bvnotValue, bvorValue, bvshlValue, bvsubValue}
-use Rattle.operators.specs.Values.{bvudivValue, bvultValue, bvuremValue, bvxorValue, chained, concatValue, differ, extractValue, groupLeft, groupRight}
-use Rattle.operators.specs.Values.{impliesValue, iteValue, notValue, orValue, pairwise, truth, xorValue}
+use Rattle.operators.specs.Values.{andValue, bvaddValue, bvandValue, bvashrValue, bvlshrValue, bvmulValue, bvnegValue, bvnotValue, bvorValue, bvsdivValue}
+use Rattle.operators.specs.Values.{bvsgeValue, bvsgtValue, bvshlValue, bvsleValue, bvsltValue, bvsmodValue, bvsremValue, bvsubValue, bvudivValue}
+use Rattle.operators.specs.Values.{bvugeValue, bvugtValue, bvuleValue, bvultValue, bvuremValue, bvxorValue, chained, concatValue, differ, extractValue}
+use Rattle.operators.specs.Values.{groupLeft, groupRight, impliesValue, iteValue, notValue, orValue, pairwise, truth, xorValue}
 
 -- What an operator's value is made of: the numbers of `(_ extract i j)`, and the sorts and the values of its operands.
 pub record Operands : Type 0 where
@@ -66,7 +67,8 @@ takes r n = cond (r .many) (leb (r .operands) n) (eqb n (r .operands))
 
 -- "Operators, two operands each unless said: `not`(1) `and or xor => = distinct ite`(3); `bvnot`(1) `bvneg`(1) `bvand bvor bvxor bvadd bvsub bvmul bvudiv
 -- bvurem bvshl bvlshr bvult concat`, `(_ extract i j)`(1)"; "`and or xor` group from the left, `=>` from the right, `=` chains, `distinct` is pairwise, each
--- with two or more operands as Core says." (E3)
+-- with two or more operands as Core says." (E3) "Add `bvsdiv bvsrem bvsmod bvashr bvslt bvsle bvsgt bvsge` and the unsigned `bvule bvugt bvuge`, with SMT-LIB's
+-- meaning." (E4) A row keeps its place for good: step lists that are stored name operators by their numbers.
 unfoldable pub operators : List Operator
 operators =
     row "not" 1 logic (λ x. notValue (one x))
@@ -92,11 +94,22 @@ operators =
     ∷ row "bvult" 2 order (λ x. bvultValue (one x) (two x))
     ∷ row "concat" 2 joining (λ x. concatValue (widthOfTwo x) (one x) (two x))
     ∷ row "extract" 1 cutting (λ x. extractValue (x .i) (x .j) (one x))
+    ∷ row "bvsdiv" 2 width (λ x. bvsdivValue (widthOfOne x) (one x) (two x))
+    ∷ row "bvsrem" 2 width (λ x. bvsremValue (widthOfOne x) (one x) (two x))
+    ∷ row "bvsmod" 2 width (λ x. bvsmodValue (widthOfOne x) (one x) (two x))
+    ∷ row "bvashr" 2 width (λ x. bvashrValue (widthOfOne x) (one x) (two x))
+    ∷ row "bvslt" 2 order (λ x. bvsltValue (widthOfOne x) (one x) (two x))
+    ∷ row "bvsle" 2 order (λ x. bvsleValue (widthOfOne x) (one x) (two x))
+    ∷ row "bvsgt" 2 order (λ x. bvsgtValue (widthOfOne x) (one x) (two x))
+    ∷ row "bvsge" 2 order (λ x. bvsgeValue (widthOfOne x) (one x) (two x))
+    ∷ row "bvule" 2 order (λ x. bvuleValue (one x) (two x))
+    ∷ row "bvugt" 2 order (λ x. bvugtValue (one x) (two x))
+    ∷ row "bvuge" 2 order (λ x. bvugeValue (one x) (two x))
     ∷ []
 
 -- How many operators there are, which is the number of rows (`proofs/Table: operators-counted`); also the number that stands for "no operator".
 abbrev pub operatorCount : ℕ
-operatorCount = 23
+operatorCount = 34
 
 -- A row for a number that is no operator's.
 abbrev pub noOperator : Operator

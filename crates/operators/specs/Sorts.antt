@@ -48,9 +48,9 @@ pub data SortRule : Type 0 where
   equality : SortRule
   -- a Bool and two operands of one sort, which is the result's: `ite`
   choice : SortRule
-  -- operands of one width, which is the result's: `bvnot` to `bvlshr`
+  -- operands of one width, which is the result's: `bvnot` to `bvlshr`, `bvsdiv` to `bvashr`
   width : SortRule
-  -- operands of one width, result Bool: `bvult`
+  -- operands of one width, result Bool: `bvult`, `bvslt` to `bvuge`
   order : SortRule
   -- the result as wide as its two operands together: `concat`
   joining : SortRule

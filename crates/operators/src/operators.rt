@@ -6,11 +6,18 @@ use crate::rules::JOINING;
 use crate::rules::LOGIC;
 use crate::rules::ORDER;
 use crate::rules::WIDTH;
+use crate::signed::bvashr;
+use crate::signed::bvsdiv;
+use crate::signed::bvsle;
+use crate::signed::bvslt;
+use crate::signed::bvsmod;
+use crate::signed::bvsrem;
 use crate::truth::AND;
 use crate::truth::OR;
 use crate::truth::XOR;
 use crate::truth::all_alike;
 use crate::truth::all_differ;
+use crate::truth::bvule;
 use crate::truth::bvult;
 use crate::truth::group_left;
 use crate::truth::group_right;
@@ -35,17 +42,18 @@ use forest::search::find_word;
 ghost use mathlib.Core.Path.{_≡_};
 ghost use Rattle.operators.specs.Operators.{operatorAt, operatorOf, takes};
 ghost use Rattle.operators.specs.code.RuleNumbers.{ruleNumber};
-ghost use Rattle.operators.specs.code.Operators.{Applied, FixedApplied, FixedOperable, Operable, ResultSort, Sortable};
+ghost use Rattle.operators.specs.code.Operators.{Applied, FixedApplied, FixedOperable, LaterApplied, LaterOperable, Operable};
+ghost use Rattle.operators.specs.code.Operators.{ResultSort, Sortable};
 
 // How many operators there are; also the number that stands for none.
-pub const OPERATORS: usize = 23;
+pub const OPERATORS: usize = 34;
 
-// The last operator, `(_ extract i j)`.
-pub const EXTRACT: usize = OPERATORS - 1;
+// The number of `(_ extract i j)`.
+pub const EXTRACT: usize = 22;
 
 // The names of the operators, one after the other.
-const NAMES: [u8; 105] =
-    *b"notandorxor=>=distinctitebvnotbvnegbvandbvorbvxorbvaddbvsubbvmulbvudivbvurembvshlbvlshrbvultconcatextract";
+const NAMES: [u8; 164] =
+    *b"notandorxor=>=distinctitebvnotbvnegbvandbvorbvxorbvaddbvsubbvmulbvudivbvurembvshlbvlshrbvultconcatextractbvsdivbvsrembvsmodbvashrbvsltbvslebvsgtbvsgebvulebvugtbvuge";
 
 // Where the name of each operator starts; the last number is where the last name ends.
 const STARTS: [usize; OPERATORS + 1] = [
@@ -72,7 +80,18 @@ const STARTS: [usize; OPERATORS + 1] = [
     87, // bvult
     92, // concat
     98, // extract
-    105,
+    105, // bvsdiv
+    111, // bvsrem
+    117, // bvsmod
+    123, // bvashr
+    129, // bvslt
+    134, // bvsle
+    139, // bvsgt
+    144, // bvsge
+    149, // bvule
+    154, // bvugt
+    159, // bvuge
+    164,
 ];
 
 // How many operands each operator has, or has at least.
@@ -100,6 +119,17 @@ const OPERANDS: [usize; OPERATORS] = [
     2, // bvult
     2, // concat
     1, // extract
+    2, // bvsdiv
+    2, // bvsrem
+    2, // bvsmod
+    2, // bvashr
+    2, // bvslt
+    2, // bvsle
+    2, // bvsgt
+    2, // bvsge
+    2, // bvule
+    2, // bvugt
+    2, // bvuge
 ];
 
 // Whether each operator takes any number of operands from that on.
@@ -127,6 +157,17 @@ const MANY: [bool; OPERATORS] = [
     false, // bvult
     false, // concat
     false, // extract
+    false, // bvsdiv
+    false, // bvsrem
+    false, // bvsmod
+    false, // bvashr
+    false, // bvslt
+    false, // bvsle
+    false, // bvsgt
+    false, // bvsge
+    false, // bvule
+    false, // bvugt
+    false, // bvuge
 ];
 
 // The sort rule of each operator.
@@ -154,6 +195,17 @@ const RULES: [u64; OPERATORS] = [
     ORDER, // bvult
     JOINING, // concat
     CUTTING, // extract
+    WIDTH, // bvsdiv
+    WIDTH, // bvsrem
+    WIDTH, // bvsmod
+    WIDTH, // bvashr
+    ORDER, // bvslt
+    ORDER, // bvsle
+    ORDER, // bvsgt
+    ORDER, // bvsge
+    ORDER, // bvule
+    ORDER, // bvugt
+    ORDER, // bvuge
 ];
 
 // The number of the operator that a word names; past the last operator where it names none.
@@ -223,6 +275,27 @@ pub fn result_sort(operator: usize, high: u64, low: u64, first: u64, second: u64
     }
 }
 
+// The value of an operator behind `extract` over operands of the values `one` and `two`, of a width.
+fn later_value(operator: usize, width: u64, one: u64, two: u64) -> u64
+    requires { ⌜ LaterOperable operator width one two ⌝ }
+    ensures { λ r. ⌜ LaterApplied operator width one two r ⌝ }
+{
+    match operator {
+        23 => bvsdiv(width, one, two),
+        24 => bvsrem(width, one, two),
+        25 => bvsmod(width, one, two),
+        26 => bvashr(width, one, two),
+        27 => bvslt(width, one, two),
+        28 => bvsle(width, one, two),
+        29 => bvslt(width, two, one), // bvsgt
+        30 => bvsle(width, two, one), // bvsge
+        31 => bvule(one, two),
+        32 => bvult(two, one), // bvugt
+        33 => bvule(two, one), // bvuge
+        _ => 0,
+    }
+}
+
 // The value of an operator that takes one number of operands only, with `high` and `low` the numbers of an `extract`, over operands of the values `one`, `two`
 // and `three`, of which the first two have the widths `first` and `second`; what is not there is 0.
 fn fixed_value(
@@ -256,7 +329,7 @@ fn fixed_value(
         20 => bvult(one, two),
         21 => concat(first, second, one, two),
         EXTRACT => extract(high, low, one),
-        _ => 0,
+        _ => later_value(operator, first, one, two),
     }
 }
 

@@ -2,7 +2,8 @@
 ghost use mathlib.Core.Path.{_≡_};
 ghost use lib.ListN.{drop, getD};
 ghost use Rattle.operators.specs.code.Operators.{pairValue};
-ghost use Rattle.operators.specs.Values.{bvultValue, chained, differ, groupLeft, groupRight, impliesValue, iteValue, notValue, pairwise, truth, withEach};
+ghost use Rattle.operators.specs.Values.{bvuleValue, bvultValue, chained, differ, groupLeft, groupRight, impliesValue, iteValue, notValue};
+ghost use Rattle.operators.specs.Values.{pairwise, truth, withEach};
 ghost use lib.Dec.{eqb};
 
 // The numbers of `and`, `or` and `xor`.
@@ -13,7 +14,7 @@ pub(crate) const OR: usize = 2;
 pub(crate) const XOR: usize = 3;
 
 // The number of a truth value.
-fn number_of(test: bool) -> u64
+pub(crate) fn number_of(test: bool) -> u64
     ensures { λ r. ⌜ r ≡ truth test ⌝ }
 {
     if test { 1 } else { 0 }
@@ -133,6 +134,13 @@ pub(crate) fn bvult(left: u64, right: u64) -> u64
     ensures { λ r. ⌜ r ≡ bvultValue left right ⌝ }
 {
     number_of(left < right)
+}
+
+// `bvule`
+pub(crate) fn bvule(left: u64, right: u64) -> u64
+    ensures { λ r. ⌜ r ≡ bvuleValue left right ⌝ }
+{
+    number_of(left <= right)
 }
 
 // `ite`

@@ -252,4 +252,7 @@ settled =
     (with-value refl refl
     (with-value refl refl
     (with-value refl refl
-    texts-settled))))))))
+    (with-value refl refl
+    (with-value refl refl
+    (with-value refl refl
+    texts-settled)))))))))))

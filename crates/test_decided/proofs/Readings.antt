@@ -235,8 +235,8 @@ readings =
     ∷ row "(set-logic BV)(declare-var x (_ BitVec 8))(declare-var p Bool)(constraint (as p Bool))" "" (7 ∷ 21 ∷ [])
     ∷ row "(set-logic BV)(declare-var x (_ BitVec 8))(declare-var p Bool)(constraint (match p ((q q))))" "" (5 ∷ 18 ∷ [])
     ∷ row "(set-logic BV)(declare-var as Bool)(synth-fun f () Bool ((A Bool)) ((A Bool (true))))(check-synth)" "((define-fun f () Bool true))" []
-    ∷ row "(set-logic BV)(declare-var bvsdiv Bool)(synth-fun f () Bool ((A Bool)) ((A Bool (true))))(check-synth)" "((define-fun f () Bool true))" []
-    ∷ row "(set-logic BV)(declare-var x (_ BitVec 8))(declare-var p Bool)(constraint (bvsle x x))" "" (7 ∷ 21 ∷ [])
+    ∷ row "(set-logic BV)(declare-var bvsdiv Bool)(synth-fun f () Bool ((A Bool)) ((A Bool (true))))(check-synth)" "" (7 ∷ 6 ∷ [])
+    ∷ row "(set-logic BV)(declare-var x (_ BitVec 8))(declare-var p Bool)(constraint (bvsle x x))" "" (5 ∷ 26 ∷ [])
     ∷ row "(set-logic BV)(declare-var x (_ BitVec 8))(declare-var p Bool)(constraint (= x ((_ zero_extend 8) x)))" "" (6 ∷ 18 ∷ [])
     ∷ row "(set-logic BV)(declare-var @.x Bool)(synth-fun f () Bool ((A Bool)) ((A Bool (true))))(check-synth)" "((define-fun f () Bool true))" []
     ∷ row "(set-logic BV)(declare-var Int Bool)(synth-fun f () Bool ((A Bool)) ((A Bool (true))))(check-synth)" "((define-fun f () Bool true))" []
@@ -443,6 +443,18 @@ readings =
     ∷ row "(set-logic BV)(define-fun g ((_ bv5)) Bool true)" "" (7 ∷ 9 ∷ [])
     ∷ row "(set-logic BV)(declare-var x (_ BitVec 8))(declare-var p Bool)(constraint (= (_ bv256 8) 5))" "" (8 ∷ 22 ∷ [])
     ∷ row "(set-logic BV)(synth-fun f () Bool ((A Bool)) ((A Bool (true))))(constraint (= true false true))(check-synth)" "((define-fun f () Bool true))" []
+    ∷ row "(set-logic BV)(declare-var x (_ BitVec 8))(declare-var p Bool)(constraint (= x bvsdiv))" "" (8 ∷ 23 ∷ [])
+    ∷ row "(set-logic BV)(synth-fun f () Bool ((A Bool)) ((A Bool (true))))(constraint (= (bvsdiv #x05 #x00) #xFF))(check-synth)" "((define-fun f () Bool true))" []
+    ∷ row "(set-logic BV)(synth-fun f () Bool ((A Bool)) ((A Bool (true))))(constraint (= (bvsdiv #xFB #x00) #x01))(check-synth)" "((define-fun f () Bool true))" []
+    ∷ row "(set-logic BV)(synth-fun f () Bool ((A Bool)) ((A Bool (true))))(constraint (= (bvsrem #xFB #x00) #xFB))(check-synth)" "((define-fun f () Bool true))" []
+    ∷ row "(set-logic BV)(synth-fun f () Bool ((A Bool)) ((A Bool (true))))(constraint (= (bvsmod #xFB #x00) #xFB))(check-synth)" "((define-fun f () Bool true))" []
+    ∷ row "(set-logic BV)(synth-fun f () Bool ((A Bool)) ((A Bool (true))))(constraint (= (bvsmod #x07 #xFE) #xFF))(check-synth)" "((define-fun f () Bool true))" []
+    ∷ row "(set-logic BV)(synth-fun f () Bool ((A Bool)) ((A Bool (true))))(constraint (= (bvsrem #x07 #xFE) #x01))(check-synth)" "((define-fun f () Bool true))" []
+    ∷ row "(set-logic BV)(synth-fun f () Bool ((A Bool)) ((A Bool (true))))(constraint (= (bvashr #x80 #x08) #xFF))(check-synth)" "((define-fun f () Bool true))" []
+    ∷ row "(set-logic BV)(synth-fun f () Bool ((A Bool)) ((A Bool (true))))(constraint (= (bvashr #x80 #xFF) #xFF))(check-synth)" "((define-fun f () Bool true))" []
+    ∷ row "(set-logic BV)(synth-fun f () Bool ((A Bool)) ((A Bool (true))))(constraint (= (bvashr #x40 #x09) #x00))(check-synth)" "((define-fun f () Bool true))" []
+    ∷ row "(set-logic BV)(synth-fun f () Bool ((A Bool)) ((A Bool (true))))(constraint (= (bvsdiv #b1 #b1) #b1))(check-synth)" "((define-fun f () Bool true))" []
+    ∷ row "(set-logic BV)(declare-var x (_ BitVec 8))(declare-var p Bool)(constraint (= x (bvnand x x)))" "" (7 ∷ 24 ∷ [])
     ∷ []
 
 -- The definitions answer every one of them so.

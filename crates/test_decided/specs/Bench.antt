@@ -78,7 +78,7 @@ costScript = "(set-logic BV)(define-fun d0 ((x (_ BitVec 32))) (_ BitVec 32) (bv
 
 -- The rows. "P, 8 bits: `bvudiv #x0F #x00`=#xFF; `bvurem #x0F #x00`=#x0F; `bvshl #x01 #x08`=#x00; `bvlshr #x80 #x07`=#x01; `bvneg #x80`=#x80; `bvmul #x10
 -- #x10`=#x00; `bvsub #x00 #x01`=#xFF; `concat #xA #xB`=#xAB; extract 7 4 of #xAB=#xA." "derivation 7, 15, 3, 8 (P)"; "Body x shows 0, 2 (P)"; "body costs 3, 9,
--- 21 (P)".
+-- 21 (P)". "At 8 bits `bvsdiv #x80 #xFF` is #x80, `bvsrem #xF9 #x02` is #xFF, `bvsmod #xF9 #x02` is #x01." (E4)
 abbrev pub bench : List Mark
 bench =
     value "bvudiv" 0 0 (8 ∷ 8 ∷ []) (0x0F ∷ 0x00 ∷ []) 8 0xFF
@@ -90,6 +90,9 @@ bench =
     ∷ value "bvsub" 0 0 (8 ∷ 8 ∷ []) (0x00 ∷ 0x01 ∷ []) 8 0xFF
     ∷ value "concat" 0 0 (4 ∷ 4 ∷ []) (0xA ∷ 0xB ∷ []) 8 0xAB
     ∷ value "extract" 7 4 (8 ∷ []) (0xAB ∷ []) 4 0xA
+    ∷ value "bvsdiv" 0 0 (8 ∷ 8 ∷ []) (0x80 ∷ 0xFF ∷ []) 8 0x80
+    ∷ value "bvsrem" 0 0 (8 ∷ 8 ∷ []) (0xF9 ∷ 0x02 ∷ []) 8 0xFF
+    ∷ value "bvsmod" 0 0 (8 ∷ 8 ∷ []) (0xF9 ∷ 0x02 ∷ []) 8 0x01
     ∷ derivation swapScript swapResponse (7 ∷ 15 ∷ 3 ∷ 8 ∷ [])
     ∷ derivation ringScript ringResponse (0 ∷ 2 ∷ [])
     ∷ costs costScript (3 ∷ 9 ∷ 21 ∷ [])

@@ -1,5 +1,6 @@
-//! Runs every operator at every width, on edge operands and on pseudo-random ones, and prints for each width a hash of the values of each operator, with two
-//! operands where it takes more; then of each operator that takes more, a hash of its values with 3, with 4, with 5 and with 6 operands.
+//! Runs every operator at every width, on edge operands, on all operands where the width is at most 4, and on pseudo-random ones, and prints for each width a
+//! hash of the values of each operator, with two operands where it takes more; then of each operator that takes more, a hash of its values with 3, with 4, with 5
+//! and with 6 operands.
 //! tests/operators.py computes the same lines from SMT-LIB's meaning of the operators.
 use libc::STDOUT_FILENO;
 use operators::ones;
@@ -21,6 +22,11 @@ ghost use Rattle.operators.specs.Sorts.{Fit, choice, cutting, joining, maxWidth
 ghost use Rattle.operators.specs.code.Vectors.{Width, Word, Words};
 ghost use Rattle.test_operators.specs.Alike.{Alike};
 ghost use Rattle.test_operators.specs.Wide.{Wide, mostOperands};
+
+// How many edge operands there are, and pairs of them.
+const EDGES: u64 = 6;
+
+const EDGE_PAIRS: u64 = EDGES * EDGES;
 
 // How many pseudo-random pairs of operands each operator runs on at each width.
 const PAIRS: u64 = 10_000;
@@ -51,7 +57,7 @@ fn low(number: u64, width: u64) -> u64
     number & ones(width)
 }
 
-// An edge operand, in its low bits: 0, 1, all ones, or the highest bit of the width alone.
+// An edge operand, in its low bits: 0, 1, all ones, the highest bit of the width alone, all bits below it, or all ones but the last.
 fn edge(index: u64, width: u64) -> u64
     requires { ⌜ Width width ⌝ }
 {
@@ -59,7 +65,9 @@ fn edge(index: u64, width: u64) -> u64
         0 => 0,
         1 => 1,
         2 => u64::MAX,
-        _ => 1 << (width - 1),
+        3 => 1 << (width - 1),
+        4 => u64::MAX >> (64 - width) >> 1,
+        _ => u64::MAX - 1,
     }
 }
 
@@ -140,11 +148,41 @@ fn edges(operator: usize, width: u64) -> u64
 {
     let mut hash = 0;
     let mut k = 0;
-    while k < 16 {
+    while k < EDGE_PAIRS {
         hash = fold(
             hash,
-            value(operator, width, edge(k / 4, width), edge(k % 4, width)),
+            value(
+                operator,
+                width,
+                edge(k / EDGES, width),
+                edge(k % EDGES, width),
+            ),
         );
+        k += 1;
+    }
+    hash
+}
+
+// How many pairs of operands of a width there are, where all of them are run; 0 above.
+fn small_pairs(width: u64) -> u64 {
+    match width {
+        1 => 4,
+        2 => 16,
+        3 => 64,
+        4 => 256,
+        _ => 0,
+    }
+}
+
+// That hash with the values over all pairs of operands of a width up to 4.
+fn small(operator: usize, width: u64, start: u64) -> u64
+    requires { ⌜ (operator < operatorCount) × Width width ⌝ }
+{
+    let count = small_pairs(width);
+    let mut hash = start;
+    let mut k = 0;
+    while k < count {
+        hash = fold(hash, value(operator, width, k >> width % 64, low(k, width)));
         k += 1;
     }
     hash
@@ -251,7 +289,11 @@ fn line(width: u64)
     io::print_decimal(STDOUT_FILENO, width);
     let mut operator = 0;
     while operator < OPERATORS {
-        print_hash(pairs(operator, width, edges(operator, width)));
+        print_hash(pairs(
+            operator,
+            width,
+            small(operator, width, edges(operator, width)),
+        ));
         operator += 1;
     }
     further(width);

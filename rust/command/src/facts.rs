@@ -1,7 +1,7 @@
 //! What is known of a check once the checker has answered: the same facts for people and for programs.
 
 use crate::derivation::{steps, Step};
-use crate::evaluation::differing;
+use crate::evaluation::{differing, is_signed};
 use crate::failure::Failure;
 use crate::guards::Guard;
 use crate::notes::{cause, Cause};
@@ -44,6 +44,8 @@ pub struct Judged {
     pub point: Vec<(String, Value)>,
     /// The texts and values of the first two neighbours that differ, where the constraint is a false equation.
     pub sides: Option<[(String, Value); 2]>,
+    /// Whether the constraint has a signed operator.
+    pub signed: bool,
 }
 
 /// All facts of one check.
@@ -203,6 +205,7 @@ fn judged(given: &Given, answer: Answer, numbers: &[u64]) -> Option<Judged> {
         text: constraint.term.to_string(),
         point: point(&given.read.variables, numbers),
         sides: sides.map(|sides| sides.map(|(side, value)| (side.to_string(), value))),
+        signed: is_signed(&constraint.term),
     })
 }
 

@@ -2,6 +2,7 @@
 
 use crate::answers::{meaning, sentence, status, text_name, verdict};
 use crate::derivation::Step;
+use crate::evaluation::whole;
 use crate::facts::{Derived, Facts, Judged, Located, Note};
 use crate::failure::{Failure, FAILED};
 use crate::guards::Guard;
@@ -16,7 +17,7 @@ use sverdhyll::digest::sha256;
 /// The name of the format, and its version: a later one keeps the keys of an earlier one.
 const FORMAT: [(&str, Json); 2] = [
     ("format", Json::Word("sverdhyll")),
-    ("version", Json::Number(2)),
+    ("version", Json::Number(3)),
 ];
 
 /// A JSON value.
@@ -24,6 +25,8 @@ const FORMAT: [(&str, Json); 2] = [
 enum Json {
     Null,
     Number(u64),
+    /// A number with a sign.
+    Signed(i64),
     /// A text that needs no escapes.
     Word(&'static str),
     Text(String),
@@ -154,26 +157,24 @@ fn note(note: &Note) -> Json {
 
 /// The constraint and the point of answer 14 or 15.
 fn constraint(judged: &Judged) -> Json {
-    let side = |index: usize| {
-        let side = judged.sides.as_ref().map(|sides| &sides[index]);
-        or_null(side, |(term, value)| {
-            Object(vec![
-                ("term", text(term)),
-                ("value", text(value.to_string())),
-            ])
-        })
-    };
-    let value = |(name, value): &(String, Value)| {
+    let valued = |key: &'static str, (name, value): &(String, Value)| {
+        let signed = whole(*value).filter(|_| judged.signed);
         Object(vec![
-            ("name", text(name)),
+            (key, text(name)),
             ("value", text(value.to_string())),
+            ("signed", signed.map_or(Null, Json::Signed)),
         ])
     };
+    let side = |index: usize| {
+        let side = judged.sides.as_ref().map(|sides| &sides[index]);
+        or_null(side, |side| valued("term", side))
+    };
+    let point = judged.point.iter().map(|one| valued("name", one));
     Object(vec![
         ("line", Number(judged.located.place.line as u64)),
         ("column", Number(judged.located.place.column as u64)),
         ("term", text(&judged.text)),
-        ("point", List(judged.point.iter().map(value).collect())),
+        ("point", List(point.collect())),
         ("left", side(0)),
         ("right", side(1)),
     ])
@@ -230,6 +231,7 @@ impl fmt::Display for Json {
         match self {
             Null => to.write_str("null"),
             Number(number) => write!(to, "{number}"),
+            Json::Signed(number) => write!(to, "{number}"),
             Json::Word(word) => write!(to, "\"{word}\""),
             Json::Text(text) => write_text(text, to),
             List(items) => {
@@ -280,12 +282,13 @@ mod tests {
         let object = Object(vec![
             ("none", Null),
             ("most", Number(u64::MAX)),
+            ("least", Json::Signed(i64::MIN)),
             (
                 "list",
                 List(vec![text("a\"b\\c\n\u{e9}"), List(Vec::new())]),
             ),
         ]);
-        let expected = "{\"none\":null,\"most\":18446744073709551615,\"list\":[\"a\\\"b\\\\c\\u000a\u{e9}\",[]]}";
+        let expected = "{\"none\":null,\"most\":18446744073709551615,\"least\":-9223372036854775808,\"list\":[\"a\\\"b\\\\c\\u000a\u{e9}\",[]]}";
         assert_eq!(object.to_string(), expected);
     }
 }

@@ -137,7 +137,8 @@ mod tests {
         let script = "(set-logic BV)(declare-var as Bool)(define-fun bvid ((x Bool)) Bool x)
             (synth-fun f ((x Bool)) Bool ((B Bool)) ((B Bool ((Variable Bool)))))
             (define-fun bv5 () (_ BitVec 8) (_ bv5 8))(constraint (= bv5 (_ bv5 8) #x05))
-            (constraint (= (f as) (bvid as)))(constraint (=> as (f as)))(check-synth)";
+            (constraint (= (f as) (bvid as)))(constraint (=> as (f as)))
+            (constraint (bvsle (bvsdiv bv5 #x80) (bvashr bv5 #x01)))(check-synth)";
         let script = simple::script::read(script.as_bytes()).expect("a sound script");
         let bodies = simple::response::read(b"((define-fun f ((x Bool)) Bool x))", &script);
         let question = question(&script, &bodies.expect("a sound response"));
@@ -152,7 +153,8 @@ mod tests {
                 "(assert (or",
                 "  (not (= |bv5 of the script| (_ bv5 8) #x05))",
                 "  (not (= (f |as of the script|) (|bvid of the script| |as of the script|)))",
-                "  (not (=> |as of the script| (f |as of the script|)))))",
+                "  (not (=> |as of the script| (f |as of the script|)))",
+                "  (not (bvsle (bvsdiv |bv5 of the script| #x80) (bvashr |bv5 of the script| #x01)))))",
                 "(check-sat)",
                 "(get-value (|as of the script|))",
             ]

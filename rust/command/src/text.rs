@@ -2,6 +2,7 @@
 
 use crate::answers::{counted, file, grouped, sentence, verdict};
 use crate::derivation::Step;
+use crate::evaluation::shown;
 use crate::facts::{Derived, Facts, Judged, Located, Note};
 use crate::place::place;
 use crate::refute::Claim;
@@ -146,11 +147,12 @@ fn write_judged(facts: &Facts, judged: &Judged, to: &mut impl Write) -> io::Resu
         writeln!(to, "at point {}, counted from 0:", answer.place)?;
     }
     for (name, value) in &judged.point {
-        writeln!(to, "  {name} = {value}")?;
+        writeln!(to, "  {name} = {}", shown(*value, judged.signed))?;
     }
-    if let Some([left, right]) = &judged.sides {
-        writeln!(to, "left side:\n  {} = {}", left.0, left.1)?;
-        writeln!(to, "right side:\n  {} = {}", right.0, right.1)?;
+    let names = ["left", "right"];
+    for (name, (side, value)) in names.iter().zip(judged.sides.iter().flatten()) {
+        let value = shown(*value, judged.signed);
+        writeln!(to, "{name} side:\n  {side} = {value}")?;
     }
     if answer.number == 15 {
         writeln!(to, "--budget gives a larger one")?;

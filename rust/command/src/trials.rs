@@ -230,4 +230,33 @@ mod tests {
             assert!(found(name, 32, 5, 0x1234_5678, false), "{name}");
         }
     }
+
+    /// Numbers of 32 bits that stand for large and for small whole numbers of either sign, the small ones last.
+    const WHOLE: [u64; 6] = [
+        0x7fff_ffff,
+        0x8000_0000,
+        0x1234_5678,
+        0xedcb_a988,
+        7,
+        0xffff_fff9,
+    ];
+
+    #[test]
+    fn operands_of_signed_operators_are_found() {
+        for name in [
+            "bvsdiv", "bvsrem", "bvsmod", "bvashr", "bvslt", "bvsle", "bvsgt", "bvsge", "bvule",
+            "bvugt", "bvuge",
+        ] {
+            for other in WHOLE {
+                for hidden in WHOLE {
+                    let first = found(name, 32, hidden, other, true);
+                    assert!(first, "first of {name} {hidden:#x} {other:#x}");
+                }
+                for hidden in &WHOLE[4..] {
+                    let second = found(name, 32, *hidden, other, false);
+                    assert!(second, "second of {name} {other:#x} {hidden:#x}");
+                }
+            }
+        }
+    }
 }

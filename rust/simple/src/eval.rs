@@ -4,6 +4,7 @@ use crate::constants::constant;
 use crate::grammar::Sorted;
 use crate::operators::Sort;
 use crate::script::{Constraint, Script};
+use crate::signed;
 use crate::terms::{extract_indices, operands};
 use crate::tree::Tree;
 use crate::words::Kind;
@@ -323,20 +324,37 @@ fn apply(operator: &str, operands: &[Value]) -> Value {
             bits: ones(*width) - bits,
         },
         ("bvneg", [Bits { width, bits }]) => modulo(*width, (1 << width) - u128::from(*bits)),
-        ("bvult", [Bits { bits: a, .. }, Bits { bits: b, .. }]) => Bool(a < b),
         ("concat", [Bits { width: m, bits: a }, Bits { width: n, bits: b }]) => {
             modulo(m + n, (u128::from(*a) << n) + u128::from(*b))
         }
-        (_, [Bits { width, bits: a }, Bits { bits: b, .. }]) => {
-            let result = arithmetic(operator, *width, u128::from(*a), u128::from(*b));
-            modulo(*width, result)
-        }
+        (_, [Bits { width, bits: a }, Bits { bits: b, .. }]) => on_words(operator, *width, *a, *b),
         _ => unreachable!("{operator} with its operands"),
     }
 }
 
-/// The result, not yet modulo 2^n, of an operator on two words of width n: "division by 0 gives all ones, remainder by 0
-/// the dividend; a shift by n or more gives 0".
+/// The value of an operator on two words of width n, of a signed one by the numbers that the words stand for.
+fn on_words(operator: &str, n: u32, a: u64, b: u64) -> Value {
+    let (signed_a, signed_b) = (signed::number(n, a), signed::number(n, b));
+    let whole = |result: i128| modulo(n, result.rem_euclid(1 << n) as u128);
+    match operator {
+        "bvult" => Value::Bool(a < b),
+        "bvule" => Value::Bool(a <= b),
+        "bvugt" => Value::Bool(a > b),
+        "bvuge" => Value::Bool(a >= b),
+        "bvslt" => Value::Bool(signed_a < signed_b),
+        "bvsle" => Value::Bool(signed_a <= signed_b),
+        "bvsgt" => Value::Bool(signed_a > signed_b),
+        "bvsge" => Value::Bool(signed_a >= signed_b),
+        "bvsdiv" => whole(signed::quotient(signed_a, signed_b)),
+        "bvsrem" => whole(signed::remainder(signed_a, signed_b)),
+        "bvsmod" => whole(signed::modulus(signed_a, signed_b)),
+        "bvashr" => whole(signed::halved(n, signed_a, b)),
+        _ => modulo(n, arithmetic(operator, n, u128::from(a), u128::from(b))),
+    }
+}
+
+/// The result, not yet modulo 2^n, of an unsigned operator on two words of width n: "division by 0 gives all ones,
+/// remainder by 0 the dividend; a shift by n or more gives 0".
 fn arithmetic(operator: &str, n: u32, a: u128, b: u128) -> u128 {
     match operator {
         "bvand" => a & b,

@@ -13,6 +13,7 @@ pub mod operators;
 pub mod replay;
 pub mod response;
 pub mod script;
+mod signed;
 pub mod terms;
 pub mod tree;
 pub mod words;

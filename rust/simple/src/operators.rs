@@ -78,8 +78,9 @@ const fn core(name: &'static str, rule: SortRule) -> Operator {
 }
 
 /// "Operators, two operands each unless said"; "`and or xor` group from the left, `=>` from the right, `=` chains, `distinct`
-/// is pairwise, each with two or more operands".
-pub const OPERATORS: [Operator; 23] = [
+/// is pairwise, each with two or more operands"; "Add `bvsdiv bvsrem bvsmod bvashr bvslt bvsle bvsgt bvsge` and the unsigned
+/// `bvule bvugt bvuge`".
+pub const OPERATORS: [Operator; 34] = [
     row("not", 1, SortRule::Bools),
     core("and", SortRule::Bools),
     core("or", SortRule::Bools),
@@ -103,6 +104,17 @@ pub const OPERATORS: [Operator; 23] = [
     row("bvult", 2, SortRule::Order),
     row("concat", 2, SortRule::Joined),
     row("extract", 1, SortRule::Part),
+    row("bvsdiv", 2, SortRule::Bits),
+    row("bvsrem", 2, SortRule::Bits),
+    row("bvsmod", 2, SortRule::Bits),
+    row("bvashr", 2, SortRule::Bits),
+    row("bvslt", 2, SortRule::Order),
+    row("bvsle", 2, SortRule::Order),
+    row("bvsgt", 2, SortRule::Order),
+    row("bvsge", 2, SortRule::Order),
+    row("bvule", 2, SortRule::Order),
+    row("bvugt", 2, SortRule::Order),
+    row("bvuge", 2, SortRule::Order),
 ];
 
 /// The row of a name.

@@ -1,6 +1,7 @@
 -- The codes of the words that the reader tells apart, each by the word that it stands for (`proofs/WordCodes: codes-are`).
 use Prim.Native.Nat.{ℕ, _+_, _-_}
 use Rattle.operators.specs.Operators.{operatorCount}
+use Rattle.operators.specs.code.Operators.{extractNumber}
 
 -- The code of the first of them.
 abbrev pub firstCode : ℕ
@@ -118,6 +119,6 @@ decimalCode = otherCode + 1
 abbrev pub longDecimalCode : ℕ
 longDecimalCode = decimalCode + 1
 
--- `extract`, the last operator
+-- `extract`
 abbrev pub extractCode : ℕ
-extractCode = otherCode - 1
+extractCode = firstOperatorCode + extractNumber

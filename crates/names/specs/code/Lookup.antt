@@ -8,6 +8,7 @@ use lib.ListN.{getD, length}
 use Rattle.forest.specs.Limits.{mostDefined, mostFunctions, mostNonTerminals}
 use Rattle.word_kinds.specs.Limits.{numeralDigits}
 use Rattle.operators.specs.Operators.{operatorCount}
+use Rattle.operators.specs.code.Operators.{extractNumber}
 use Rattle.operators.specs.Sorts.{Fit}
 use Rattle.lexemes.specs.Reserved.{isWord}
 use Rattle.terms.specs.code.Codes.{codeWith, operatorKind}
@@ -81,6 +82,6 @@ Headed (pattern at c s held) = Unit {0}
 abbrev pub nothingCode : ℕ
 nothingCode = codeWith operatorKind operatorCount
 
--- The code of `(_ extract i j)`: the last operator.
+-- The code of `(_ extract i j)`.
 abbrev pub cutCode : ℕ
-cutCode = codeWith operatorKind (operatorCount - 1)
+cutCode = codeWith operatorKind extractNumber

@@ -1,7 +1,7 @@
 -- What the functions of the operator table ask and give.
-use Prim.Native.Nat.{ℕ}
+use Prim.Native.Nat.{ℕ, _<_}
 use mathlib.Core.Bool.{cond, false}
-use mathlib.Core.List.{List}
+use mathlib.Core.List.{List, [], _∷_}
 use mathlib.Core.Option.{some}
 use mathlib.Core.Path.{_≡_}
 use lib.Dec.{eqb}
@@ -9,6 +9,7 @@ use lib.ListN.{getD}
 use Rattle.operators.specs.Operators.{operatorAt, operatorSort, operatorValue}
 use Rattle.operators.specs.Sorts.{AllFit}
 use Rattle.operators.specs.Values.{andValue, orValue, xorValue}
+use Rattle.operators.specs.code.Vectors.{Words}
 
 -- The number of `and`.
 abbrev pub andNumber : ℕ
@@ -17,6 +18,10 @@ andNumber = 1
 -- The number of `or`.
 abbrev pub orNumber : ℕ
 orNumber = 2
+
+-- The number of `extract`.
+abbrev pub extractNumber : ℕ
+extractNumber = 22
 
 -- `and`, `or` and, by any other number, `xor` of two operands.
 abbrev pub pairValue : (operator a b : ℕ) → ℕ
@@ -54,6 +59,15 @@ pub record FixedOperable (operator high low widthOne widthTwo one two three : �
 abbrev pub FixedApplied : (operator high low widthOne widthTwo one two three r : ℕ) → Type 0
 FixedApplied operator high low widthOne widthTwo one two three r =
     (e : FixedOperable operator high low widthOne widthTwo one two three) → r ≡ operatorValue operator high low (e .sorts) (e .values)
+
+-- An operator behind `extract`, and two words of a width.
+pub record LaterOperable (operator width one two : ℕ) : Type 0 where
+  pub later : extractNumber < operator
+  pub words : Words width one two
+
+-- The value that the operator gives them.
+abbrev pub LaterApplied : (operator width one two r : ℕ) → Type 0
+LaterApplied operator width one two r = r ≡ operatorValue operator 0 0 (width ∷ []) (one ∷ two ∷ [])
 
 -- Operands that an operator takes, with the numbers of an `extract`: of the first two the sorts. What is not there is 0.
 pub record Sortable (operator high low sortOne sortTwo : ℕ) : Type 0 where

@@ -1,6 +1,12 @@
 -- What the functions on words of bits ask.
 use Prim.Native.Nat.{ℕ, _+_, _<_, _≤_, _^_}
+use mathlib.Core.Bool.{Bool, cond, not}
 use Rattle.operators.specs.Sorts.{maxWidth}
+use Rattle.operators.specs.Values.{negative}
+
+-- Whether the highest bits of a and b, of width n, differ.
+abbrev pub signsDiffer : (n a b : ℕ) → Bool
+signsDiffer n a b = cond (negative n a) (not (negative n b)) (negative n b)
 
 -- A width.
 pub record Width (n : ℕ) : Type 0 where

@@ -5,10 +5,10 @@ use Rattle.test_operators.proofs.edges.Statement.{statement}
 use Rattle.test_operators.proofs.edges.Tie as tie
 
 abbrev Inv-loop : tie.InvT-loop
-Inv-loop operator width hash₀ k₀ hash k = k ≤ 16
+Inv-loop operator width hash₀ k₀ hash k = k ≤ 36
 
 abbrev μ-loop : tie.MeasureT-loop
-μ-loop operator width hash₀ k₀ hash k = 16 - k
+μ-loop operator width hash₀ k₀ hash k = 36 - k
 
 loop-holds : tie.Need-loop-holds Inv-loop μ-loop
 loop-holds c = omega arith

@@ -19,6 +19,9 @@ loop-holds c = search needs
 edges-requires : tie.Need-edges-requires Inv-loop μ-loop
 edges-requires c κs = search needs
 
+small-requires : tie.Need-small-requires Inv-loop μ-loop
+small-requires c κs = search needs
+
 pairs-requires : tie.Need-pairs-requires Inv-loop μ-loop
 pairs-requires c κs = search needs
 
@@ -55,6 +58,7 @@ line-spec =
     print-decimal-requires
     loop-holds
     edges-requires
+    small-requires
     pairs-requires
     print-hash-requires
     add-operator

@@ -11,9 +11,7 @@ use simple::tree::Tree;
 use simple::words::is_numeral;
 
 /// Operators of SMT-LIB on bit vectors that are not carried.
-const NOT_CARRIED: [&str; 15] = [
-    "bvule", "bvugt", "bvuge", "bvslt", "bvsle", "bvsgt", "bvsge", "bvnand", "bvnor", "bvxnor", "bvcomp", "bvsdiv", "bvsrem", "bvsmod", "bvashr",
-];
+const NOT_CARRIED: [&str; 4] = ["bvnand", "bvnor", "bvxnor", "bvcomp"];
 
 /// Which of the three it is.
 pub fn cause(reading: &Reading) -> Option<Cause> {

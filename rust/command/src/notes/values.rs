@@ -1,7 +1,7 @@
 //! Answer 14: the values of the left sides of `=>` and of every application of a synthesized function.
 
 use super::Hint;
-use crate::evaluation::{differing, value};
+use crate::evaluation::{differing, is_signed, shown, value};
 use crate::guards::sides;
 use crate::run::Given;
 use simple::tree::Tree;
@@ -17,10 +17,11 @@ pub fn hints(given: &Given, constraint: usize, point: &[u64]) -> Vec<Hint> {
     let said = differing(&given.read, &given.bodies, &constraint.term, point);
     let said = said.map(|sides| sides.map(|(side, _)| side.start()));
     terms.retain(|term| !said.is_some_and(|said| said.contains(&term.start())));
+    let signed = is_signed(&constraint.term);
     let mut hints: Vec<Hint> = Vec::new();
     for term in terms {
         let value = value(&given.read, &given.bodies, term, point);
-        let hint = value.map(|value| Hint::general(format!("{term} = {value}")));
+        let hint = value.map(|value| Hint::general(format!("{term} = {}", shown(value, signed))));
         hints.extend(hint.filter(|hint| !hints.contains(hint)));
     }
     hints

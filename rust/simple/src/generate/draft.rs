@@ -1,14 +1,17 @@
 //! A random sound script with grammars, and a response derived from them, as lists of words.
 
 use super::random::Random;
+use crate::eval::{operator_value, Value};
 use crate::operators::{operator, Operator, Sort, SortRule, OPERATORS};
 use crate::terms::{is_reserved, Name};
+use crate::tree::Tree;
+use crate::words::{Kind, Word};
 
 /// Names to take new ones from; few, so that commands often share them.
-const NAMES: [&str; 30] = [
+const NAMES: [&str; 31] = [
     "x", "y", "z", "a", "b", "c", "A", "B", "C", "Start", "BV32", "f", "g", "h", "d0", "d1", "x.1",
-    "@k", "~", "as", "fail", "bvsle", "<=", "Int", "a/b?!$", "*_-+&^%>", "bv", "bv1", "bv5",
-    "bv05",
+    "@k", "~", "as", "fail", "bvsl", "bvnand", "<=", "Int", "a/b?!$", "*_-+&^%>", "bv", "bv1",
+    "bv5", "bv05",
 ];
 /// The most nodes of a term.
 const MOST_NODES: usize = 256;
@@ -86,13 +89,18 @@ impl Shape {
         }
     }
 
-    /// A random literal of a sort.
-    fn literal(random: &mut Random, sort: Sort) -> Shape {
-        let value = value(random, sort);
+    /// The literal of a sort that a number stands for.
+    fn literal_of(random: &mut Random, sort: Sort, value: u64) -> Shape {
         match sort {
             Sort::Bool => Shape::leaf(truth(value), sort),
             Sort::BitVec(width) => Shape::bits(random, width, value),
         }
+    }
+
+    /// A random literal of a sort.
+    fn literal(random: &mut Random, sort: Sort) -> Shape {
+        let value = value(random, sort);
+        Shape::literal_of(random, sort, value)
     }
 
     /// The literal of bits that it is, spelt anew.
@@ -215,19 +223,23 @@ pub fn spelt(random: &mut Random, width: u32, value: u64) -> Vec<String> {
     })
 }
 
-/// A random number of a sort, often at an end or about the width.
+/// A random number of a sort, often at an end, signed or not, about 0 or about the width.
 pub fn value(random: &mut Random, sort: Sort) -> u64 {
     let width = match sort {
         Sort::Bool => 1,
         Sort::BitVec(width) => width,
     };
     let most = u64::MAX >> (64 - width);
-    match random.below(6) {
+    let highest_bit = 1 << (width - 1);
+    match random.below(10) {
         0 => 0,
         1 => 1,
-        2 => most,
-        3 => (random.between(0, 2) as u64 + u64::from(width) - 1) & most,
-        4 => random.number() & most & 15,
+        2 | 3 => most,
+        4 => highest_bit,
+        5 => highest_bit - 1,
+        6 => (random.between(0, 2) as u64 + u64::from(width) - 1) & most,
+        7 => random.number() & most & 15,
+        8 => most - (random.number() & most & 15),
         _ => random.number() & most,
     }
 }
@@ -496,13 +508,14 @@ impl Maker<'_> {
         }
     }
 
-    /// Any rule of a sort: a chain, `(Constant σ)`, `(Variable σ)`, an operator of Core on non-terminals or a term.
+    /// Any rule of a sort: a chain, `(Constant σ)`, `(Variable σ)`, an operator of Core or an order on non-terminals, or a term.
     fn rule(&mut self, sort: Sort, seen: &[Name], nonterminals: &[Name]) -> Rule {
-        match self.random.below(12) {
+        match self.random.below(13) {
             0 | 1 => Rule::Constant(sort),
             2 | 3 => Rule::Variable(sort),
             4 | 5 => Rule::Term(self.leaf(sort, nonterminals)),
             6..=8 if sort == Sort::Bool => Rule::Term(self.core_term(nonterminals)),
+            9 | 10 if sort == Sort::Bool => Rule::Term(self.order_term(nonterminals)),
             _ => {
                 let size = self.random.between(2, 6);
                 Rule::Term(self.bounded_term(sort, seen, size))
@@ -527,6 +540,21 @@ impl Maker<'_> {
             false => self.leaf(sort, nonterminals),
         };
         Shape::apply_bool(head, (0..count).map(operand).collect())
+    }
+
+    /// An order on two non-terminals, or on literals where no non-terminal has bits.
+    fn order_term(&mut self, nonterminals: &[Name]) -> Shape {
+        let orders = OPERATORS.iter().filter(|one| one.rule == SortRule::Order);
+        let orders: Vec<&Operator> = orders.collect();
+        let name = self.random.pick(&orders).name;
+        let mut sorts: Vec<Sort> = nonterminals.iter().map(|one| one.sort).collect();
+        sorts.retain(|&sort| sort != Sort::Bool);
+        let sort = match sorts.is_empty() {
+            true => Sort::BitVec(8),
+            false => self.random.pick(&sorts),
+        };
+        let operands = [sort; 2].map(|sort| self.leaf(sort, nonterminals));
+        Shape::apply_bool(name, operands.to_vec())
     }
 
     /// A body derived at random from the start, small enough for the limits.
@@ -667,14 +695,15 @@ impl Maker<'_> {
         }
     }
 
-    /// `(constraint t)`: by a function's own body, true by its form, or any.
+    /// `(constraint t)`: by a function's own body, true by its form or by what operators mean, or any.
     fn constraint(&mut self) {
         let mut seen = [&self.variables[..], &self.variables, &self.definitions].concat();
         seen.extend(self.functions.iter().map(|one| one.name.clone()));
-        let term = match self.random.below(8) {
+        let term = match self.random.below(9) {
             0 => self.term(Sort::Bool, &seen, 8),
             1..=3 => self.bit(&seen),
             4..=6 if !self.functions.is_empty() => self.equation(&seen),
+            7 => self.operator_values(),
             _ => self.tautology(&seen),
         };
         if term.nodes() <= 255 {
@@ -715,6 +744,41 @@ impl Maker<'_> {
         let bit = Sort::BitVec(1);
         let part = Shape::apply(&format!("( _ extract {at} {at} )"), vec![term], bit);
         Shape::apply_bool("=", vec![part, Shape::bits(self.random, 1, 1)])
+    }
+
+    /// That some operators on literals have their values, in all bits; of one of them at times the contrary.
+    fn operator_values(&mut self) -> Shape {
+        let count = self.random.between(2, 12);
+        let equations = (0..count).map(|_| self.operator_equation());
+        let mut equations: Vec<Shape> = equations.collect();
+        if self.random.percent(40) {
+            equations[self.random.below(count)].head = words("distinct");
+        }
+        Shape::apply_bool("and", equations)
+    }
+
+    /// `(= (o a b) c)` for an operator on two words of one width, c being its value; a and b are at times the least number and -1,
+    /// whose quotient is no number of that width.
+    fn operator_equation(&mut self) -> Shape {
+        let rows = OPERATORS.iter().filter(|row| {
+            row.operands == 2 && matches!(row.rule, SortRule::Bits | SortRule::Order)
+        });
+        let rows: Vec<&Operator> = rows.collect();
+        let name = self.random.pick(&rows).name;
+        let width = match self.random.percent(20) {
+            true => self.random.between(1, 64) as u32,
+            false => self.random.pick(&[1, 2, 3, 4, 8, 63, 64, 64]),
+        };
+        let sort = Sort::BitVec(width);
+        let operands = match self.random.percent(10) {
+            true => [1 << (width - 1), sort.greatest()],
+            false => [value(self.random, sort), value(self.random, sort)],
+        };
+        let result = operator_value(&symbol(name), &operands.map(|one| Value::new(sort, one)));
+        let operands = operands.map(|one| Shape::literal_of(self.random, sort, one));
+        let term = Shape::apply(name, operands.to_vec(), result.sort());
+        let literal = Shape::literal_of(self.random, result.sort(), result.number());
+        Shape::apply_bool("=", vec![term, literal])
     }
 
     /// A constraint that is true by its form.
@@ -819,10 +883,13 @@ impl Maker<'_> {
         }
     }
 
-    /// An operator that gives a sort, as its words and the sorts of its operands.
+    /// An operator that gives a sort, as its words and the sorts of its operands; as there are many orders, each comes half as often.
     fn operator(&mut self, sort: Sort) -> (String, Vec<Sort>) {
         loop {
             let operator = &OPERATORS[self.random.below(OPERATORS.len())];
+            if operator.rule == SortRule::Order && self.random.percent(50) {
+                continue;
+            }
             let count = self.operand_count(operator);
             let alike = vec![sort; count];
             let other = self.sort();
@@ -858,6 +925,15 @@ impl Maker<'_> {
         }
         points
     }
+}
+
+/// A symbol as a tree.
+fn symbol(text: &str) -> Tree {
+    Tree::Leaf(Word {
+        start: 0,
+        text: text.to_string(),
+        kind: Kind::Symbol,
+    })
 }
 
 /// Whether a rule has a non-terminal in it.

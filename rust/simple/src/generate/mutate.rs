@@ -6,6 +6,7 @@ use super::random::Random;
 use crate::eval::{literal_value, Value};
 use crate::operators::{operator, Sort, OPERATORS};
 use crate::terms::{CARRIED_COMMANDS, OTHER_COMMANDS, OTHER_RESERVED};
+use std::collections::BTreeSet;
 use std::ops::Range;
 
 /// Words that tend to break a rule wherever they stand.
@@ -13,10 +14,10 @@ const WORDS: &str = "( ) 0 1 8 64 65 999999999 1000000000 00 07 #x #b2 #xG #xAB 
     #x00000000000000000 true false Bool BitVec _ ! let exists forall Constant Variable extract
     and not ite bvadd concat bvult = set-logic check-synth assume define-fun synth-fun declare-var
     constraint define-fun-rec BV LIA Int x y A B f nosuch \"s |q| :k a'b é -5 or xor => distinct
-    bv bv0 bv5 bv05 bv256 bv111111111111111111111";
+    bv bv0 bv5 bv05 bv256 bv111111111111111111111 bvsl bvslte bvnand";
 
 /// Trees that tend to break a rule wherever they stand.
-const TREES: [&str; 32] = [
+const TREES: [&str; 38] = [
     "( )",
     "( true )",
     "( x )",
@@ -49,6 +50,12 @@ const TREES: [&str; 32] = [
     "( = #x00 #x00 #x0 )",
     "( distinct true true 5 )",
     "( bv5 true )",
+    "( bvsdiv #x00 #x0 )",
+    "( bvsrem #x00 )",
+    "( bvslt #x00 #x00 #x00 )",
+    "( bvsge true true )",
+    "( bvashr )",
+    "( bvnand #x00 #x00 )",
 ];
 
 /// Lists that are nearly a constant `(_ bvN n)`, and such a constant where it may not stand.
@@ -99,19 +106,39 @@ const RESPONSES: [&str; 6] = [
 
 /// One of the words that tend to break a rule.
 pub fn odd_word(random: &mut Random) -> String {
-    match random.percent(10) {
-        true => random.pick(&OTHER_COMMANDS).to_string(),
-        false => random.pick(&words(WORDS)),
+    match random.below(10) {
+        0 => random.pick(&OTHER_COMMANDS).to_string(),
+        1 => operator_name(random),
+        _ => random.pick(&words(WORDS)),
     }
+}
+
+/// The name of one of the operators.
+fn operator_name(random: &mut Random) -> String {
+    OPERATORS[random.below(OPERATORS.len())].name.to_string()
 }
 
 /// A tree that tends to break a rule, or one at random.
 fn odd_tree(random: &mut Random) -> Vec<String> {
-    match random.below(20) {
+    match random.below(24) {
         0..=10 => words(random.pick(&TREES)),
         11..=15 => odd_constant(random),
+        16..=19 => odd_application(random),
         _ => words(&tree(random, 3)),
     }
+}
+
+/// An operator on one to three literals, mostly of one sort, which it may take or not.
+fn odd_application(random: &mut Random) -> Vec<String> {
+    let sorts = [1, 8, 64].map(Sort::BitVec);
+    let (name, sort) = (operator_name(random), random.pick(&sorts));
+    let mut application = vec!["(".to_string(), name];
+    for _ in 0..random.pick(&[1, 2, 2, 3]) {
+        let other = random.pick(&[sort, sort, sort, sort, Sort::Bool, Sort::BitVec(8)]);
+        application.extend(literal(random, other));
+    }
+    application.extend(words(")"));
+    application
 }
 
 /// A constant about its bounds, or nearly one.
@@ -139,7 +166,7 @@ fn reserved_word(random: &mut Random) -> String {
 
 /// Changes a draft in one place.
 pub fn mutate(random: &mut Random, draft: &mut Draft) {
-    match random.below(28) {
+    match random.below(32) {
         0 | 1 => mutate_points(random, &mut draft.points),
         2 => draft.response = words(random.pick(&RESPONSES)),
         3 => mutate_operator(random, &mut draft.response),
@@ -149,6 +176,7 @@ pub fn mutate(random: &mut Random, draft: &mut Draft) {
         8..=12 => mutate_words(random, &mut draft.response),
         13 | 14 => regroup(random, &mut draft.response),
         15 | 16 => mutate_literal(random, &mut draft.script),
+        17..=20 => mutate_operands(random, &mut draft.script),
         _ => mutate_words(random, &mut draft.script),
     }
 }
@@ -232,7 +260,7 @@ fn mutate_words(random: &mut Random, words: &mut Vec<String>) {
     if words.is_empty() {
         return;
     }
-    match random.below(17) {
+    match random.below(19) {
         0 => mutate_one_word(random, words),
         1 => mutate_command(random, words),
         2 => mutate_sort(random, words),
@@ -245,13 +273,14 @@ fn mutate_words(random: &mut Random, words: &mut Vec<String>) {
         10..=12 => mutate_term(random, words),
         13 => mutate_numeral(random, words),
         14 => regroup(random, words),
+        15 | 16 => mutate_operands(random, words),
         _ => mutate_tree(random, words),
     }
 }
 
-/// Changes a sort, a literal, a name, an operator, a count or a grammar.
+/// Changes a sort, a literal, a name, an operator, its operands, a count or a grammar.
 fn mutate_within_shape(random: &mut Random, words: &mut Vec<String>) {
-    match random.below(16) {
+    match random.below(18) {
         0..=2 => mutate_sort(random, words),
         3 => mutate_literal(random, words),
         4 | 5 => mutate_name(random, words),
@@ -261,6 +290,7 @@ fn mutate_within_shape(random: &mut Random, words: &mut Vec<String>) {
         10 => mutate_term(random, words),
         11 => mutate_numeral(random, words),
         12 => regroup(random, words),
+        13 | 14 => mutate_operands(random, words),
         _ => mutate_grammar(random, words),
     }
 }
@@ -468,6 +498,35 @@ fn regroup(random: &mut Random, list: &mut Vec<String>) {
             list.drain(group.start..group.start + 2);
         }
         _ => insert(list, operands[at].end, list[operands[at].clone()].to_vec()),
+    }
+}
+
+/// Takes an operand from an operator, doubles one, puts literals of a sort in the place of one or of all, or leaves the name alone;
+/// each operator of the text has the same chance.
+fn mutate_operands(random: &mut Random, list: &mut Vec<String>) {
+    let mut places = trees(list);
+    places.retain(|tree| tree.len() > 3 && operator(&list[tree.start + 1]).is_some());
+    let names = places.iter().map(|tree| list[tree.start + 1].clone());
+    let names: BTreeSet<String> = names.collect();
+    if names.is_empty() {
+        return;
+    }
+    let name = random.pick(&Vec::from_iter(names));
+    places.retain(|tree| list[tree.start + 1] == name);
+    let place = random.pick(&places);
+    let operands = items(list, &place).split_off(1);
+    let operand = random.pick(&operands);
+    let sort = random.pick(&[Sort::Bool, Sort::Bool, Sort::BitVec(8), Sort::BitVec(7)]);
+    match random.below(8) {
+        0 => drop(list.drain(operand)),
+        1 | 2 => insert(list, operand.end, list[operand.clone()].to_vec()),
+        3 | 4 => replace(list, operand, literal(random, sort)),
+        5 => replace(list, place, vec![name]),
+        _ => {
+            for operand in operands.into_iter().rev() {
+                replace(list, operand, literal(random, sort));
+            }
+        }
     }
 }
 

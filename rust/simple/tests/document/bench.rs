@@ -1,6 +1,6 @@
 //! "Settled on the bench" and "Slips we expect".
 
-use crate::{answer, answer_and_area, conjunction, last, script_with, shown, TRUE};
+use crate::{answer, answer_and_area, conjunction, holds, last, script_with, shown, TRUE};
 
 /// The swap case, after document 000 example 3.
 const SWAP: &str = "(set-logic BV)
@@ -158,16 +158,6 @@ fn further_values_hold() {
         ("(ite false #x01 #x02)", "#x02"),
     ];
     holds(&table);
-}
-
-/// Holds each term of a table to its value: the equation is true, and distinct from it is false.
-fn holds(table: &[(&str, &str)]) {
-    for (term, value) in table {
-        let equal = script_with(&format!("(constraint (= {term} {value}))"));
-        assert_eq!(answer(&equal, TRUE, &[], 99).0, 0, "{term}");
-        let distinct = script_with(&format!("(constraint (distinct {term} {value}))"));
-        assert_eq!(answer(&distinct, TRUE, &[], 99).0, 14, "{term}");
-    }
 }
 
 #[test]

@@ -1,16 +1,23 @@
 //! The random cases: the same for the same seed, sound ones sound, and every answer reached by mutations.
 
 use simple::generate::{crowded, mutated, noise, sized, valid, Case};
-use simple::{check, replay, AREA_LENGTH};
+use simple::operators::{operator, OPERATORS};
+use simple::{check, replay, words, Answer, AREA_LENGTH};
+use std::collections::HashSet;
 
-/// The number of a case's answer, the area being judged as well.
-fn number(case: &Case) -> u8 {
+/// The answer of a case, the area being judged as well.
+fn answer(case: &Case) -> Answer {
     let mut area = vec![7; AREA_LENGTH];
     let (script, response) = (&case.script, &case.response);
     let answer = check(script, response, &case.points, case.budget, &mut area);
     let fault = replay::area_fault(script, response, answer.number, &area);
     assert_eq!(fault, None);
-    answer.number
+    answer
+}
+
+/// The number of a case's answer.
+fn number(case: &Case) -> u8 {
+    answer(case).number
 }
 
 #[test]
@@ -52,4 +59,57 @@ fn mutations_reach_every_answer() {
         counts[usize::from(number(&mutated(seed)))] += 1;
     }
     assert!(counts.iter().all(|&count| count > 0), "{counts:?}");
+}
+
+/// The operator whose name a word is.
+fn operator_name(word: &[u8]) -> Option<&'static str> {
+    let word = std::str::from_utf8(word).ok()?;
+    operator(word).map(|one| one.name)
+}
+
+/// The operator whose name stands at a place.
+fn operator_at(text: &[u8], at: usize) -> Option<&'static str> {
+    operator_name(text.get(at..at + simple::word(text, at))?)
+}
+
+/// The operators that a text names.
+fn named(text: &[u8]) -> HashSet<&'static str> {
+    let words = words::cut(text).into_iter();
+    words
+        .filter_map(|word| operator_name(&text[word]))
+        .collect()
+}
+
+#[test]
+fn scripts_and_responses_use_every_operator() {
+    let cases: Vec<Case> = (0..1_000).map(valid).collect();
+    let texts: [fn(&Case) -> &Vec<u8>; 2] = [|case| &case.script, |case| &case.response];
+    for text in texts {
+        let used: HashSet<&str> = cases.iter().flat_map(|case| named(text(case))).collect();
+        let missing = OPERATORS.iter().filter(|one| !used.contains(one.name));
+        let missing: Vec<&str> = missing.map(|one| one.name).collect();
+        assert_eq!(missing, [""; 0]);
+    }
+}
+
+#[test]
+fn mutations_misuse_operators() {
+    let [mut as_name, mut as_leaf, mut with_operands] = [(); 3].map(|_| HashSet::new());
+    for seed in 0..2_000 {
+        let case = mutated(seed);
+        let (answer, texts) = (answer(&case), [&case.script, &case.response]);
+        let Some(text) = texts.get(usize::from(answer.text)) else {
+            continue;
+        };
+        let place = answer.place as usize;
+        let (own, next) = (operator_at(text, place), operator_at(text, place + 1));
+        match (answer.number, own, next) {
+            (7, Some(name), _) => as_name.insert(name),
+            (8, Some(name), _) => as_leaf.insert(name),
+            (8, None, Some(name)) => with_operands.insert(name),
+            _ => false,
+        };
+    }
+    let counts = [as_name, as_leaf, with_operands].map(|names| names.len());
+    assert!(counts.iter().all(|&count| count > 10), "{counts:?}");
 }

@@ -1,4 +1,4 @@
-//! Document 01 run: the readings, the vectors, the bench, constants, every limit and every row of the table of answers.
+//! Document 01 run: the readings, the vectors, the bench, constants, signed operators, every limit and every row of the table of answers.
 
 mod answers;
 mod bench;
@@ -8,6 +8,8 @@ mod generated;
 mod judge;
 mod limits;
 mod readings;
+mod reserved;
+mod signed;
 mod vectors;
 mod words;
 
@@ -64,6 +66,16 @@ fn script_with(commands: &str) -> String {
 
 /// The response to such a script.
 const TRUE: &str = "((define-fun f () Bool true))";
+
+/// Holds each term of a table to its value: the equation is true, and distinct from it is false.
+fn holds(table: &[(&str, &str)]) {
+    for (term, value) in table {
+        let equal = script_with(&format!("(constraint (= {term} {value}))"));
+        assert_eq!(answer(&equal, TRUE, &[], 99).0, 0, "{term}");
+        let distinct = script_with(&format!("(constraint (distinct {term} {value}))"));
+        assert_eq!(answer(&distinct, TRUE, &[], 99).0, 14, "{term}");
+    }
+}
 
 /// The place of the last occurrence of a part.
 fn last(text: &str, part: &str) -> usize {

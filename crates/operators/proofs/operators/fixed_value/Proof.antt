@@ -1,7 +1,7 @@
 use mathlib.Core.Path.{refl}
 use borrow.Author.Needs.{needs}
 use Rattle.operators.specs.Operators.{operatorAt, operators}
-use Rattle.operators.proofs.Applying.{a-cut, a-pair, a-width, a-word, fixed-applied, fixed-past, fixed-rest, two-words}
+use Rattle.operators.proofs.Applying.{a-cut, a-pair, a-width, a-word, fixed-applied, later-gives, later-operable, two-words}
 use Rattle.operators.proofs.operators.fixed_value.Statement.{statement}
 use Rattle.operators.proofs.operators.fixed_value.Tie as tie
 
@@ -65,6 +65,9 @@ concat-requires c κs = search a-pair
 extract-requires : tie.Need-extract-requires
 unfolding operatorAt operators
 extract-requires c κs = a-cut (c .match .keys17) (c .before .pre) refl
+
+later-value-requires : tie.Need-later-value-requires
+later-value-requires c κs = later-operable (c .match .rest) (c .before .pre)
 
 returns : tie.Need-returns
 unfolding operatorAt operators
@@ -135,7 +138,7 @@ unfolding operatorAt operators
 returns-17 c = search fixed-applied
 
 returns-18 : tie.Need-returns-18
-returns-18 c = λ e. fixed-past (fixed-rest (e .fixed) (c .match .rest)) e
+returns-18 c = λ e. later-gives (c .before .match .rest) e (c .later-value .ensures)
 
 pub fixed-value-spec : {M : Type 1} → statement M
 fixed-value-spec =
@@ -158,6 +161,7 @@ fixed-value-spec =
     bvult-requires
     concat-requires
     extract-requires
+    later-value-requires
     returns
     returns-2
     returns-3
