@@ -4,7 +4,8 @@
 It takes the readings of readings.jsonl, texts of its own whose words decide, and the cases of cases.py, operands.py, constants.py, signed.py and limits.py, and writes
 crates/test_vectors/stdin and crates/test_vectors/stdout; with --check it only says whether these two files are what it would write, and replays every list of
 rules in them (derivations.py). What the words of a text are is said by words.py, which is held to each reading whose answer arises from words. The checker's
-answer is that of the reading, or is known from how a text is made; the list shown is the one derivation that there is.
+answer is that of the reading, or is known from how a text is made; the list shown is the one derivation that there is. The last records are names that are nearly
+known words (nearly.py).
 """
 import json
 import os
@@ -16,6 +17,7 @@ import words
 from cases import AREA, Case, all_cases
 from constants import all_constants
 from limits import all_limits
+from nearly import all_nearly
 from operands import all_operands
 from signed import all_signed
 from words import RESPONSE, SCRIPT
@@ -229,6 +231,7 @@ def records():
     yield from all_constants()
     yield from all_signed()
     yield from all_limits()
+    yield from all_nearly()
 
 
 # What is to be written of them

@@ -1,19 +1,28 @@
--- Laws of the search: two lists of bytes read side by side, and one word tried after the other.
-use Prim.Native.Nat.{ℕ, zero, suc, _+_, _-_, _≤_, _<_}
-use native.Mathlib.Nat.{add-assoc, add-zero, suc-add}
+-- Laws of the search: two lists of bytes read side by side, and the slot of a word.
+use Prim.Native.Nat.{ℕ, zero, suc, _+_, _*_, _-_, _%_, _≤_, _<_}
+use native.Mathlib.Nat.{add-assoc, add-zero, mod-lt, suc-add}
 use native.Mathlib.Numerals.{add-one}
 use native.Mathlib.Omega.{arith}
-use mathlib.Core.Path.{_≡_, refl, ap}
+use mathlib.Core.Path.{_≡_, refl, sym, ap, ap₂, subst, _∙_}
 use mathlib.Core.Bool.{Bool, true, false, cond, and-false, _&&_}
 use mathlib.Core.List.{List, [], _∷_, _++_, append-assoc}
-use lib.Dec.{eqb, ltb}
+use lib.Dec.{T, eqb, lit<, ltb}
 use lib.ListN.{drop, getD, length, take, drop-of-length-le, length-append}
 use lib.Seq.{drop-append-seam, take-append-seam}
-use borrow.Author.Tests.{eq-eqb, le-ltb, lt-ltb, ne-eqb}
+use borrow.Author.Tests.{eq-eqb, eqb-true, le-ltb, lt-ltb, ne-eqb}
 use Rattle.forest.specs.Lists.{sameBytes}
+use Rattle.forest.proofs.Bools.{and-left, and-right, apart, each, every}
 use Rattle.forest.proofs.Lists.{drop-next}
 use Rattle.forest.specs.Search.{placeIn}
-use Rattle.forest.specs.code.Search.{Rising, wordsIn}
+use Rattle.forest.specs.code.Search.{Rising, Slotted, slotCount, slotFrom, slotOf, wordsIn}
+
+-- lists of bytes that are the same are equal
+pub same-bytes : (u v : List ℕ) → sameBytes u v ≡ true → u ≡ v
+unfolding sameBytes
+same-bytes [] [] e = refl
+same-bytes [] (b ∷ v) e = apart e
+same-bytes (a ∷ u) [] e = apart e
+same-bytes (a ∷ u) (b ∷ v) e = ap₂ _∷_ (eqb-true a b (and-left (eqb a b) (sameBytes u v) e)) (same-bytes u v (and-right (eqb a b) _ e))
 
 -- lists of two lengths differ
 pub lengths-differ : (left right : List ℕ) → (length left ≡ length right → ⊥) → false ≡ sameBytes left right
@@ -65,47 +74,107 @@ length-words names [] = refl
 length-words names (start ∷ []) = refl
 length-words names (start ∷ end ∷ more) = omega (arith, length-words names (end ∷ more))
 
--- the words from word k on
-pub words-from : (names starts : List ℕ) (k : ℕ) → k < length starts - 1
-    → drop k (wordsIn names starts) ≡ wordIn names starts k ∷ drop (k + 1) (wordsIn names starts)
+-- word k of them
+pub word-at : (names starts : List ℕ) (k : ℕ) → k < length starts - 1 → getD (wordsIn names starts) k [] ≡ wordIn names starts k
 unfolding wordsIn
-words-from names [] k h = absurd (omega arith)
-words-from names (start ∷ []) k h = absurd (omega arith)
-words-from names (start ∷ end ∷ more) zero h = refl
-words-from names (start ∷ end ∷ more) (suc k) h = rw suc-add (words-from names (end ∷ more) k (omega arith))
+word-at names [] k h = absurd (omega arith)
+word-at names (start ∷ []) k h = absurd (omega arith)
+word-at names (start ∷ end ∷ more) zero h = refl
+word-at names (start ∷ end ∷ more) (suc k) h = rw suc-add (word-at names (end ∷ more) k (omega arith))
 
--- the words before word k are not the word that is searched
-pub record Searched (names starts word : List ℕ) (k : ℕ) : Type 0 where
-  pub reached : k ≤ length starts - 1
-  pub left : placeIn (drop k (wordsIn names starts)) k word ≡ placeIn (wordsIn names starts) 0 word
+-- ---- the slot of a word
 
--- nothing is searched at first
-pub search-begins : (names starts word : List ℕ) → Searched names starts word 0
-search-begins names starts word = record { reached = omega arith; left = refl }
+-- a slot is one of those that there are
+slot-small : (slot : ℕ) (word : List ℕ) → slot < slotCount → slotFrom slot word < slotCount
+unfolding slotFrom
+slot-small slot [] h = h
+slot-small slot (b ∷ word) h = slot-small _ word (mod-lt (7 * slot + b) (lit< tt))
 
-module _ {names starts word : List ℕ} {k : ℕ} (searched : Searched names starts word k) where
-  module _ (h : k < length starts - 1) where
-    choice : cond (sameBytes (wordIn names starts k) word) k (placeIn (drop (k + 1) (wordsIn names starts)) (k + 1) word)
-        ≡ placeIn (wordsIn names starts) 0 word
-    unfolding placeIn
-    choice = rw (words-from names starts k h) at (searched .left)
+-- the slot of the bytes so far, and of those that are left
+pub record Slotting (word : List ℕ) (slot k : ℕ) : Type 0 where
+  pub reached : k ≤ length word
+  pub small : slot < slotCount
+  pub left : slotFrom slot (drop k word) ≡ slotOf word
 
-    -- word k is the word
-    pub search-finds : {t : Bool} → t ≡ sameBytes (wordIn names starts k) word → t ≡ true → k ≡ placeIn (wordsIn names starts) 0 word
-    search-finds e q = let z : sameBytes (wordIn names starts k) word ≡ true = cc in rw z at choice
+-- no byte is read at first
+pub slot-begins : (word : List ℕ) → Slotting word 13 0
+slot-begins word = record { reached = omega arith; small = lit< tt; left = refl }
 
-    -- word k is another
-    pub search-goes : {t : Bool} → t ≡ sameBytes (wordIn names starts k) word → t ≡ false → Searched names starts word (k + 1)
-    search-goes e q =
-        let z : sameBytes (wordIn names starts k) word ≡ false = cc in
-        record { reached = omega arith; left = rw z at choice }
+module _ {word : List ℕ} {slot k : ℕ} (now : Slotting word slot k) where
+  -- one byte more
+  pub slot-goes : k < length word → Slotting word ((7 * slot + getD word k 0) % slotCount) (k + 1)
+  unfolding slotFrom
+  slot-goes h = record { reached = omega arith; small = mod-lt (7 * slot + getD word k 0) (lit< tt); left = rw (drop-next word k h) at (now .left) }
 
-  -- none of the words is the word
-  pub search-ends : length starts - 1 ≤ k → k ≡ placeIn (wordsIn names starts) 0 word
-  unfolding placeIn
-  search-ends h =
-      let past : length (wordsIn names starts) ≤ k = omega (arith, length-words names starts) in
-      rw (drop-of-length-le (wordsIn names starts) past) at (searched .left)
+  -- all of them
+  pub slot-ends : length word ≤ k → slot ≡ slotOf word
+  unfolding slotFrom
+  slot-ends h = rw (drop-of-length-le word h) at (now .left)
+
+-- a test that cannot pass fails
+not-so : (t : Bool) → (t ≡ true → ⊥) → t ≡ false
+not-so true h = absurd (h refl)
+not-so false h = refl
+
+-- no word is the word that is searched
+none-placed : (words : List (List ℕ)) (j : ℕ) (word : List ℕ) → ((k : ℕ) → k < length words → sameBytes (getD words k []) word ≡ false)
+    → placeIn words j word ≡ j + length words
+unfolding placeIn
+none-placed [] j word h = sym (add-zero j)
+none-placed (w ∷ words) j word h =
+    rw (h 0 (omega arith)) (none-placed words (j + 1) word (λ k l. h (suc k) (omega arith)) ∙ omega arith)
+
+-- word k is the first that is it
+first-placed : (words : List (List ℕ)) (j k : ℕ) (word : List ℕ) → k < length words → sameBytes (getD words k []) word ≡ true
+    → ((i : ℕ) → i < k → sameBytes (getD words i []) word ≡ false) → placeIn words j word ≡ j + k
+unfolding placeIn
+first-placed [] j k word h e f = absurd (omega arith)
+first-placed (w ∷ words) j zero word h e f = rw (e, add-zero j) refl
+first-placed (w ∷ words) j (suc k) word h e f =
+    rw (f 0 (omega arith)) (first-placed words (j + 1) k word (omega arith) e (λ i l. f (suc i) (omega arith)) ∙ omega arith)
+
+module _ {names starts slots : List ℕ} (s : Slotted names starts slots) (word : List ℕ) {slot : ℕ} (there : slot ≡ slotOf word) where
+  -- the slot of a word is one of the table's
+  pub slot-within : slot < length slots
+  slot-within = rw (s .long, there) (slot-small 13 word (lit< tt))
+
+  -- a word that is the word stands in its slot
+  only : (k : ℕ) → k < length starts - 1 → sameBytes (getD (wordsIn names starts) k []) word ≡ true → k ≡ getD slots slot 0
+  only k h e =
+      let same = same-bytes (getD (wordsIn names starts) k []) word e in
+      sym (ap (λ (n : ℕ). getD slots n 0) (there ∙ ap slotOf (sym same)) ∙ s .slotted k (omega arith))
+
+  -- no word is the word, if that in its slot is not
+  none-there : (getD slots slot 0 < length starts - 1 → sameBytes (wordIn names starts (getD slots slot 0)) word ≡ false)
+      → length starts - 1 ≡ placeIn (wordsIn names starts) 0 word
+  none-there f = omega (arith, length-words names starts, none-placed (wordsIn names starts) 0 word others)
+    where
+      others : (k : ℕ) → k < length (wordsIn names starts) → sameBytes (getD (wordsIn names starts) k []) word ≡ false
+      others k l =
+          let h : k < length starts - 1 = omega (arith, length-words names starts) in
+          not-so (sameBytes (getD (wordsIn names starts) k []) word)
+          (λ t.
+          let e = only k h t in
+          let same = subst (λ (p : ℕ). sameBytes (wordIn names starts p) word ≡ true) e (rw (word-at names starts k h) at t) in
+          apart (sym (f (omega arith)) ∙ same))
+
+  -- there is none in its slot
+  pub slot-empty : length starts - 1 ≤ getD slots slot 0 → length starts - 1 ≡ placeIn (wordsIn names starts) 0 word
+  slot-empty h = none-there (λ l. absurd (omega arith))
+
+  module _ (h : getD slots slot 0 < length starts - 1) {t : Bool} (e : t ≡ sameBytes (wordIn names starts (getD slots slot 0)) word) where
+    -- that in its slot is the word
+    pub slot-finds : t ≡ true → getD slots slot 0 ≡ placeIn (wordsIn names starts) 0 word
+    slot-finds q =
+        let same : sameBytes (getD (wordsIn names starts) (getD slots slot 0) []) word ≡ true = rw (word-at names starts (getD slots slot 0) h) (sym e ∙ q) in
+        omega (arith, first-placed (wordsIn names starts) 0 (getD slots slot 0) word (rw (length-words names starts) h) same others)
+      where
+        others : (i : ℕ) → i < getD slots slot 0 → sameBytes (getD (wordsIn names starts) i []) word ≡ false
+        others i l = not-so (sameBytes (getD (wordsIn names starts) i []) word) (λ t. omega (arith, only i (omega arith) t))
+
+    -- it is another
+    pub slot-other : t ≡ false → length starts - 1 ≡ placeIn (wordsIn names starts) 0 word
+    slot-other q = none-there (λ l. sym e ∙ q)
 
 -- ---- words by their own lists
 
@@ -158,6 +227,19 @@ words-behind front (w ∷ words) =
 -- and they are the words that it goes through
 pub words-are : (words : List (List ℕ)) → wordsIn (joined words) (startsOf words) ≡ words
 words-are words = words-behind [] words
+
+-- the slots are theirs, if the slot of each has its place
+pub slotted : (words : List (List ℕ)) (slots : List ℕ) → length slots ≡ slotCount
+    → T (every (length words) (λ (k : ℕ). eqb (getD slots (slotOf (getD words k [])) 0) k))
+    → Slotted (joined words) (startsOf words) slots
+slotted words slots long t =
+    record {
+      rising = rising words;
+      long = long;
+      slotted = λ k h.
+          rw (words-are words)
+          (eqb-true _ k (each (length words) (λ (k : ℕ). eqb (getD slots (slotOf (getD words k [])) 0) k) t k (omega (arith, length-ends 0 words))));
+    }
 
 -- ---- the search through words that stand behind others
 

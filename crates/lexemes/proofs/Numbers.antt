@@ -9,7 +9,8 @@ use lib.Dec.{eqb, ltb}
 use lib.ListN.{length, getD}
 use borrow.Author.Tests.{eq-eqb, eqb-true, eqb-false, lt-ltb, ltb-true}
 use Rattle.forest.specs.Lists.{sameBytes, spelling}
-use Rattle.forest.proofs.Bools.{and-left, and-right, apart, each}
+use Rattle.forest.proofs.Bools.{each}
+use Rattle.forest.proofs.Searching.{same-bytes}
 use Rattle.word_kinds.specs.Decimals.{isDecimal, isLong}
 use Rattle.word_kinds.specs.Kinds.{allIn}
 use Rattle.operators.specs.Operators.{operators}
@@ -17,14 +18,7 @@ use Rattle.lexemes.specs.Reserved.{isWord}
 use Rattle.lexemes.specs.code.Codes.{knownCount}
 use Rattle.lexemes.specs.code.Reserved.{knownWords, placeAmong, wordNumber}
 
--- lists of bytes that are the same are equal
-pub same-bytes : (u v : List ℕ) → sameBytes u v ≡ true → u ≡ v
-unfolding sameBytes
-same-bytes [] [] e = refl
-same-bytes [] (b ∷ v) e = apart e
-same-bytes (a ∷ u) [] e = apart e
-same-bytes (a ∷ u) (b ∷ v) e = ap₂ _∷_ (eqb-true a b (and-left (eqb a b) (sameBytes u v) e)) (same-bytes u v (and-right (eqb a b) _ e))
-
+-- a list of bytes is the same as itself
 same-self : (u : List ℕ) → sameBytes u u ≡ true
 unfolding sameBytes
 same-self [] = refl

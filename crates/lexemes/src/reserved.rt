@@ -3,6 +3,7 @@ use crate::SYMBOL;
 use crate::codes::DECIMAL;
 use crate::codes::FIRST_OPERATOR;
 use crate::codes::LONG_DECIMAL;
+use forest::search::SLOTS;
 use forest::search::find_word;
 use operators::operators::operator_of;
 use word_kinds::decimals::is_decimal;
@@ -72,6 +73,13 @@ const STARTS: [usize; BEFORE_OPERATORS + 1] = [
     504,
 ];
 
+// In the slot of each of them its number; `~` in the others. `tools/slots` writes it.
+const SLOTS_OF: [u8; SLOTS] =
+    *b"~~~~~~~~~~~~~~~~~~~~~~~~~\x28~~~~~~~~~~~~~~~~~~~~~~~\x18~~~~~~~~~~~~~\x16~~~~~~~~~~~~~~\x20~~~~~~~~~~~~~~~~~~~~~~~~~~\x0a~~~~~~~~~\x01~~~~~~~~\x24~~~\
+      ~~~~~\x1e~~~~~~~~~~~~~~~~~~~~~~~~~~~\x00~~~\x27~~~~\x08~~~~~~~~~~~~~~~\x23~~~~~~~~\x1f~~~~~~~~~~~~\x0b~~~~~~~~~~~\x12~~~~\x06~~~~~~~~~~~~~~~~~~~~~\x10~~~~~~~~\
+      ~~~~~~~~~\x26\x07~~~~\x21\x13\x09~~~~~~~~~~~~\x0f~~~~~~~~~~~~\x1c~~~~~~~~~~~\x04~~~~\x22~~~~~~~~~~~~~~~~~\x25~~~~~~~~~~~~~~~~~~~~~~~~~~~~~~~\x03~~~~~~~~~~~\x05~\x14~~~\
+      ~~~~~~~~~~~~~\x02\x0e~~~~~~~~~~~~~\x19~\x1b~~~~~~~\x1d~~~~~~~~~~~~~~~~\x1a~~~~~~~~~~~~~~~~\x11~~~~~\x0c~~~\x17~~~~~~~~~~~~~~~~~~~~~~~~\x15~~~~~\x29~~~~~~~\x0d~~~~~~";
+
 // The number of a symbol among the known words; past the last of them where it is none, and beyond that for the word of a constant.
 pub fn word_number(word: &[u8]) -> usize
     ensures { λ r. ⌜ r ≡ wordNumber (now (word .entry)) ⌝ }
@@ -82,7 +90,7 @@ pub fn word_number(word: &[u8]) -> usize
         }
         return CONSTANT;
     }
-    let place = find_word(&NAMES, &STARTS, word);
+    let place = find_word(&NAMES, &STARTS, &SLOTS_OF, word);
     if place < BEFORE_OPERATORS {
         return place;
     }

@@ -17,7 +17,7 @@ use Rattle.operators.proofs.Naming.{named-spellings, spellings}
 use Rattle.terms.specs.Labels.{Label, defined, function, literal, name, operator}
 use Rattle.derivation.specs.Derivation.{Item, anyArgument, anyLiteral, nonTerminal, the}
 use Rattle.lexemes.specs.Reserved.{isWord}
-use Rattle.lexemes.proofs.Numbers.{same-bytes}
+use Rattle.forest.proofs.Searching.{same-bytes}
 use Rattle.names.specs.Scopes.{Defined, Function, Named, View, definedNames, functionNames, inOrder, isNamed, namesOf, symbolMeans}
 use Rattle.names.proofs.Lookup.{named-by-place, named-in-order}
 

@@ -38,6 +38,7 @@ use crate::vectors::bvurem;
 use crate::vectors::bvxor;
 use crate::vectors::concat;
 use crate::vectors::extract;
+use forest::search::SLOTS;
 use forest::search::find_word;
 ghost use mathlib.Core.Path.{_≡_};
 ghost use Rattle.operators.specs.Operators.{operatorAt, operatorOf, takes};
@@ -93,6 +94,13 @@ const STARTS: [usize; OPERATORS + 1] = [
     159, // bvuge
     164,
 ];
+
+// In the slot of each name the operator's number; `~` in the others. `tools/slots` writes it.
+const SLOTS_OF: [u8; SLOTS] =
+    *b"~~~~~~~~~~~~~~~~~~~\x1c~~~~\x18~~~~~~~~~\x1b~~~~~~~~~~~~~~~~~~~~~~~~~~\x10~~~~~~~\x1a~~~~~~~~~\x0e~~\x21~~~~~~~~~~~~~~\x20~~~~\x04~\x0d~~~~~~~~\x15~~~\x1f~~~~~~~~~~\
+      ~~~~\x14~~~~~~~~~~~~~~~~~~~\x05~~~~~~~~~~~~~~~~~~~~~\x0a~~~~~~~~~~~~~~~~~~~~~~~\x11~~~~~~~~~~~~~~~~~~~~~~~~~~~~~~~~~~~~~~~~\x09~~~~~~~~~~~~~~~~\
+      ~~\x13~~~~~~~~~~~~~~~~~~\x07~~~~~~~~~~~~~~~~~~~~\x0c~~~~~~~~\x0f~~~~~~~~~~~~~~\x08~~~~~~~~~\x0b~~~~~~~~~~~~~~~~~~~\x19~\x01~~~~~~~~~~~~~~~~~\x16~~~~~~~~~~~\
+      ~~~~~~~~~~~~~~~\x17~~~~~~~~~~~~~~~~~\x06~~~~~~~~~~~~~~~~~~~~~~~~~~~~~~~~~~~~~~~~~~~~~~~~~~~~~~~~~~~~\x03~~~~~~~~~~~~~~~~~\x1e~~~~~\x00~\x02~~~~~\x12\x1d";
 
 // How many operands each operator has, or has at least.
 const OPERANDS: [usize; OPERATORS] = [
@@ -212,7 +220,7 @@ const RULES: [u64; OPERATORS] = [
 pub fn operator_of(word: &[u8]) -> usize
     ensures { λ r. ⌜ r ≡ operatorOf (now (word .entry)) ⌝ }
 {
-    find_word(&NAMES, &STARTS, word)
+    find_word(&NAMES, &STARTS, &SLOTS_OF, word)
 }
 
 // How many operands an operator has, or has at least; 0 past the last operator.

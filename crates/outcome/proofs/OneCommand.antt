@@ -7,7 +7,7 @@ use mathlib.Core.Path.{_≡_, refl, subst}
 use Rattle.forest.specs.Lists.{sameBytes, spelling}
 use Rattle.lexemes.specs.Reserved.{isWord}
 use Rattle.lexemes.specs.Lists.{Items, is, item, nameOf}
-use Rattle.lexemes.proofs.Numbers.{same-bytes}
+use Rattle.forest.proofs.Searching.{same-bytes}
 
 -- The tests of a command's word: whether it declares a variable, defines a function, synthesizes one, constrains.
 pub record Tests (c : Items) (declared defined synthesized constrained : Bool) : Type 0 where

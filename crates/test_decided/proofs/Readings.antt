@@ -455,6 +455,8 @@ readings =
     ∷ row "(set-logic BV)(synth-fun f () Bool ((A Bool)) ((A Bool (true))))(constraint (= (bvashr #x40 #x09) #x00))(check-synth)" "((define-fun f () Bool true))" []
     ∷ row "(set-logic BV)(synth-fun f () Bool ((A Bool)) ((A Bool (true))))(constraint (= (bvsdiv #b1 #b1) #b1))(check-synth)" "((define-fun f () Bool true))" []
     ∷ row "(set-logic BV)(declare-var x (_ BitVec 8))(declare-var p Bool)(constraint (= x (bvnand x x)))" "" (7 ∷ 24 ∷ [])
+    ∷ row "(set-logic BV)(declare-var x (_ BitVec 8))(declare-var p Bool)(constraint (bvandx x x))" "" (7 ∷ 21 ∷ [])
+    ∷ row "(set-logic BV)(declare-var x (_ BitVec 8))(declare-var p Bool)(constraint (BVAND x x))" "" (7 ∷ 21 ∷ [])
     ∷ []
 
 -- The definitions answer every one of them so.

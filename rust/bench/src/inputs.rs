@@ -1,10 +1,11 @@
 //! What is measured: scripts of several sizes with responses that their grammars derive, and points.
 
-/// What a checker takes, the lent area and the budget apart.
+/// What a checker takes, the lent area and the budget apart, and the number that it answers.
 pub struct Input {
     pub script: Vec<u8>,
     pub response: Vec<u8>,
     pub points: Vec<u64>,
+    pub number: u8,
 }
 
 /// The most blocks of a script: so many reach the limits of functions, `define-fun`s, constraints, words and bytes.
@@ -32,6 +33,7 @@ pub fn typical() -> Input {
         script: include_bytes!("typical.sy").to_vec(),
         response: include_bytes!("typical.response").to_vec(),
         points: Vec::new(),
+        number: 0,
     }
 }
 
@@ -54,6 +56,7 @@ pub fn blocks(count: usize) -> Input {
         script: script.into_bytes(),
         response: response.into_bytes(),
         points: Vec::new(),
+        number: 0,
     }
 }
 
@@ -126,6 +129,33 @@ pub fn constraints(points: usize) -> Input {
         script: script.into_bytes(),
         response: response.into_bytes(),
         points: (0..points as u64).map(point).collect(),
+        number: 0,
+    }
+}
+
+/// A script that applies an operator in 64 constraints, eleven times in each, with a variable and without points, so that nothing is evaluated.
+pub fn applications(operator: &str) -> Input {
+    let applied = format!(" ({operator} #b1 #b1)").repeat(11);
+    let constraints = format!("(constraint (and{applied}))\n").repeat(64);
+    let script = format!(
+        "(set-logic BV)\n(declare-var x Bool)\n(synth-fun f () Bool ((A Bool)) ((A Bool (true))))\n{constraints}{END}"
+    );
+    Input {
+        script: script.into_bytes(),
+        response: b"((define-fun f () Bool true))".to_vec(),
+        points: Vec::new(),
+        number: 0,
+    }
+}
+
+/// A script that has a word so many times in a command that is none: all its words are read, and it is refused there.
+pub fn unknown(word: &str, times: usize) -> Input {
+    let words = format!(" {word}").repeat(times);
+    Input {
+        script: format!("(set-logic BV)\n(unknown{words})\n").into_bytes(),
+        response: b"fail".to_vec(),
+        points: Vec::new(),
+        number: 5,
     }
 }
 

@@ -1,5 +1,6 @@
--- What the search for a word asks of the words: they stand one after the other in a list of bytes.
-use Prim.Native.Nat.{ℕ, _+_, _-_, _≤_, _<_}
+-- What the search for a word asks of the words: they stand one after the other in a list of bytes, and each has a slot of its own in a table of slots.
+use Prim.Native.Nat.{ℕ, _+_, _*_, _-_, _%_, _≤_, _<_}
+use mathlib.Core.Path.{_≡_}
 use mathlib.Core.List.{List, [], _∷_}
 use lib.ListN.{drop, getD, length, take}
 
@@ -14,3 +15,22 @@ pub record Rising (names starts : List ℕ) : Type 0 where
   pub some : 0 < length starts
   pub rises : (k : ℕ) → k + 1 < length starts → getD starts k 0 ≤ getD starts (k + 1) 0
   pub within : (k : ℕ) → k < length starts → getD starts k 0 ≤ length names
+
+-- How many slots there are.
+abbrev pub slotCount : ℕ
+slotCount = 512
+
+-- The slot of a word, where the bytes before it led to `slot`. Any numbers serve here by which no two of the words share a slot.
+unfoldable pub slotFrom : (slot : ℕ) → (word : List ℕ) → ℕ
+slotFrom slot [] = slot
+slotFrom slot (b ∷ word) = slotFrom ((7 * slot + b) % slotCount) word
+
+-- The slot of a word.
+abbrev pub slotOf : (word : List ℕ) → ℕ
+slotOf word = slotFrom 13 word
+
+-- What the search asks of the slots: the slot of each word has its place.
+pub record Slotted (names starts slots : List ℕ) : Type 0 where
+  pub rising : Rising names starts
+  pub long : length slots ≡ slotCount
+  pub slotted : (k : ℕ) → k + 1 < length starts → getD slots (slotOf (getD (wordsIn names starts) k [])) 0 ≡ k

@@ -1,84 +1,74 @@
 use native.Mathlib.Omega.{arith}
-use Prim.Native.Nat.{_-_}
 use borrow.Author.Needs.{needs}
-use lib.ListN.{length}
-use Rattle.forest.proofs.Searching.{Searched, search-begins, search-ends, search-finds, search-goes}
+use Rattle.forest.proofs.Searching.{slot-empty, slot-finds, slot-other, slot-within}
 use Rattle.forest.proofs.search.find_word.Statement.{statement}
 use Rattle.forest.proofs.search.find_word.Tie as tie
 
-abbrev Inv-loop : tie.InvT-loop
-Inv-loop names starts word count place₀ place = Searched names starts word place
-
-abbrev μ-loop : tie.MeasureT-loop
-μ-loop names starts word count place₀ place = length starts - 1 - place
-
-sub-count : tie.Need-sub-count Inv-loop μ-loop
+sub-count : tie.Need-sub-count
 sub-count c = search needs
 
-loop-holds : tie.Need-loop-holds Inv-loop μ-loop
-loop-holds c = search-begins _ _ _
+slot-of-requires : tie.Need-slot-of-requires
+slot-of-requires c κs = search needs
 
-mul-start : tie.Need-mul-start Inv-loop μ-loop
-mul-start c = search needs
+shared-slice-read-place : tie.Need-shared-slice-read-place
+shared-slice-read-place c = slot-within (c .before .before .before .before .before .before .pre) _ (c .before .slot-of .ensures)
 
-shared-slice-read-start : tie.Need-shared-slice-read-start Inv-loop μ-loop
-shared-slice-read-start c = omega arith
+cast-place : tie.Need-cast-place
+cast-place c = omega (arith, c .shared-slice-known5 .given (c .before .slot-of .result))
 
-add-end : tie.Need-add-end Inv-loop μ-loop
-add-end c = omega arith
+returns : tie.Need-returns
+returns c = search slot-empty
 
-mul-end : tie.Need-mul-end Inv-loop μ-loop
-mul-end c = search needs
+mul-same-bytes : tie.Need-mul-same-bytes
+mul-same-bytes c = search needs
 
-shared-slice-read-end : tie.Need-shared-slice-read-end Inv-loop μ-loop
-shared-slice-read-end c = omega arith
+shared-slice-read-same-bytes : tie.Need-shared-slice-read-same-bytes
+shared-slice-read-same-bytes c = search needs
 
-sub-same-bytes : tie.Need-sub-same-bytes Inv-loop μ-loop
-sub-same-bytes c = c .before .before .before .before .before .before .before .pre .rises _ (omega arith)
+add-same-bytes : tie.Need-add-same-bytes
+add-same-bytes c = search needs
 
-part-same-bytes-start : tie.Need-part-same-bytes-start Inv-loop μ-loop
-part-same-bytes-start c = c .before .before .before .before .before .before .before .pre .rises _ (omega arith)
+mul-same-bytes-2 : tie.Need-mul-same-bytes-2
+mul-same-bytes-2 c = search needs
 
-part-same-bytes-end : tie.Need-part-same-bytes-end Inv-loop μ-loop
-part-same-bytes-end c = c .before .before .before .before .before .before .before .pre .within _ (omega arith)
+shared-slice-read-same-bytes-2 : tie.Need-shared-slice-read-same-bytes-2
+shared-slice-read-same-bytes-2 c = search needs
 
-same-bytes-requires : tie.Need-same-bytes-requires Inv-loop μ-loop
+sub-same-bytes : tie.Need-sub-same-bytes
+sub-same-bytes c = c .before .before .before .before .before .before .before .before .before .pre .rising .rises _ (omega arith)
+
+part-same-bytes-start : tie.Need-part-same-bytes-start
+part-same-bytes-start c = c .before .before .before .before .before .before .before .before .before .pre .rising .rises _ (omega arith)
+
+part-same-bytes-end : tie.Need-part-same-bytes-end
+part-same-bytes-end c = c .before .before .before .before .before .before .before .before .before .pre .rising .within _ (omega arith)
+
+same-bytes-requires : tie.Need-same-bytes-requires
 same-bytes-requires c κs = search needs
 
-returns : tie.Need-returns Inv-loop μ-loop
-returns c = search search-finds
+returns-2 : tie.Need-returns-2
+returns-2 c = search slot-finds
 
-add-place : tie.Need-add-place Inv-loop μ-loop
-add-place c = omega arith
-
-loop-less : tie.Need-loop-less Inv-loop μ-loop
-loop-less c = omega arith
-
-loop-again : tie.Need-loop-again Inv-loop μ-loop
-loop-again c = search search-goes
-
-returns-2 : tie.Need-returns-2 Inv-loop μ-loop
-returns-2 c = search search-ends
+returns-3 : tie.Need-returns-3
+returns-3 c = search slot-other
 
 pub find-word-spec : {M : Type 1} → statement M
 find-word-spec =
     tie.close
     (tie.spec
-    Inv-loop
-    μ-loop
     sub-count
-    loop-holds
-    mul-start
-    shared-slice-read-start
-    add-end
-    mul-end
-    shared-slice-read-end
+    slot-of-requires
+    shared-slice-read-place
+    cast-place
+    returns
+    mul-same-bytes
+    shared-slice-read-same-bytes
+    add-same-bytes
+    mul-same-bytes-2
+    shared-slice-read-same-bytes-2
     sub-same-bytes
     part-same-bytes-start
     part-same-bytes-end
     same-bytes-requires
-    returns
-    add-place
-    loop-less
-    loop-again
-    returns-2)
+    returns-2
+    returns-3)

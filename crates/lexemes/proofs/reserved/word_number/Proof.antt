@@ -1,5 +1,7 @@
+use mathlib.Core.Path.{refl}
 use native.Mathlib.Omega.{arith}
-use Rattle.forest.proofs.Searching.{rising}
+use Rattle.forest.specs.code.Search.{slotFrom}
+use Rattle.forest.proofs.Searching.{slotted}
 use Rattle.operators.proofs.Naming.{operator-bound}
 use Rattle.lexemes.proofs.WordNumbers.{firstSpellings, number-decimal, number-first, number-long, number-operator}
 use borrow.Author.Needs.{needs}
@@ -24,8 +26,12 @@ slice-aggregate-find-word c = search needs
 slice-aggregate-find-word-2 : tie.Need-slice-aggregate-find-word-2
 slice-aggregate-find-word-2 c = search needs
 
+slice-aggregate-find-word-3 : tie.Need-slice-aggregate-find-word-3
+slice-aggregate-find-word-3 c = search needs
+
 find-word-requires : tie.Need-find-word-requires
-find-word-requires c κs = rising firstSpellings
+unfolding slotFrom
+find-word-requires c κs = slotted firstSpellings _ refl tt
 
 returns-3 : tie.Need-returns-3
 returns-3 c = search number-first
@@ -49,6 +55,7 @@ word-number-spec =
     returns-2
     slice-aggregate-find-word
     slice-aggregate-find-word-2
+    slice-aggregate-find-word-3
     find-word-requires
     returns-3
     operator-of-requires

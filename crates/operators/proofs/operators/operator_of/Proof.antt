@@ -1,5 +1,7 @@
+use mathlib.Core.Path.{refl}
 use borrow.Author.Needs.{needs}
-use Rattle.forest.proofs.Searching.{rising}
+use Rattle.forest.specs.code.Search.{slotFrom}
+use Rattle.forest.proofs.Searching.{slotted}
 use Rattle.operators.specs.Operators.{operators}
 use Rattle.operators.proofs.Naming.{operator-found, spellings}
 use Rattle.operators.proofs.operators.operator_of.Statement.{statement}
@@ -11,9 +13,12 @@ slice-aggregate-find-word c = search needs
 slice-aggregate-find-word-2 : tie.Need-slice-aggregate-find-word-2
 slice-aggregate-find-word-2 c = search needs
 
+slice-aggregate-find-word-3 : tie.Need-slice-aggregate-find-word-3
+slice-aggregate-find-word-3 c = search needs
+
 find-word-requires : tie.Need-find-word-requires
-unfolding operators
-find-word-requires c κs = rising (spellings operators)
+unfolding operators slotFrom
+find-word-requires c κs = slotted (spellings operators) _ refl tt
 
 returns : tie.Need-returns
 unfolding operators
@@ -22,4 +27,4 @@ returns c = operator-found _ (c .find-word .ensures)
 pub operator-of-spec : {M : Type 1} → statement M
 operator-of-spec =
     tie.close
-    (tie.spec slice-aggregate-find-word slice-aggregate-find-word-2 find-word-requires returns)
+    (tie.spec slice-aggregate-find-word slice-aggregate-find-word-2 slice-aggregate-find-word-3 find-word-requires returns)
