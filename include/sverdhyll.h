@@ -59,7 +59,8 @@ enum {
     SVERDHYLL_UNUSED = 65535,       /* an entry that no list uses */
     SVERDHYLL_MOST_SCRIPT = 32768,  /* bytes */
     SVERDHYLL_MOST_RESPONSE = 8192, /* bytes */
-    SVERDHYLL_MOST_POINTS = 1024    /* numbers */
+    SVERDHYLL_MOST_POINTS = 1024,   /* numbers */
+    SVERDHYLL_FIRST_ASSUMPTION = 64 /* answer 15 numbers assumptions from here */
 };
 
 /* Checks a response against a script at points within a budget. Returns the answer's number, and puts which text it speaks of, its place, its second number and
@@ -69,7 +70,9 @@ enum {
 
    | No. | Meaning                              | Text    | Place                                             | Second       | Units |
    |-----|--------------------------------------|---------|---------------------------------------------------|--------------|-------|
-   |   0 | accepted                             | 3       | 0                                                 | points done  | spent |
+   |   0 | accepted                             | 3       | 0                                                 | points whose | spent |
+   |     |                                      |         |                                                   | assumptions  |       |
+   |     |                                      |         |                                                   | all held     |       |
    |   1 | script / response / points too long, | 0, 1, 2 | its length                                        | 0            | 0     |
    |     | or the area not of its size          | 3       | its length                                        | 0            | 0     |
    |   2 | bad word                             | 0, 1    | the word                                          | 0            | 0     |
@@ -93,12 +96,15 @@ enum {
    |     |                                      |         | outer list's last bracket; one too many: its own  |              |       |
    |  13 | no derivation                        | 1       | the body's first word                             | the function | 0     |
    |  14 | constraint false                     | 2       | the point                                         | constraint   | spent |
-   |  15 | budget ended                         | 2       | the point                                         | constraint   | spent |
+   |  15 | budget ended                         | 2       | the point                                         | constraint,  | spent |
+   |     |                                      |         |                                                   | or 64 +      |       |
+   |     |                                      |         |                                                   | assumption   |       |
    |  16 | points not whole                     | 2       | the list's length                                 | 0            | 0     |
    |     | a number outside its sort            | 2       | its index in the list                             | 0            | 0     |
 
-   A word, a bracket and a length are offsets in bytes; functions, points and constraints are numbered from 0. "Spent" is the summed cost of the evaluations
-   done, that of a false constraint included.
+   A word, a bracket and a length are offsets in bytes; functions, points, constraints and assumptions are numbered from 0. At each point the assumptions come
+   first, up to the first false one, which skips the point's constraints: the points whose assumptions all held are those at which constraints were evaluated.
+   "Spent" is the summed cost of the evaluations done, that of a false assumption or constraint included.
 
    `shown` is the area; `shown_len` must be 32,768. After 0, 14 and 15 it shows a derivation of every function's body: the numbers of the rules, leftmost first,
    those of function k from entry 4,096 * k on; every entry that no list uses is 65,535. After any other answer every entry is 65,535. An area of another size

@@ -174,7 +174,7 @@ def refused_scripts():
             beside("§(foo)"), beside("§foo"), beside("§(constraint (true))"), beside() + "§(check-synth)", "§(check-synth)", "(set-logic BV)§",
             "(set-logic BV) ; end§", script("§(define-fun f () Bool)"), script("§(set-logic BV)"), "§"],
         6: [
-            "§(set-logic LIA)", beside("§(assume true)"), beside("§(synth-fun g () Bool)"), beside("§(constraint (let ((x true)) x))"),
+            "§(set-logic LIA)", beside("§(define-sort B () Bool)"), beside("§(synth-fun g () Bool)"), beside("§(constraint (let ((x true)) x))"),
             beside("(constraint §\"x\")"), beside("§(constraint (= #x00 (_ bv 8)))")],
         7: [
             beside("(declare-var §and Bool)"), beside("(declare-var §f Bool)"), beside("(declare-var x §Int)"), beside("(constraint §x)"),

@@ -28,7 +28,7 @@ NO_DERIVATION = 13
 
 # The records at a limit on what a script or a response says, and one past it; the table of each kind is proved by itself, since the prover's steps have a limit too.
 AT_LIMIT = re.compile(
-    r"(functions|(?:defined-)?arguments|defined|variables|constraints|non-terminals|rules|nodes-\w+|operands-(?:constraint|rule)|digits|constant-width)-\d+")
+    r"(functions|(?:defined-)?arguments|defined|variables|constraints|assumptions|non-terminals|rules|nodes-\w+|operands-(?:constraint|rule)|digits|constant-width)-\d+")
 
 # A word that is too large or of no form.
 FAULTY = re.compile(r"[^ ()]{65,}|(?<![^ ()])[0-9]{10,}|#x[0-9a-fA-F]{17,}|#b[01]{65,}|(?<![^ ()])(#x|#b|#)(?=[ ()]|$)|#[^xb]")

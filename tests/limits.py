@@ -1,4 +1,5 @@
 """Every limit of "Numbers the checker holds to" as a case at it and one past it, and areas that are not of their size."""
+from assumed import assumption
 from cases import (
     AREA, MARK, TRUE, accepted, all_cases, beside, bits, case, constraint, defined, function, grammar_of, joined, named, negated, of_nodes, padded, refused,
     response, row, script, too_long, unmarked, variables, words_in)
@@ -116,8 +117,13 @@ def constraints(count):
     return case(beside(row(count, lambda i: mark_at(i, 64) + constraint("true"))), TRUE, held(count, 64, accepted(1, 64)), budget=64)
 
 
+def assumptions(count):
+    """So many assumptions."""
+    return case(beside(row(count, lambda i: mark_at(i, 32) + assumption("true"))), TRUE, held(count, 32, accepted(1, 32)), budget=32)
+
+
 def commands():
-    """Functions, arguments, `define-fun`s, variables and constraints."""
+    """Functions, arguments, `define-fun`s, variables, constraints and assumptions."""
     yield from at_and_past("functions", 8, functions)
     yield from at_and_past("arguments", 8, lambda count: case(
         script(function("f", arguments(count))), response(defined("f", unmarked(arguments(count)))), held(count, 8)))
@@ -126,6 +132,7 @@ def commands():
     yield from at_and_past("defined", 32, definitions)
     yield from at_and_past("variables", 16, declarations)
     yield from at_and_past("constraints", 64, constraints)
+    yield from at_and_past("assumptions", 32, assumptions)
     yield from at_and_past("width", 64, lambda count: case(
         beside("(declare-var v (_ BitVec %s%d))" % (mark_at(count, 65), count)), TRUE, held(count, 64, accepted(0))))
     yield case(beside("(declare-var v §(_ BitVec 0))"), TRUE, refused(8), name="width-0")

@@ -1,11 +1,11 @@
 #!/usr/bin/env python3
 """The records of the program `test_vectors` and what it must write of them: tests/vectors.py [--check]
 
-It takes the readings of readings.jsonl, texts of its own whose words decide, and the cases of cases.py, operands.py, constants.py, signed.py and limits.py, and writes
-crates/test_vectors/stdin and crates/test_vectors/stdout; with --check it only says whether these two files are what it would write, and replays every list of
-rules in them (derivations.py). What the words of a text are is said by words.py, which is held to each reading whose answer arises from words. The checker's
-answer is that of the reading, or is known from how a text is made; the list shown is the one derivation that there is. The last records are names that are nearly
-known words (nearly.py).
+It takes the readings of readings.jsonl, texts of its own whose words decide, and the cases of cases.py, operands.py, constants.py, signed.py, assumed.py and
+limits.py, and writes crates/test_vectors/stdin and crates/test_vectors/stdout; with --check it only says whether these two files are what it would write, and
+replays every list of rules in them (derivations.py). What the words of a text are is said by words.py, which is held to each reading whose answer arises from
+words. The checker's answer is that of the reading, or is known from how a text is made; the list shown is the one derivation that there is. The last records are names that
+are nearly known words (nearly.py).
 """
 import json
 import os
@@ -14,6 +14,7 @@ import sys
 sys.dont_write_bytecode = True
 import derivations
 import words
+from assumed import all_assumed
 from cases import AREA, Case, all_cases
 from constants import all_constants
 from limits import all_limits
@@ -24,7 +25,7 @@ from words import RESPONSE, SCRIPT
 
 HERE = os.path.dirname(os.path.abspath(__file__))
 CRATE = os.path.join(HERE, "..", "crates", "test_vectors")
-MOST_INPUT = 2400000
+MOST_INPUT = 2800000
 READINGS_FROM_WORDS = 37
 
 # Answers to texts that both pass, and those of them that show derivations.
@@ -230,6 +231,7 @@ def records():
     yield from all_operands()
     yield from all_constants()
     yield from all_signed()
+    yield from all_assumed()
     yield from all_limits()
     yield from all_nearly()
 

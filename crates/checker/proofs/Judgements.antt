@@ -17,7 +17,7 @@ use Rattle.outcome.specs.Derived.{termsOf}
 use Rattle.outcome.specs.Evaluated.{ranWith}
 use Rattle.outcome.specs.declared.Outcome.{Outcome}
 use Rattle.outcome.proofs.Areas.{blank-long, unshown-blank}
-use Rattle.outcome.proofs.Stages.{not-showing, ran-showing}
+use Rattle.outcome.proofs.Stages.{not-showing, run-showing}
 use Rattle.verdicts.specs.code.Evaluate.{Evaluable, pointsOutcome}
 use Rattle.checker.specs.code.Judge.{BodiesDerived, Deriving, PointsJudged}
 
@@ -45,7 +45,7 @@ module _ {places nodes area : List ℕ} {p : Progress} (q : Deriving places node
             let blank = answer .bad! (ap (λ (x : Outcome). x .number) f) ∙ unshown-blank between sized in
             rw (f, blank) (points-refused (sought q .all! zero .shown) found)
         go (Good m) found f =
-            let shows = ran-showing m budget (ranWith (q .tables .known) (termsOf (q .tables .bodies)) points m budget) in
+            let shows = run-showing budget (ranWith (q .tables .known) (termsOf (q .tables .bodies)) points m budget) in
             let shown = subst Showing (sym (ap (λ (x : Outcome). x .number) f)) shows in
             let other : r .number ≡ pointsAnswer → ⊥ = λ n. not-showing (omega arith, omega arith, omega arith) shown in
             let same = answer .other! other ∙ sought q .all! zero .area-is in

@@ -118,6 +118,11 @@ module _ (k : Known) {c : Items} (t : Chosen c defineFunCode) where
   unfolding knownAfter
   same-constraints = rw (t .constrains)
 
+  -- The same assumptions.
+  pub same-assumptions : knownAfter k c .assumptions ≡ k .assumptions
+  unfolding knownAfter
+  same-assumptions = rw (t .assumes)
+
 module _ {text lexemes : List ℕ} {p : Progress} {at nowhere : ℕ} (d : CommandOf "define-fun" text lexemes p at nowhere) where
   -- It is the command of that word.
   pub is-definition : Chosen (d .here .command) defineFunCode

@@ -48,7 +48,7 @@ use Rattle.commands.specs.code.TermTests.{Judges, Judging, verdictOf}
 use Rattle.commands.specs.declared.TermTest.{TermTest}
 use Rattle.commands.proofs.TermStanding.{body-grown, body-judging}
 use Rattle.commands.proofs.DefinitionItems.{body-here, definedBy, first-symbol, headed, header-here, is-definition, limit-is, long-enough, names-are}
-use Rattle.commands.proofs.DefinitionItems.{no-grammar, one-more, same-constraints, same-functions, same-variables, sorts-are}
+use Rattle.commands.proofs.DefinitionItems.{no-grammar, one-more, same-assumptions, same-constraints, same-functions, same-variables, sorts-are}
 use Rattle.commands.proofs.TermVerdicts.{body-says, command-fits, passed-rows}
 
 -- The rows that a body with so many arguments sees.
@@ -294,9 +294,8 @@ module _ {text lexemes names raw places nodes : List ℕ} {p : Progress} {rows a
               verdict-is = its-verdict w;
               names-hold = λ e. names-after put w;
               places-hold = λ e. rw taken (definition-held (w .places-hold) grown given (written .is-signed) (counted .defined-are) (definition-fits w)
-                  (omega (arith, counted .few-functions, counted .functions-are)) (omega (arith, counted .few-constraints, counted .constraints-are))
-                  (written .put) (definedBy k c) arguments (sym (sorts (result-here w))) (sort-low w) refl (one-more k t) (same-functions k t)
-                  (same-constraints k t));
+                  (omega (arith, counted .few-functions, counted .functions-are)) (written .put) (definedBy k c) arguments (sym (sorts (result-here w)))
+                  (sort-low w) refl (one-more k t) (same-functions k t) (same-constraints k t) (same-assumptions k t));
               within = λ e. rw taken (w .fits);
               kept = behind-both given written (definition-fits w);
               raw-long = judged (definition-judging w) .raw-long;

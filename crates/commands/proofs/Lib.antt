@@ -4,7 +4,7 @@ pub mod VariableTests
 pub mod TermTested
 pub mod TermStanding
 pub mod TermVerdicts
-pub mod ConstraintTests
+pub mod StatedTests
 pub mod DefinitionItems
 pub mod DefinitionSettled
 pub mod DefinitionLimits

@@ -1,4 +1,4 @@
 pub mod TermTests
 pub mod DeclareVar
 pub mod DefineFun
-pub mod Constraint
+pub mod State

@@ -1,8 +1,8 @@
 //! The command that declares a variable: `declare-var`.
-//! The commands that say a term: `define-fun` and `constraint`.
-pub mod constraint;
+//! The commands that say a term: `define-fun`, `constraint` and `assume`.
 pub mod declare_var;
 pub mod define_fun;
+pub mod state;
 mod term_tests;
 
 use names::Seen;

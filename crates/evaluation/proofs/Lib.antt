@@ -15,6 +15,7 @@ pub mod Calls
 pub mod PointLists
 pub mod TermCosts
 pub mod Runs
+pub mod Visits
 pub mod PointRuns
 pub mod GoodPoints
 pub mod Left

@@ -1,14 +1,12 @@
 -- The loop over terms that are run one after the other, within a budget.
-use Prim.Native.Nat.{ℕ, _+_, _-_, _^_, _≤_, _<_}
+use Prim.Native.Nat.{ℕ, suc, _+_, _-_, _^_, _≤_, _<_}
 use native.Mathlib.Omega.{arith}
 use mathlib.Core.Path.{_≡_, refl, ap, _∙_}
 use mathlib.Core.Bool.{true, false, cond}
 use mathlib.Core.List.{List, [], _∷_}
 use borrow.Author.Tests.{eq-eqb, le-leb, lt-leb, ne-eqb}
 use lib.Dec.{eqb, leb}
-use lib.ListN.{drop, getD, length, take}
-use lib.Seq.{drop-length}
-use Rattle.forest.proofs.Lists.{drop-next}
+use lib.ListN.{getD, length}
 use Rattle.forest.specs.Limits.{mostNodes}
 use Rattle.forest.specs.code.Cursors.{size}
 use Rattle.terms.specs.Costs.{costOf}
@@ -19,7 +17,7 @@ use Rattle.evaluation.specs.code.Budget.{held}
 use Rattle.evaluation.specs.code.Evaluator.{Evaluable, Evaluated, Names, Room}
 use Rattle.evaluation.specs.code.Tables.{CallsKnown, TermStands}
 use Rattle.evaluation.specs.Running.{isTrue, runTerms}
-use Rattle.evaluation.specs.code.Running.{AllValued, HasTruth, Runnable, SmallTerms, TermsAt}
+use Rattle.evaluation.specs.code.Running.{AllValued, FrontKept, HasTruth, Runnable, SmallTerms, TermsFrom, statedTerms}
 use Rattle.evaluation.specs.declared.Ran.{Ran}
 use Rattle.evaluation.specs.declared.Ran.the-variants.{Ended, False, Passed}
 use Rattle.evaluation.proofs.ValuedTrees.{calls-known}
@@ -27,66 +25,69 @@ use Rattle.evaluation.proofs.Stack.{below-same}
 use Rattle.evaluation.proofs.Sums.{cost-some}
 
 -- What is to be run before term k, with `left` of the budget, is what was to be run; the stack has the point's values as at the start.
-pub record TermsLeft {nodes bodies prices places stack : List ℕ} {width : ℕ} (e : Runnable nodes bodies prices places stack width) (now : List ℕ)
-    (p budget left k : ℕ) : Type 0 where
-  pub kept : take width now ≡ take width stack
-  pub as-long : length now ≡ length stack
-  pub inside : k ≤ length places
+pub record TermsLeft {nodes bodies prices places stack : List ℕ} {width first count : ℕ} (e : Runnable nodes bodies prices places stack width first count)
+    (now : List ℕ) (p budget left k : ℕ) : Type 0 where
+  pub front : FrontKept stack now width
+  pub begun : first ≤ k
   pub later : List Terms
-  pub at : TermsAt (e .holds .all) (drop k places) later
+  pub inside : k + length later ≡ first + count
+  pub at : TermsFrom (e .holds .all) places k later
   pub valued : AllValued (e .defs) (e .funs) (e .point) later
   pub small : SmallTerms later
-  pub so-far : runTerms (e .defs) (e .funs) (e .point) later p k left ≡ runTerms (e .defs) (e .funs) (e .point) (e .terms) p 0 budget
+  pub so-far : runTerms (e .defs) (e .funs) (e .point) later p k left ≡ runTerms (e .defs) (e .funs) (e .point) (e .terms) p first budget
 
--- A term stands at the first node of a list, and others at the rest.
-pub record First (all : Terms) (i : ℕ) (places : List ℕ) (ts : List Terms) : Type 0 where
+-- A term stands at the node of number k, and others at those behind it.
+pub record First (all : Terms) (places : List ℕ) (k : ℕ) (ts : List Terms) : Type 0 where
   pub t : Terms
   pub others : List Terms
   pub is : ts ≡ t ∷ others
-  pub stands : TermStands all i t
-  pub at : TermsAt all places others
+  pub stands : TermStands all (getD places k 0) t
+  pub at : TermsFrom all places (k + 1) others
 
--- So it is where the list has a first node.
-first-at : (all : Terms) (i : ℕ) (places : List ℕ) (ts : List Terms) → TermsAt all (i ∷ places) ts → First all i places ts
-unfolding TermsAt
-first-at all i places [] h = absurd h
-first-at all i places (t ∷ ts) h = record { t = t; others = ts; is = refl; stands = h .0; at = h .1 }
+-- So it is where there is a term.
+first-at : (all : Terms) (places : List ℕ) (k : ℕ) (ts : List Terms) → 0 < length ts → TermsFrom all places k ts → First all places k ts
+unfolding TermsFrom
+first-at all places k [] l h = absurd (omega arith)
+first-at all places k (t ∷ ts) l h = record { t = t; others = ts; is = refl; stands = h .0; at = h .1 }
 
--- No terms stand at no nodes.
-none-left : (all : Terms) (ts : List Terms) → TermsAt all [] ts → ts ≡ []
-unfolding TermsAt
-none-left all [] h = refl
-none-left all (t ∷ ts) h = absurd h
+-- A list of no length has no terms.
+none-left : (ts : List Terms) → length ts ≡ 0 → ts ≡ []
+none-left [] h = refl
+none-left (t ∷ ts) h = absurd (omega arith)
 
-module _ {nodes bodies prices places stack : List ℕ} {width : ℕ} (e : Runnable nodes bodies prices places stack width) (p budget : ℕ) where
+-- The terms have room in the tables.
+pub turn-within : {nodes bodies prices places stack : List ℕ} {width first count : ℕ} → Runnable nodes bodies prices places stack width first count
+    → first + count ≤ statedTerms
+turn-within e = omega (arith, e .counted, e .placed .within)
+
+module _ {nodes bodies prices places stack : List ℕ} {width first count : ℕ} (e : Runnable nodes bodies prices places stack width first count)
+    (p budget : ℕ) where
   -- At the start all terms are.
-  pub terms-start : TermsLeft e stack p budget budget 0
+  pub terms-start : TermsLeft e stack p budget budget first
   terms-start =
       record {
-        kept = refl;
-        as-long = refl;
-        inside = omega arith;
+        front = record { kept = refl; as-long = refl };
+        begun = omega arith;
         later = e .terms;
-        at = e .terms-at;
+        inside = omega (arith, e .counted);
+        at = e .placed .at;
         valued = e .valued;
-        small = e .small;
+        small = e .placed .small;
         so-far = refl;
       }
 
   module _ {now : List ℕ} {left k : ℕ} (r : TermsLeft e now p budget left k) where
     -- Past the last term all are true.
-    pub terms-end : length places ≤ k → Passed left ≡ runTerms (e .defs) (e .funs) (e .point) (e .terms) p 0 budget
+    pub terms-end : first + count ≤ k → Passed left ≡ runTerms (e .defs) (e .funs) (e .point) (e .terms) p first budget
     unfolding runTerms
     terms-end h =
-        let last : k ≡ length places = omega (arith, r .inside) in
-        let nil : drop k places ≡ [] = ap (λ (n : ℕ). drop n places) last ∙ drop-length places in
-        let none-later : r .later ≡ [] = none-left (e .holds .all) (r .later) (rw nil at (r .at)) in
+        let none-later : r .later ≡ [] = none-left (r .later) (omega (arith, r .inside)) in
         rw none-later at (r .so-far)
 
-    module _ (h : k < length places) where
+    module _ (h : k < first + count) where
       -- Term k.
-      pub the-first : First (e .holds .all) (getD places k 0) (drop (k + 1) places) (r .later)
-      the-first = first-at _ _ _ _ (rw (drop-next places k h) at (r .at))
+      pub the-first : First (e .holds .all) places k (r .later)
+      the-first = first-at _ _ _ _ (omega (arith, r .inside)) (r .at)
 
       -- The values of term k and of those behind it.
       values : HasTruth (e .defs) (e .funs) (e .point) (the-first .t) × AllValued (e .defs) (e .funs) (e .point) (the-first .others)
@@ -100,11 +101,12 @@ module _ {nodes bodies prices places stack : List ℕ} {width : ℕ} (e : Runnab
 
       -- The stack has the values of its names.
       pub the-names : Names now 0 (e .point)
-      the-names = below-same (length (e .point)) 0 width now stack (omega (arith, e .under)) (r .kept) ∙ e .names
+      the-names =
+          below-same (length (e .point)) 0 width now stack (omega (arith, e .stands .under)) (r .front .kept) ∙ e .stands .names
 
       -- It has room for the term.
       pub the-room : Room now width (size (the-first .t)) (e .defs) (e .funs)
-      the-room = omega (arith, e .room, r .as-long, smalls .0)
+      the-room = omega (arith, e .stands .room, r .front .as-long, smalls .0)
 
       -- It has a value.
       pub the-value : HasTruth (e .defs) (e .funs) (e .point) (the-first .t)
@@ -116,11 +118,15 @@ module _ {nodes bodies prices places stack : List ℕ} {width : ℕ} (e : Runnab
 
       -- What is held of its cost.
       price-is : getD prices k 0 ≡ held (costOf (e .defs) (e .funs) (the-first .t))
-      price-is = e .priced k h (the-first .t) (the-first .stands) the-calls
+      price-is = e .priced k (r .begun) h (the-first .t) (the-first .stands) the-calls
 
       -- It costs something.
       some-cost : 1 ≤ costOf (e .defs) (e .funs) (the-first .t)
       some-cost = rw (the-first .stands .is) (cost-some _ _ _ _)
+
+      -- There are as many behind it.
+      others-inside : k + 1 + length (the-first .others) ≡ first + count
+      others-inside = let more : length (r .later) ≡ suc (length (the-first .others)) = ap length (the-first .is) in omega (arith, r .inside)
 
       -- What running it finds.
       abbrev found : Ran
@@ -130,12 +136,12 @@ module _ {nodes bodies prices places stack : List ℕ} {width : ℕ} (e : Runnab
           cond (leb cost left) (cond (isTrue (valuesAt (e .defs) (e .funs) (e .point) (the-first .t))) later (False p k (left - cost))) (Ended p k left)
 
       -- It is what was to be run.
-      found-is : found ≡ runTerms (e .defs) (e .funs) (e .point) (e .terms) p 0 budget
+      found-is : found ≡ runTerms (e .defs) (e .funs) (e .point) (e .terms) p first budget
       unfolding runTerms
       found-is = rw (the-first .is) at (r .so-far)
 
       -- One whose cost exceeds what is left isn't begun.
-      pub term-ended : left ≤ getD prices k 0 → Ended p k left ≡ runTerms (e .defs) (e .funs) (e .point) (e .terms) p 0 budget
+      pub term-ended : left ≤ getD prices k 0 → Ended p k left ≡ runTerms (e .defs) (e .funs) (e .point) (e .terms) p first budget
       term-ended q =
           let dear : left < costOf (e .defs) (e .funs) (the-first .t) = omega (arith, price-is, some-cost) in
           rw (lt-leb _ left dear) at found-is
@@ -154,8 +160,8 @@ module _ {nodes bodies prices places stack : List ℕ} {width : ℕ} (e : Runnab
               holds = e .holds;
               point = e .point;
               names = the-names;
-              under = omega (arith, e .under);
-              fits = e .fits;
+              under = omega (arith, e .stands .under);
+              fits = e .stands .fits;
               t = the-first .t;
               stands = the-first .stands;
               v = the-value .v;
@@ -174,22 +180,22 @@ module _ {nodes bodies prices places stack : List ℕ} {width : ℕ} (e : Runnab
           unfolding isTrue
           truth = rw (the-value .is, the-value .truth, got term-evaluable .is)
 
-          -- The stack is as long as before.
-          pub next-long : length next ≡ length stack
-          next-long = got term-evaluable .as-long ∙ r .as-long
+          -- The stack has the point's values as before.
+          pub next-front : FrontKept stack next width
+          next-front = record { kept = got term-evaluable .kept ∙ r .front .kept; as-long = got term-evaluable .as-long ∙ r .front .as-long }
 
           -- A false one ends the work, and is counted.
-          pub term-false : (v .number ≡ 1 → ⊥) → False p k (left - getD prices k 0 - 1) ≡ runTerms (e .defs) (e .funs) (e .point) (e .terms) p 0 budget
+          pub term-false : (v .number ≡ 1 → ⊥) → False p k (left - getD prices k 0 - 1) ≡ runTerms (e .defs) (e .funs) (e .point) (e .terms) p first budget
           term-false q = rw after (rw (le-leb _ left within-budget, truth ∙ ne-eqb (v .number) 1 q) at found-is)
 
           -- Past a true one the terms behind it are run.
           pub term-true : v .number ≡ 1 → TermsLeft e next p budget (left - getD prices k 0 - 1) (k + 1)
           term-true q =
               record {
-                kept = got term-evaluable .kept ∙ r .kept;
-                as-long = next-long;
-                inside = omega arith;
+                front = next-front;
+                begun = omega (arith, r .begun);
                 later = the-first .others;
+                inside = others-inside;
                 at = the-first .at;
                 valued = values .1;
                 small = smalls .1;

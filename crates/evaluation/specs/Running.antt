@@ -1,5 +1,5 @@
 -- The evaluation: "for each point, each constraint in script order; the first false one ends the work with answer 14. One whose cost exceeds
--- what the budget has left isn't begun."
+-- what the budget has left isn't begun."; and before the constraints of a point its assumptions (E1).
 use Prim.Native.Nat.{ℕ, zero, suc, _+_, _-_}
 use mathlib.Core.Bool.{Bool, true, false, cond, _&&_}
 use Rattle.operators.specs.Sorts.{bool}
@@ -12,8 +12,10 @@ use Rattle.terms.specs.Sorts.{Definition}
 use Rattle.terms.specs.Values.{valuesAt}
 use Rattle.terms.specs.declared.Value.{Value}
 use Rattle.evaluation.specs.Points.{pointAt}
+use Rattle.forest.specs.Limits.{firstAssumption}
 use Rattle.evaluation.specs.declared.Ran.{Ran}
 use Rattle.evaluation.specs.declared.Ran.the-variants.{Passed, False, Ended}
+use Rattle.evaluation.specs.declared.Run.{Run}
 
 -- Whether a term's value is true: it has one value, which is the Bool 1.
 unfoldable pub isTrue : Option (List Value) → Bool
@@ -43,10 +45,28 @@ allPassed (Passed left) = true
 allPassed (False p k left) = false
 allPassed (Ended p k left) = false
 
--- The terms at n points more, from point p on.
-unfoldable pub runPoints : (defs funs : List Definition) → (sorts numbers : List ℕ) → List Terms → (n p left : ℕ) → Ran
-runPoints defs funs sorts numbers terms zero p left = Passed left
-runPoints defs funs sorts numbers terms (suc n) p left =
-    let here = runTerms defs funs (pointAt sorts numbers p) terms p 0 left in
-    let later = runPoints defs funs sorts numbers terms n (p + 1) (leftOf here) in
-    cond (allPassed here) later here
+-- What a false assumption leaves: it "skips the point's constraints" (E1), and the run goes on.
+abbrev pub skipping : Ran → Ran
+skipping (Passed left) = Passed left
+skipping (False p k left) = Passed left
+skipping (Ended p k left) = Ended p k left
+
+-- A run that ends with `ran`, where all assumptions held at so many points.
+abbrev pub run : (held : ℕ) → Ran → Run
+run held ran = record { held = held; ran = ran }
+
+-- A point. "At each point the assumptions are evaluated first, in script order, up to the first false one, which skips the point's constraints." "Answer 15
+-- numbers assumptions from 64." (E1)
+unfoldable pub runPoint : (defs funs : List Definition) → (point : List Value) → (assumptions constraints : List Terms) → (p left : ℕ) → Run
+runPoint defs funs point assumptions constraints p left =
+    let assumed = runTerms defs funs point assumptions p firstAssumption left in
+    let here = runTerms defs funs point constraints p 0 (leftOf assumed) in
+    cond (allPassed assumed) (run 1 here) (run 0 (skipping assumed))
+
+-- The terms at n points more, from point p on; all assumptions held at `held` points before it.
+unfoldable pub runPoints : (defs funs : List Definition) → (sorts numbers : List ℕ) → (assumptions constraints : List Terms) → (n p held left : ℕ) → Run
+runPoints defs funs sorts numbers assumptions constraints zero p held left = run held (Passed left)
+runPoints defs funs sorts numbers assumptions constraints (suc n) p held left =
+    let here = runPoint defs funs (pointAt sorts numbers p) assumptions constraints p left in
+    let later = runPoints defs funs sorts numbers assumptions constraints n (p + 1) (held + here .held) (leftOf (here .ran)) in
+    cond (allPassed (here .ran)) later (run (held + here .held) (here .ran))

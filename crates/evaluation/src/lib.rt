@@ -18,3 +18,28 @@ pub enum Ran {
     False(usize, usize, u64),
     Ended(usize, usize, u64),
 }
+
+// What a run over points finds, and at how many of them all assumptions held.
+pub struct Run {
+    pub held: usize,
+    pub ran: Ran,
+}
+
+// How many constraints and assumptions there are.
+pub struct Stated {
+    pub constraints: usize,
+    pub assumptions: usize,
+}
+
+// A point, by its number, at which constraints and assumptions are run.
+struct Visit {
+    point: usize,
+    stated: Stated,
+}
+
+// The terms of a turn: from number `first` on, `count` of them, at a point.
+struct Turn {
+    point: usize,
+    first: usize,
+    count: usize,
+}

@@ -37,6 +37,14 @@ mostVariables = 16
 abbrev pub mostConstraints : ℕ
 mostConstraints = 64
 
+-- "up to 32 of them" (E1): assumptions
+abbrev pub mostAssumptions : ℕ
+mostAssumptions = 32
+
+-- "Answer 15 numbers assumptions from 64." (E1)
+abbrev pub firstAssumption : ℕ
+firstAssumption = 64
+
 -- "8 arguments"
 abbrev pub mostArguments : ℕ
 mostArguments = 8
@@ -71,18 +79,20 @@ pub record Counts : Type 0 where
   pub defined : ℕ
   pub variables : ℕ
   pub constraints : ℕ
+  pub assumptions : ℕ
   pub arguments : ℕ
   pub nonTerminals : ℕ
   pub rules : ℕ
   pub nodes : ℕ
 
--- Document 01's numbers.
+-- Document 01's numbers, and that of E1.
 abbrev pub allowed : Counts
 allowed = record {
   functions = mostFunctions;
   defined = mostDefined;
   variables = mostVariables;
   constraints = mostConstraints;
+  assumptions = mostAssumptions;
   arguments = mostArguments;
   nonTerminals = mostNonTerminals;
   rules = mostRules;

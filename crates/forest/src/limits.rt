@@ -13,7 +13,7 @@ pub const RESPONSE_WORDS: usize = 2048;
 // How many lists may stand within one another.
 pub const NESTING: usize = 64;
 
-// How many synthesized functions, `define-fun`s, variables and constraints a script may have.
+// How many synthesized functions, `define-fun`s, variables, constraints and assumptions a script may have.
 pub const FUNCTIONS: usize = 8;
 
 pub const DEFINED: usize = 32;
@@ -21,6 +21,11 @@ pub const DEFINED: usize = 32;
 pub const VARIABLES: usize = 16;
 
 pub const CONSTRAINTS: usize = 64;
+
+pub const ASSUMPTIONS: usize = 32;
+
+// The number of the first assumption, behind those of constraints.
+pub const FIRST_ASSUMPTION: usize = 64;
 
 // How many arguments a function may have.
 pub const ARGUMENTS: usize = 8;
@@ -30,7 +35,7 @@ pub const NON_TERMINALS: usize = 16;
 
 pub const RULES: usize = 128;
 
-// How many nodes a body, a constraint or a rule may have.
+// How many nodes a body, a constraint, an assumption or a rule may have.
 pub const NODES: usize = 256;
 
 // How many numbers a list of points may have.

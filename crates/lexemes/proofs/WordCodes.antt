@@ -4,18 +4,18 @@ use mathlib.Core.List.{[], _∷_, map}
 use lib.ListN.{length}
 use Rattle.operators.specs.Operators.{operators}
 use Rattle.lexemes.specs.code.Reserved.{knownWords}
-use Rattle.lexemes.specs.code.Codes.{bangCode, bitVecCode, boolCode, bvCode, checkSynthCode, constantCode, constraintCode, declareVarCode, defineFunCode}
-use Rattle.lexemes.specs.code.Codes.{existsCode, extractCode, failCode, falseCode, firstOperatorCode, forallCode, infeasibleCode, letCode}
+use Rattle.lexemes.specs.code.Codes.{assumeCode, bangCode, bitVecCode, boolCode, bvCode, checkSynthCode, constantCode, constraintCode, declareVarCode}
+use Rattle.lexemes.specs.code.Codes.{defineFunCode, existsCode, extractCode, failCode, falseCode, firstOperatorCode, forallCode, infeasibleCode, letCode}
 use Rattle.lexemes.specs.code.Codes.{otherCommandCode, setLogicCode, synthFunCode, trueCode, underscoreCode, variableCode, knownCount, wordsBefore}
 use Rattle.lexemes.proofs.ByCode.{codeFor}
 use Rattle.lexemes.proofs.WordNumbers.{firstWords}
 
 -- each code is that of its word
 pub codes-are : map codeFor
-    ("BV" ∷ "fail" ∷ "infeasible" ∷ "set-logic" ∷ "declare-var" ∷ "define-fun" ∷ "synth-fun" ∷ "constraint" ∷ "check-synth" ∷ "assume"
+    ("BV" ∷ "fail" ∷ "infeasible" ∷ "set-logic" ∷ "declare-var" ∷ "define-fun" ∷ "synth-fun" ∷ "constraint" ∷ "check-synth" ∷ "assume" ∷ "chc-constraint"
     ∷ "true" ∷ "false" ∷ "Bool" ∷ "BitVec" ∷ "_" ∷ "!" ∷ "let" ∷ "exists" ∷ "forall" ∷ "Constant" ∷ "Variable" ∷ "not" ∷ "extract" ∷ [])
-    ≡ bvCode ∷ failCode ∷ infeasibleCode ∷ setLogicCode ∷ declareVarCode ∷ defineFunCode ∷ synthFunCode ∷ constraintCode ∷ checkSynthCode ∷ otherCommandCode
-    ∷ trueCode ∷ falseCode ∷ boolCode ∷ bitVecCode ∷ underscoreCode ∷ bangCode ∷ letCode ∷ existsCode ∷ forallCode ∷ constantCode ∷ variableCode
+    ≡ bvCode ∷ failCode ∷ infeasibleCode ∷ setLogicCode ∷ declareVarCode ∷ defineFunCode ∷ synthFunCode ∷ constraintCode ∷ checkSynthCode ∷ assumeCode
+    ∷ otherCommandCode ∷ trueCode ∷ falseCode ∷ boolCode ∷ bitVecCode ∷ underscoreCode ∷ bangCode ∷ letCode ∷ existsCode ∷ forallCode ∷ constantCode ∷ variableCode
     ∷ firstOperatorCode ∷ extractCode ∷ []
 unfolding codeFor
 codes-are = refl

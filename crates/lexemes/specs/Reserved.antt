@@ -7,15 +7,14 @@ use Rattle.forest.specs.Lists.{sameBytes, spelling}
 use Rattle.operators.specs.Operators.{Operator, operators}
 
 -- The commands that are carried: "`(set-logic BV)` first and once; then `declare-var`, `define-fun`, `synth-fun` with grammar, `constraint`; `(check-synth)`
--- last".
+-- last"; "`assume`. Carry it" (E1).
 abbrev pub carriedCommands : List String
-carriedCommands = "set-logic" ∷ "declare-var" ∷ "define-fun" ∷ "synth-fun" ∷ "constraint" ∷ "check-synth" ∷ []
+carriedCommands = "set-logic" ∷ "declare-var" ∷ "define-fun" ∷ "synth-fun" ∷ "constraint" ∷ "check-synth" ∷ "assume" ∷ []
 
 -- "Other 2.1 commands": the rest of document 000's section 2.9.
 abbrev pub otherCommands : List String
 otherCommands =
-    "assume"
-    ∷ "chc-constraint"
+    "chc-constraint"
     ∷ "declare-weight"
     ∷ "inv-constraint"
     ∷ "optimize-synth"

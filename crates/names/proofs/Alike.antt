@@ -9,7 +9,7 @@ use lib.Dec.{eqb, ltb}
 use lib.ListN.{getD}
 use Rattle.forest.proofs.Bools.{apart}
 use Rattle.forest.proofs.Options.{never}
-use Rattle.forest.proofs.Searching.{place-later}
+use Rattle.forest.proofs.Searching.{place-later, same-bytes}
 use Rattle.forest.specs.Lists.{sameBytes, spelling}
 use Rattle.forest.specs.Search.{placeIn}
 use Rattle.operators.specs.Operators.{operatorCount, operatorOf, operators}
@@ -17,7 +17,6 @@ use Rattle.operators.proofs.Naming.{named-spellings, spellings}
 use Rattle.terms.specs.Labels.{Label, defined, function, literal, name, operator}
 use Rattle.derivation.specs.Derivation.{Item, anyArgument, anyLiteral, nonTerminal, the}
 use Rattle.lexemes.specs.Reserved.{isWord}
-use Rattle.forest.proofs.Searching.{same-bytes}
 use Rattle.names.specs.Scopes.{Defined, Function, Named, View, definedNames, functionNames, inOrder, isNamed, namesOf, symbolMeans}
 use Rattle.names.proofs.Lookup.{named-by-place, named-in-order}
 

@@ -17,13 +17,13 @@ use Rattle.outcome.specs.Derived.{Derived, termsOf}
 use Rattle.outcome.specs.Evaluated.{ranOutcome, ranWith}
 use Rattle.outcome.specs.declared.Outcome.{Outcome}
 use Rattle.outcome.proofs.Deriving.{not-derived, shown-derived}
-use Rattle.outcome.proofs.Stages.{missized-one, not-showing, of-passing, ran-showing, response-number, script-number, sized-area}
+use Rattle.outcome.proofs.Stages.{missized-one, not-showing, of-passing, response-number, run-showing, script-number, sized-area}
 
 -- A run does not end in 13.
-ran-other : (n budget : ℕ) (ran : Ran) → ranOutcome n budget ran .number ≡ 13 → ⊥
-ran-other n budget (Passed left) = omega arith
-ran-other n budget (False point constraint left) = omega arith
-ran-other n budget (Ended point constraint left) = omega arith
+ran-other : (budget held : ℕ) (ran : Ran) → ranOutcome budget held ran .number ≡ 13 → ⊥
+ran-other budget held (Passed left) = omega arith
+ran-other budget held (False point constraint left) = omega arith
+ran-other budget held (Ended point term left) = omega arith
 
 -- The bodies that a verdict is on: either each has a derivation, and the verdict passes the grammar check; or not each has one, and it is 13.
 pub data Split (k : Known) (bs : List Body) (o : Outcome) : Type 0 where
@@ -36,7 +36,7 @@ pub split : {response : List ℕ} {k : Known} {bs : List Body} {points : List �
 split (underived u) = not-all (not-derived u) refl
 split (points-refused s e) = derived (shown-derived s) bad-points
 split {k = k} {bs} {points} {budget} (evaluated {n = n} s e) =
-    derived (shown-derived s) (showing (ran-showing n budget (ranWith k (termsOf bs) points n budget)))
+    derived (shown-derived s) (showing (run-showing budget (ranWith k (termsOf bs) points n budget)))
 
 -- Where each body has a derivation, the verdict passes the grammar check.
 passes : {k : Known} {bs : List Body} {o : Outcome} → Split k bs o → Derived (inScriptOrder (k .functions)) (termsOf bs) → GrammarPassed (o .number)
@@ -79,7 +79,8 @@ named (judged {k = k} {bs = bs} p (underived {b = b} u)) is =
     record { k = k; bs = bs; b = b; passing = p; first = u; place = refl; none-derived = not-derived u }
 named (judged p (points-refused s e)) is = absurd (omega arith)
 named {points = points} {budget} (judged {k = k} {bs = bs} p (evaluated {n = n} s e)) is =
-    absurd (ran-other n budget (ranWith k (termsOf bs) points n budget) is)
+    let r = ranWith k (termsOf bs) points n budget in
+    absurd (ran-other budget (r .held) (r .ran) is)
 
 -- "Within the stated limits, a well-sorted response passes the grammar check exactly when each body has a derivation from its function's grammar .. "No
 -- derivation" is said only when none of any length exists."
@@ -110,7 +111,7 @@ shown-derives {script} {response} {points} {area = area} (judged p (underived u)
 shown-derives {script} {response} {points} {area = area} (judged p (points-refused s e)) =
     shows-none (not-showing (omega arith)) (sym (sized-area script response points area (p .sized)))
 shown-derives {points = points} {budget} (judged {k = k} {bs = bs} p (evaluated {lists = lists} {n = n} s e)) =
-    shows (ran-showing n budget (ranWith k (termsOf bs) points n budget)) (record { k = k; bs = bs; lists = lists; passing = p; shown = s; is = refl })
+    shows (run-showing budget (ranWith k (termsOf bs) points n budget)) (record { k = k; bs = bs; lists = lists; passing = p; shown = s; is = refl })
 
 -- Of derived bodies and points that pass the answer is 0, 14 or 15.
 pub verdict-showing : {response : List ℕ} {k : Known} {bs : List Body} {points : List ℕ} {budget n : ℕ} {o : Outcome} {a : List ℕ}
@@ -118,7 +119,7 @@ pub verdict-showing : {response : List ℕ} {k : Known} {bs : List Body} {points
     → Judgement response k bs points budget o a → Showing (o .number)
 verdict-showing d good (underived u) = absurd (not-derived u d)
 verdict-showing d good (points-refused s e) = let z : _≡_ {A = ℕ} 0 1 = cc in absurd (omega arith)
-verdict-showing {k = k} {bs} {points} {budget} d good (evaluated {n = n} s e) = ran-showing n budget (ranWith k (termsOf bs) points n budget)
+verdict-showing {k = k} {bs} {points} {budget} d good (evaluated {n = n} s e) = run-showing budget (ranWith k (termsOf bs) points n budget)
 
 -- The derivations that an area shows, after one of the three.
 shown-there : {script response points area : List ℕ} {o : Outcome} {a : List ℕ} → Showing (o .number) → AreaStated script response points area o a

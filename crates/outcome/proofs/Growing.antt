@@ -49,25 +49,30 @@ rules-more d defs (f ∷ others) before all =
     record { start = s .start; heads = s .heads; rules = λ r h. rw (← e) (s .rules r h); arguments = s .arguments } in
     (first, rules-more d defs others (before .1) (all .1))
 
--- Constraints that are Bool, and one more.
-bool-more : (scope : Scope) (ts : List Terms) (t : Terms) → AllBool scope ts → termSorts scope t ≡ some (0 ∷ []) → AllBool scope (ts ++ t ∷ [])
+-- Terms that are Bool, and one more.
+pub bool-more : (scope : Scope) (ts : List Terms) (t : Terms) → AllBool scope ts → termSorts scope t ≡ some (0 ∷ []) → AllBool scope (ts ++ t ∷ [])
 unfolding AllBool
 bool-more scope [] t all h = (h, tt)
 bool-more scope (u ∷ more) t all h = (all .0, bool-more scope more t (all .1) h)
 
 module _ (k : Known) (logic ended : Bool) (sound : Sound k) where
-  -- No more is said.
-  pub the-same : Sound (record {
-    logic = logic;
-    ended = ended;
-    variables = k .variables;
-    defined = k .defined;
-    functions = k .functions;
-    constraints = k .constraints;
-  })
-  the-same =
+  -- Constraints and assumptions are said, which are Bool.
+  pub with-stated : (constraints assumptions : List Terms) → AllBool (scopeOf (constraintView k) .terms) constraints
+      → AllBool (scopeOf (constraintView k) .terms) assumptions → Sound (record {
+        logic = logic;
+        ended = ended;
+        variables = k .variables;
+        defined = k .defined;
+        functions = k .functions;
+        constraints = constraints;
+        assumptions = assumptions;
+      })
+  with-stated constraints assumptions constrained assumed =
       let s = sound .sorted in
-      record { sorted = record { bodies = s .bodies; functions = s .functions; constraints = s .constraints }; before = sound .before }
+      record {
+        sorted = record { bodies = s .bodies; functions = s .functions; constraints = constrained; assumptions = assumed };
+        before = sound .before;
+      }
 
   -- A variable more is declared.
   pub with-variable : (v : Named) → Sound (record {
@@ -77,16 +82,18 @@ module _ (k : Known) (logic ended : Bool) (sound : Sound k) where
     defined = k .defined;
     functions = k .functions;
     constraints = k .constraints;
+    assumptions = k .assumptions;
   })
   with-variable v =
       let s = sound .sorted in
-      let scope = scopeOf (constraintView k) .terms in
-      let wider = wider-names scope (v .sort) in
+      let wider = wider-names (scopeOf (constraintView k) .terms) (v .sort) in
+      let sorts = map-append (λ (n : Named). n .sort) (k .variables) (v ∷ []) in
       record {
         sorted = record {
           bodies = s .bodies;
           functions = s .functions;
-          constraints = rw (map-append (λ (n : Named). n .sort) (k .variables) (v ∷ [])) (bool-wider wider (k .constraints) (s .constraints));
+          constraints = rw sorts (bool-wider wider (k .constraints) (s .constraints));
+          assumptions = rw sorts (bool-wider wider (k .assumptions) (s .assumptions));
         };
         before = sound .before;
       }
@@ -99,6 +106,7 @@ module _ (k : Known) (logic ended : Bool) (sound : Sound k) where
     defined = d ∷ k .defined;
     functions = k .functions;
     constraints = k .constraints;
+    assumptions = k .assumptions;
   })
   unfolding AllSorted
   with-definition d h =
@@ -109,6 +117,7 @@ module _ (k : Known) (logic ended : Bool) (sound : Sound k) where
           bodies = (h, s .bodies);
           functions = rules-more d (k .defined) (k .functions) (sound .before) (s .functions);
           constraints = bool-wider wider (k .constraints) (s .constraints);
+          assumptions = bool-wider wider (k .assumptions) (s .assumptions);
         };
         before = before-more (length (k .defined)) (k .functions) (sound .before);
       }
@@ -121,26 +130,18 @@ module _ (k : Known) (logic ended : Bool) (sound : Sound k) where
     defined = k .defined;
     functions = f ∷ k .functions;
     constraints = k .constraints;
+    assumptions = k .assumptions;
   })
   unfolding AllBefore AllRulesSorted
   with-function f b h =
       let s = sound .sorted in
       let wider = wider-functions (scopeOf (constraintView k) .terms) (signatureOf f) in
       record {
-        sorted = record { bodies = s .bodies; functions = (h, s .functions); constraints = bool-wider wider (k .constraints) (s .constraints) };
+        sorted = record {
+          bodies = s .bodies;
+          functions = (h, s .functions);
+          constraints = bool-wider wider (k .constraints) (s .constraints);
+          assumptions = bool-wider wider (k .assumptions) (s .assumptions);
+        };
         before = (b, sound .before);
       }
-
-  -- A constraint more is read, which is Bool.
-  pub with-constraint : (t : Terms) → termSorts (scopeOf (constraintView k) .terms) t ≡ some (0 ∷ []) → Sound (record {
-    logic = logic;
-    ended = ended;
-    variables = k .variables;
-    defined = k .defined;
-    functions = k .functions;
-    constraints = k .constraints ++ t ∷ [];
-  })
-  with-constraint t h =
-      let s = sound .sorted in
-      let all = bool-more (scopeOf (constraintView k) .terms) (k .constraints) t (s .constraints) h in
-      record { sorted = record { bodies = s .bodies; functions = s .functions; constraints = all }; before = sound .before }

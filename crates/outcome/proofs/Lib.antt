@@ -12,6 +12,8 @@ pub mod Deriving
 pub mod Elsewhere
 pub mod Exact
 pub mod Unique
+pub mod Sums
+pub mod Assumed
 pub mod Runs
 pub mod Units
 pub mod Table

@@ -24,7 +24,7 @@ by-commands : (text : List ℕ) (read : Read) {k : Known} → byCommands text re
 by-commands text (refused number place) e = not-said e
 by-commands text (passed k) e = cc
 
--- Every rule, body and constraint of a script that passes has its sort.
+-- Every rule, body, constraint and assumption of a script that passes has its sort.
 pub script-sorted : (text : List ℕ) {k : Known} → scriptOutcome text ≡ said k → Sorted k
 unfolding scriptOutcome
 script-sorted text {k} e = go (readingOf scriptLimits text) refl e

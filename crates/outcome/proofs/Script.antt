@@ -22,7 +22,7 @@ use Rattle.names.proofs.PairNames.{named-long}
 use Rattle.script.proofs.Within.{items-few, past-neither, past-none}
 use Rattle.outcome.specs.Sorted.{grammarScope}
 use Rattle.outcome.specs.code.Sorted.{AllRulesSorted, RulesSorted}
-use Rattle.outcome.proofs.OneCommand.{Command, Tests, another, command, constraining, declaring, defining, synthesizing}
+use Rattle.outcome.proofs.OneCommand.{Command, Tests, another, assuming, command, constraining, declaring, defining, synthesizing}
 use Rattle.outcome.proofs.Rules.{groups-placed}
 use Rattle.script.specs.Outcome.{said, scriptOutcome}
 use Rattle.script.proofs.Keeping.{script-keeps}
@@ -70,7 +70,7 @@ all-admitted defs (f ∷ others) sorted limited = (limited-admitted (sorted .0) 
 module _ {nowhere : ℕ} (k : Known) (at : ℕ) (c : Items) (some-word : 0 < nowhere) (below : Below nowhere c)
     (limited : nowhere ≤ limitPlace allowed nowhere k at c) (within : Within k) where
   -- After a `synth-fun`.
-  after-function : Tests c false false true false → Within (knownAfter k c)
+  after-function : Tests c false false true false false → Within (knownAfter k c)
   unfolding AllLimited knownAfter limitPlace
   after-function t =
       let fits = rw (t .declares, t .defines, t .synthesizes) at limited in
@@ -82,7 +82,7 @@ module _ {nowhere : ℕ} (k : Known) (at : ℕ) (c : Items) (some-word : 0 < now
       let listed = past-neither (rulePast nowhere mostRules (rulesIn 0 groups)) _ (parts .2) in
       let few = items-few nowhere mostNonTerminals pairs some-word (inside-below nowhere 4 c below) (parts .0) in
       let placed = groups-placed {most = count groups} 0 groups (omega arith) in-groups in
-      rw (t .declares, t .defines, t .synthesizes, t .constrains)
+      rw (t .declares, t .defines, t .synthesizes, t .constrains, t .assumes)
       (record {
         functions = (
           record {
@@ -95,7 +95,7 @@ module _ {nowhere : ℕ} (k : Known) (at : ℕ) (c : Items) (some-word : 0 < now
       })
 
   -- After another command.
-  after-other : {declared defined constrained : Bool} → Tests c declared defined false constrained → Within (knownAfter k c)
+  after-other : {declared defined constrained assumed : Bool} → Tests c declared defined false constrained assumed → Within (knownAfter k c)
   unfolding knownAfter
   after-other t = rw (t .synthesizes) (record { functions = within .functions })
 
@@ -105,6 +105,7 @@ module _ {nowhere : ℕ} (k : Known) (at : ℕ) (c : Items) (some-word : 0 < now
   after-command (synthesizing t) = after-function t
   after-command (defining t) = after-other t
   after-command (constraining t) = after-other t
+  after-command (assuming t) = after-other t
   after-command (another t) = after-other t
 
 -- A script that passes has its sorts, its grammars are those that document 01 admits, its variables are at most 64 wide, and its terms have few nodes.

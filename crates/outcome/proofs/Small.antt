@@ -19,13 +19,13 @@ module _ {script response points area : List ℕ} where
 
   -- A row has a number to 16, and speaks of one of the four texts.
   row-small : {o : Outcome} → AnswerRow script response points area o → (o .number ≤ 16) × (o .text ≤ 3)
-  row-small (accepted s e) = omega arith
+  row-small (accepted s e h) = omega arith
   row-small (too-long is) = omega (arith, four is)
   row-small (of-script r) = let h = script-row-number r in omega arith
   row-small (of-response r) = let h = response-row-number r in omega arith
   row-small (no-derivation s a h) = omega arith
   row-small (constraint-false s n) = omega arith
-  row-small (budget-ended s n) = omega arith
+  row-small (budget-ended s e h n) = omega arith
   row-small (bad-points s e h) = omega arith
 
 -- "one answer from the table in document 01": a number to 16, of one of "0 script, 1 response, 2 points, 3 none or the area".

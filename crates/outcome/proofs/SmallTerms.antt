@@ -1,5 +1,5 @@
--- The bodies of `define-fun`s and the constraints of a script that passes have at most 256 nodes each.
-use Prim.Native.Nat.{ℕ, _≤_, _<_}
+-- The bodies of `define-fun`s, the constraints and the assumptions of a script that passes have at most 256 nodes each.
+use Prim.Native.Nat.{ℕ, min, _≤_, _<_}
 use mathlib.Core.Bool.{Bool, true, false}
 use mathlib.Core.List.{List, [], _∷_, _++_}
 use mathlib.Core.Path.{_≡_, refl}
@@ -23,7 +23,7 @@ use Rattle.evaluation.specs.code.Tables.{SmallBodies}
 use Rattle.outcome.specs.code.Assured.{FewNodes}
 use Rattle.outcome.proofs.BodiesPromised.{body-sorted}
 use Rattle.outcome.proofs.Nodes.{few-nodes}
-use Rattle.outcome.proofs.OneCommand.{Command, Tests, another, command, constraining, declaring, defining, synthesizing}
+use Rattle.outcome.proofs.OneCommand.{Command, Tests, another, assuming, command, constraining, declaring, defining, synthesizing}
 
 -- One term more.
 small-more : (ts : List Terms) (t : Terms) → SmallTerms ts → size t ≤ mostNodes → SmallTerms (ts ++ t ∷ [])
@@ -43,7 +43,7 @@ module _ {nowhere : ℕ} (k : Known) (at : ℕ) (c : Items) (some-word : 0 < now
       few-nodes view (scopeOf view .terms) mostNodes (item i c) (inside i c) first (inside-below nowhere i c below) closed sort past
 
   -- After a `define-fun`.
-  after-definition : Tests c false true false false → FewNodes (knownAfter k c)
+  after-definition : Tests c false true false false false → FewNodes (knownAfter k c)
   unfolding SmallBodies knownAfter limitPlace sortingPlace
   after-definition t =
       let past = rw (t .declares, t .defines) at limited in
@@ -51,23 +51,40 @@ module _ {nowhere : ℕ} (k : Known) (at : ℕ) (c : Items) (some-word : 0 < now
       let faults = past-neither (headerPlace Empty nowhere c) _ fault in
       let limits = past-none _ (headerPast allowed nowhere c) (nodePast allowed nowhere (item 4 c) (inside 4 c)) past in
       let body = item-small (bodyView k (argumentsOf c)) (sortOf (item 3 c) (inside 3 c)) 4 refl (limits .2) (faults .1) in
-      rw (t .declares, t .defines, t .synthesizes, t .constrains) (record { bodies = (body, few .bodies); constraints = few .constraints })
+      rw (t .declares, t .defines, t .synthesizes, t .constrains, t .assumes)
+      (record { bodies = (body, few .bodies); constraints = few .constraints; assumptions = few .assumptions })
+
+  -- The term that a `constraint` or an `assume` states, behind small terms.
+  stated-small : (past : ℕ) → nowhere ≤ min past (nodePast allowed nowhere (item 1 c) (inside 1 c))
+      → nowhere ≤ bodyFault nowhere (constraintView k) 0 (item 1 c) (inside 1 c) → (ts : List Terms) → SmallTerms ts
+      → SmallTerms (ts ++ termOf (constraintView k) (item 1 c) (inside 1 c) ∷ [])
+  stated-small past within fault ts all =
+      let limits = past-neither past (nodePast allowed nowhere (item 1 c) (inside 1 c)) within in
+      small-more ts _ all (item-small (constraintView k) 0 1 refl (limits .1) fault)
 
   -- After a `constraint`.
-  after-constraint : Tests c false false false true → FewNodes (knownAfter k c)
+  after-constraint : Tests c false false false true false → FewNodes (knownAfter k c)
   unfolding knownAfter limitPlace sortingPlace
   after-constraint t =
       let past = rw (t .declares, t .defines, t .synthesizes, t .constrains) at limited in
       let fault = rw (t .declares, t .defines, t .synthesizes, t .constrains) at sorted in
-      let limits = past-neither _ (nodePast allowed nowhere (item 1 c) (inside 1 c)) past in
-      let term = item-small (constraintView k) 0 1 refl (limits .1) fault in
-      rw (t .declares, t .defines, t .synthesizes, t .constrains)
-      (record { bodies = few .bodies; constraints = small-more (k .constraints) _ (few .constraints) term })
+      rw (t .declares, t .defines, t .synthesizes, t .constrains, t .assumes)
+      (record { bodies = few .bodies; constraints = stated-small _ past fault (k .constraints) (few .constraints); assumptions = few .assumptions })
+
+  -- After an `assume`.
+  after-assumption : Tests c false false false false true → FewNodes (knownAfter k c)
+  unfolding knownAfter limitPlace sortingPlace
+  after-assumption t =
+      let past = rw (t .declares, t .defines, t .synthesizes, t .constrains, t .assumes) at limited in
+      let fault = rw (t .declares, t .defines, t .synthesizes, t .constrains, t .assumes) at sorted in
+      rw (t .declares, t .defines, t .synthesizes, t .constrains, t .assumes)
+      (record { bodies = few .bodies; constraints = few .constraints; assumptions = stated-small _ past fault (k .assumptions) (few .assumptions) })
 
   -- After another command.
-  after-other : {declared synthesized : Bool} → Tests c declared false synthesized false → FewNodes (knownAfter k c)
+  after-other : {declared synthesized : Bool} → Tests c declared false synthesized false false → FewNodes (knownAfter k c)
   unfolding knownAfter
-  after-other t = rw (t .defines, t .constrains) (record { bodies = few .bodies; constraints = few .constraints })
+  after-other t =
+      rw (t .defines, t .constrains, t .assumes) (record { bodies = few .bodies; constraints = few .constraints; assumptions = few .assumptions })
 
   -- After any command.
   after-command : Command c → FewNodes (knownAfter k c)
@@ -75,11 +92,12 @@ module _ {nowhere : ℕ} (k : Known) (at : ℕ) (c : Items) (some-word : 0 < now
   after-command (defining t) = after-definition t
   after-command (synthesizing t) = after-other t
   after-command (constraining t) = after-constraint t
+  after-command (assuming t) = after-assumption t
   after-command (another t) = after-other t
 
--- "256 nodes (literals, names, applications; no head is one) a body, constraint or rule": no body and no constraint of a script that passes has more.
+-- "256 nodes (literals, names, applications; no head is one) a body, constraint or rule": no body, constraint or assumption of a script that passes has more.
 pub script-few : (text : List ℕ) {k : Known} → scriptOutcome text ≡ said k → FewNodes k
 unfolding SmallBodies SmallTerms
 script-few text e =
     script-keeps FewNodes (λ nowhere k at c some-word below limited sorted few. after-command k at c some-word below limited sorted few (command c)) text e
-    (record { bodies = tt; constraints = tt })
+    (record { bodies = tt; constraints = tt; assumptions = tt })

@@ -83,12 +83,12 @@ module _ (counts : Counts) (nowhere : ℕ) where
       let after = after-command k c some-word (below .1) sound (fine .sorts) (fine .rules) (command c) in
       passed-sound more (below .2) (subst Sound (fine .is) after) (next .2)
 
-  -- Every rule, body and constraint of a script that passes has its sort, where its items stand before word `nowhere`.
+  -- Every rule, body, constraint and assumption of a script that passes has its sort, where its items stand before word `nowhere`.
   pub passed-sorted : {s : Source} {i : ℕ} (items : Items) {k : Known} → Stands s i items nowhere
       → readAll counts nowhere nothingKnown items ≡ passed k → Sorted k
   unfolding AllBefore AllBool AllRulesSorted AllSorted
   passed-sorted items stands h =
-      let first : Sound nothingKnown = record { sorted = record { bodies = tt; functions = tt; constraints = tt }; before = tt } in
+      let first : Sound nothingKnown = record { sorted = record { bodies = tt; functions = tt; constraints = tt; assumptions = tt }; before = tt } in
       passed-sound items (stands-below nowhere stands (omega arith)) first h .sorted
 
 -- The rules of each of the functions are sorted.

@@ -12,6 +12,7 @@ use Rattle.words.specs.Limits.{responseLimits, scriptLimits}
 use Rattle.forest.specs.Limits.{areaSize, mostNumbers}
 use Rattle.evaluation.specs.declared.Ran.{Ran}
 use Rattle.evaluation.specs.declared.Ran.the-variants.{Passed, False, Ended}
+use Rattle.evaluation.specs.declared.Run.{Run}
 use Rattle.script.specs.Script.{Known}
 use Rattle.script.specs.Response.{Body}
 use Rattle.script.specs.Outcome.{ResponseOutcome, ScriptOutcome, given, responseOutcome, said, scriptOutcome}
@@ -21,7 +22,7 @@ use Rattle.outcome.specs.code.Texts.{scriptText, responseText, pointsTex
 use Rattle.outcome.specs.Checked.{Checked, Passing, Judgement, judged, missized, refusal, response-refused, script-refused, sizeAnswer, unshown}
 use Rattle.outcome.specs.Demands.{Showing, accepted, budget-ended, constraint-false}
 use Rattle.outcome.specs.Derived.{blankArea}
-use Rattle.outcome.specs.Evaluated.{ranOutcome}
+use Rattle.outcome.specs.Evaluated.{ranOutcome, runOutcome}
 use Rattle.outcome.specs.Table.{AnswerRow, LengthOf, of-the-area, of-the-points, of-the-response, of-the-script, too-long}
 use Rattle.outcome.specs.declared.Outcome.{Outcome}
 
@@ -155,7 +156,11 @@ not-showing h constraint-false = h .1 refl
 not-showing h budget-ended = h .2 refl
 
 -- What a run finds is one of the three.
-pub ran-showing : (n budget : ℕ) (ran : Ran) → Showing (ranOutcome n budget ran .number)
-ran-showing n budget (Passed left) = accepted
-ran-showing n budget (False point constraint left) = constraint-false
-ran-showing n budget (Ended point constraint left) = budget-ended
+ran-showing : (budget held : ℕ) (ran : Ran) → Showing (ranOutcome budget held ran .number)
+ran-showing budget held (Passed left) = accepted
+ran-showing budget held (False point constraint left) = constraint-false
+ran-showing budget held (Ended point term left) = budget-ended
+
+-- The same of the answer of a run.
+pub run-showing : (budget : ℕ) (r : Run) → Showing (runOutcome budget r .number)
+run-showing budget r = ran-showing budget (r .held) (r .ran)

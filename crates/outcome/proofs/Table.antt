@@ -19,13 +19,14 @@ use Rattle.script.specs.Outcome.{ResponseOutcome, ScriptOutcome, given, offsetO
 use Rattle.script.specs.Rows.{AtWord, ResponseRow, ScriptRow}
 use Rattle.script.proofs.Rows.{FirstWords, ResponseKept, ScriptKept, response-kept, script-kept}
 use Rattle.outcome.specs.Checked.{Checked, Judgement, Passing, evaluated, judged, missized, points-refused, response-refused, script-refused, underived}
-use Rattle.outcome.specs.Demands.{InOrder}
+use Rattle.outcome.specs.Demands.{AllDone, InOrder, assumedAt}
 use Rattle.outcome.specs.Derived.{FirstUnderived, termsOf}
 use Rattle.outcome.specs.Evaluated.{ranOutcome, ranWith}
 use Rattle.outcome.specs.Table.{AnswerRow, accepted, bad-points, budget-ended, constraint-false, no-derivation, of-response, of-script}
 use Rattle.outcome.specs.declared.Outcome.{Outcome}
 use Rattle.outcome.proofs.Deriving.{underived-within}
 use Rattle.outcome.proofs.Stages.{missized-one}
+use Rattle.outcome.proofs.Sums.{sum-few}
 use Rattle.outcome.proofs.Units.{in-order}
 
 -- The row of a script that is refused.
@@ -69,20 +70,33 @@ bad-within sorts numbers {place} h =
     by-case false true o g = let e : firstOutside sorts numbers 0 ≡ place = cc in omega (arith, ltb-true (firstOutside sorts numbers 0) (length numbers) o)
     by-case false false o g = let z : _≡_ {A = ℕ} 0 1 = cc in absurd (omega arith)
 
+-- All assumptions hold at no more points than there are.
+held-few : {k : Known} {ts : List Terms} {points : List ℕ} {held : ℕ} (d : AllDone k ts points held) → held ≤ d .n
+held-few {k} {ts} {points} d =
+    omega (arith, d .counted, sum-few (λ (q : ℕ). cond (assumedAt k ts points q) 1 0) (λ q. one (assumedAt k ts points q)) 0 (d .n))
+  where
+    one : (b : Bool) → cond b 1 0 ≤ 1
+    one true = omega arith
+    one false = omega arith
+
 module _ {script response points area : List ℕ} {k : Known} where
   -- What a run finds.
-  ran-row : {ts : List Terms} (n budget : ℕ) (ran : Ran) → scriptOutcome script ≡ said k → InOrder k ts points (ranOutcome n budget ran)
-      → AnswerRow script response points area (ranOutcome n budget ran)
-  ran-row n budget (Passed left) says order = accepted says (order .accepted refl .0)
-  ran-row n budget (False point constraint left) says order = constraint-false says (order .constraint-false refl .0)
-  ran-row n budget (Ended point constraint left) says order = budget-ended says (order .budget-ended refl .0)
+  ran-row : {ts : List Terms} (budget held : ℕ) (ran : Ran) → scriptOutcome script ≡ said k → InOrder k ts points (ranOutcome budget held ran)
+      → AnswerRow script response points area (ranOutcome budget held ran)
+  ran-row budget held (Passed left) says order = let h = order .accepted refl in accepted says (h .whole) (held-few h)
+  ran-row budget held (False point constraint left) says order = constraint-false says (order .constraint-false refl .0)
+  ran-row budget held (Ended point term left) says order =
+      let h = order .budget-ended refl in
+      budget-ended says (h .whole) (h .point) (h .named)
 
   -- A verdict on texts that pass.
   verdict-row : {bs : List Body} {budget : ℕ} {o : Outcome} {a : List ℕ} → Passing script response points area k bs
       → Judgement response k bs points budget o a → InOrder k (termsOf bs) points o → AnswerRow script response points area o
   verdict-row p (underived u) order = no-derivation (p .says) (underived-there u (first-words k response (p .gives))) (underived-within u)
   verdict-row p (points-refused s e) order = bad-points (p .says) e (bad-within (namedSorts (k .variables)) points e)
-  verdict-row {bs} {budget} p (evaluated {n = n} s e) order = ran-row n budget (ranWith k (termsOf bs) points n budget) (p .says) order
+  verdict-row {bs} {budget} p (evaluated {n = n} s e) order =
+      let r = ranWith k (termsOf bs) points n budget in
+      ran-row budget (r .held) (r .ran) (p .says) order
 
 -- "one answer from the table in document 01".
 pub table : {script response points : List ℕ} {budget : ℕ} {area : List ℕ} {o : Outcome} {a : List ℕ}

@@ -9,7 +9,7 @@ use Rattle.script.specs.Response.{Body}
 use Rattle.outcome.specs.Checked.{Checked, Judgement, evaluated, judged, missized, points-refused, response-refused, script-refused, underived}
 use Rattle.outcome.specs.Demands.{Alike, AreaStated, both-show, shows, shows-none, the-same}
 use Rattle.outcome.specs.Derived.{termsOf}
-use Rattle.outcome.specs.Evaluated.{ranOutcome, ranWith}
+use Rattle.outcome.specs.Evaluated.{ranWith, runOutcome}
 use Rattle.outcome.specs.declared.Outcome.{Outcome}
 use Rattle.outcome.proofs.Deriving.{first-only, not-derived, shown-derived}
 use Rattle.outcome.proofs.Elsewhere.{lists-of, same-elsewhere}
@@ -33,7 +33,7 @@ one-verdict (evaluated s e) (underived u) = absurd (not-derived u (shown-derived
 one-verdict (evaluated s e) (points-refused t h) = not-good (sym h ∙ e)
 one-verdict {k = k} {bs} {points} {budget} (evaluated {n = n} s e) (evaluated {n = m} t h) =
     let same : n ≡ m = cc in
-    ap (λ (c : ℕ). ranOutcome c budget (ranWith k (termsOf bs) points c budget)) same
+    ap (λ (c : ℕ). runOutcome budget (ranWith k (termsOf bs) points c budget)) same
 
 -- One answer.
 one-answer : {script response points : List ℕ} {budget : ℕ} {area : List ℕ} {o other : Outcome} {a b : List ℕ}

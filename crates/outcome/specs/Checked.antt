@@ -15,7 +15,7 @@ use Rattle.script.specs.Script.{Known}
 use Rattle.script.specs.Response.{Body, inScriptOrder}
 use Rattle.script.specs.Outcome.{ResponseOutcome, ScriptOutcome, given, offsetOf, responseOutcome, said, scriptOutcome}
 use Rattle.outcome.specs.Derived.{FirstUnderived, ListsShown, blankArea, shownArea, termsOf}
-use Rattle.outcome.specs.Evaluated.{ranOutcome, ranWith}
+use Rattle.outcome.specs.Evaluated.{ranWith, runOutcome}
 use Rattle.outcome.specs.declared.Outcome.{Outcome}
 
 -- An answer that names a text and a place: its second number is 0, and it has no units.
@@ -48,7 +48,7 @@ pub data Judgement (response : List ℕ) (k : Known) (bs : List Body) (points : 
       → pointsOf (namedSorts (k .variables)) points ≡ Bad place → Judgement response k bs points budget (refusal 16 2 place) blankArea
   evaluated : {lists : List (List ℕ)} {n : ℕ} → ListsShown (inScriptOrder (k .functions)) (termsOf bs) lists
       → pointsOf (namedSorts (k .variables)) points ≡ Good n
-      → Judgement response k bs points budget (ranOutcome n budget (ranWith k (termsOf bs) points n budget)) (shownArea lists)
+      → Judgement response k bs points budget (runOutcome budget (ranWith k (termsOf bs) points n budget)) (shownArea lists)
 
 -- The answer and the area afterwards. "Order: 1 ..; script words ..; commands ..; response words likewise; 10 and 11 ..; the response's commands likewise ..;
 -- then 13 .."

@@ -6,6 +6,7 @@ use Rattle.terms.specs.Sorts.{Definition}
 use Rattle.evaluation.specs.Running.{runPoints}
 use Rattle.evaluation.specs.declared.Ran.{Ran}
 use Rattle.evaluation.specs.declared.Ran.the-variants.{Passed, False, Ended}
+use Rattle.evaluation.specs.declared.Run.{Run}
 use Rattle.names.specs.Scopes.{Function, signatureOf, namedSorts}
 use Rattle.script.specs.Script.{Known, definitionsOf}
 use Rattle.script.specs.Response.{inScriptOrder}
@@ -22,13 +23,18 @@ abbrev pub functionsWith : Known → List Terms → List Definition
 functionsWith k ts = completed (inScriptOrder (k .functions)) ts []
 
 -- What the run over n points finds, where the functions have these terms for bodies.
-abbrev pub ranWith : Known → List Terms → (points : List ℕ) → (n budget : ℕ) → Ran
+abbrev pub ranWith : Known → List Terms → (points : List ℕ) → (n budget : ℕ) → Run
 ranWith k ts points n budget =
-    runPoints (definitionsOf (k .defined)) (functionsWith k ts) (namedSorts (k .variables)) points (k .constraints) n 0 budget
+    runPoints (definitionsOf (k .defined)) (functionsWith k ts) (namedSorts (k .variables)) points (k .assumptions) (k .constraints) n 0 0 budget
 
--- 0: "accepted", with "points done"; 14: "constraint false" and 15: "budget ended", each with its "point; constraint". "the units spent: the summed cost of
--- evaluations done, a false one included".
-abbrev pub ranOutcome : (n budget : ℕ) → Ran → Outcome
-ranOutcome n budget (Passed left) = record { number = 0; text = 3; place = 0; second = n; units = budget - left }
-ranOutcome n budget (False point constraint left) = record { number = 14; text = 2; place = point; second = constraint; units = budget - left }
-ranOutcome n budget (Ended point constraint left) = record { number = 15; text = 2; place = point; second = constraint; units = budget - left }
+-- 0: "accepted", and its "second number now counts the points whose assumptions all held" (E1); 14: "constraint false" and 15: "budget ended", each with its
+-- "point; constraint", and "15 numbers assumptions from 64" (E1). "the units spent: the summed cost of evaluations done, a false one included"; "Units include
+-- them" (E1).
+abbrev pub ranOutcome : (budget held : ℕ) → Ran → Outcome
+ranOutcome budget held (Passed left) = record { number = 0; text = 3; place = 0; second = held; units = budget - left }
+ranOutcome budget held (False point constraint left) = record { number = 14; text = 2; place = point; second = constraint; units = budget - left }
+ranOutcome budget held (Ended point term left) = record { number = 15; text = 2; place = point; second = term; units = budget - left }
+
+-- The answer of a run.
+abbrev pub runOutcome : (budget : ℕ) → Run → Outcome
+runOutcome budget r = ranOutcome budget (r .held) (r .ran)

@@ -57,6 +57,7 @@ module _ {text lexemes names raw places nodes : List ℕ} {p : Progress} {at j b
         plain = h .plain;
         bodies-at = h .bodies-at;
         constraints-at = h .constraints-at;
+        assumptions-at = h .assumptions-at;
       }
 
   module _ {rawAfter : List ℕ} {v : Verdict} (eo : (x : ListIn lexemes raw at nowhere) → Outlined x rawAfter v) where
@@ -172,7 +173,8 @@ module _ {text lexemes names raw places nodes : List ℕ} {p : Progress} {at j b
                 let t = bodyOf (a .known .defined) (a .function) (a .command) .term in
                 record {
                   places-hold = body-held (body-places places j base offset low put) hold g (omega (arith, counted .defined-are, counted .few-defined))
-                      (omega (arith, counted .functions-are, counted .few-functions)) (omega (arith, counted .constraints-are, counted .few-constraints));
+                      (omega (arith, counted .functions-are, counted .few-functions)) (omega (arith, counted .constraints-are, counted .few-constraints))
+                      (omega (arith, counted .assumptions-are, counted .few-assumptions));
                   begins = rw (node-put places j base offset low put (omega (arith, hold .long))) (term-stands hold g);
                   offset-is = offset-put places j base offset low put (omega (arith, hold .long)) ∙ offset-found a;
                   wider = λ n x s. stands-wider (hold .all) t s;

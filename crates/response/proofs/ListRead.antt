@@ -110,6 +110,7 @@ rebased e h = record {
   plain = h .plain;
   bodies-at = h .bodies-at;
   constraints-at = h .constraints-at;
+  assumptions-at = h .assumptions-at;
 }
 
 module _ {text lexemes names raw₀ places₀ nodes₀ : List ℕ} {p : Progress} {nowhere : ℕ} where

@@ -7,7 +7,7 @@ use mathlib.Core.Path.{_≡_, refl, sym, ap, _∙_}
 use lib.ListN.{drop, getD, length, length-drop, length-map, length-set, length-take, set, take}
 use lib.Seq.{ext-getD, getD-drop, getD-set-other, getD-set-same, getD-take}
 use Rattle.derivation.specs.code.Rules.{ruleWidth}
-use Rattle.forest.specs.Limits.{mostConstraints, mostDefined, mostFunctions}
+use Rattle.forest.specs.Limits.{firstAssumption, mostAssumptions, mostConstraints, mostDefined, mostFunctions}
 use Rattle.forest.specs.Forest.{join}
 use Rattle.terms.specs.Labels.{Terms}
 use Rattle.terms.specs.code.Nodes.{nodeTable, rowWidth as nodeWidth}
@@ -16,7 +16,7 @@ use Rattle.names.specs.Scopes.{Defined, Function, signatureOf}
 use Rattle.script.specs.Script.{Known, definitionsOf}
 use Rattle.script.specs.code.Tables.{GrammarHeld, GrammarsHold, PlacesHold}
 use Rattle.script.specs.code.Places.{constraintsPlace, functionBodiesPlace, functionWidth, functionsPlace, rulesPlace, offsetsPlace}
-use Rattle.script.proofs.OneTermMore.{Grown, bodies-wider, constraints-wider, nodes-grow, rows-elsewhere, rows-grown}
+use Rattle.script.proofs.OneTermMore.{Grown, bodies-wider, stated-wider, nodes-grow, rows-elsewhere, rows-grown}
 use Rattle.terms.proofs.Bodies.{plain-join}
 
 -- The numbers of two tables of places are the same, but for those of the bodies of functions.
@@ -100,7 +100,7 @@ module _ {places placesAfter : List ℕ} (same : SamePlaces places placesAfter) 
 
   module _ {nodes nodesAfter : List ℕ} {rows more : ℕ} {k : Known} (p : PlacesHold places nodes rows k) {t : Terms}
       (g : Grown nodes rows more t nodesAfter) (few-defined : length (k .defined) ≤ mostDefined) (few-functions : length (k .functions) ≤ mostFunctions)
-      (few-constraints : length (k .constraints) ≤ mostConstraints) where
+      (few-constraints : length (k .constraints) ≤ mostConstraints) (few-assumptions : length (k .assumptions) ≤ mostAssumptions) where
     -- The tables hold what they held, with one term more.
     abbrev pub body-held : PlacesHold placesAfter nodesAfter (rows + more) k
     body-held = record {
@@ -116,6 +116,8 @@ module _ {places placesAfter : List ℕ} (same : SamePlaces places placesAfter) 
       plain = plain-join (p .all) t (p .plain) (g .plain);
       bodies-at = bodies-wider (p .all) t _ _ 0 (definitionsOf (k .defined)) (λ j h. rw (getD-drop, getD-drop)
           (same .front _ (omega (arith, length-map (k .defined) (λ (d : Defined). d .definition))))) (p .bodies-at);
-      constraints-at = constraints-wider (p .all) t places placesAfter 0 (k .constraints) (λ j h. same .middle _ (omega arith) (omega arith))
+      constraints-at = stated-wider (p .all) t places placesAfter 0 (k .constraints) (λ j l h. same .middle _ (omega arith) (omega arith))
           (p .constraints-at);
+      assumptions-at = stated-wider (p .all) t places placesAfter firstAssumption (k .assumptions) (λ j l h. same .middle _ (omega arith) (omega arith))
+          (p .assumptions-at);
     }

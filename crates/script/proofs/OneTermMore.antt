@@ -6,7 +6,7 @@ use mathlib.Core.List.{List, [], _∷_, _++_, append-assoc}
 use mathlib.Core.Path.{_≡_, refl, sym, ap, _∙_}
 use lib.ListN.{drop, getD, length, length-map, length-set, set, take}
 use lib.Seq.{getD-drop, getD-set-other, getD-set-same, sets, sets-eq, take-append-seam}
-use Rattle.forest.specs.Limits.{mostConstraints, mostDefined, mostFunctions}
+use Rattle.forest.specs.Limits.{firstAssumption, mostDefined, mostFunctions}
 use Rattle.forest.specs.Forest.{Forest, join, nodesOf, none, tree}
 use Rattle.forest.specs.code.Cursors.{from, size}
 use Rattle.forest.specs.code.Rows.{numberAt}
@@ -26,8 +26,8 @@ use Rattle.names.specs.code.Table.{sortsFrom}
 use Rattle.script.specs.code.Signatures.{SignedIn, Signing}
 use Rattle.script.proofs.Signed.{back-kept, long-kept, row-same, rows-grow, rows-kept, rows-same}
 use Rattle.script.specs.Script.{Known, definitionsOf}
-use Rattle.script.specs.code.Tables.{ConstraintsAt, PlacesHold}
-use Rattle.script.specs.code.Places.{bodiesPlace, constraintsPlace, placesLength}
+use Rattle.script.specs.code.Tables.{PlacesHold, StatedAt}
+use Rattle.script.specs.code.Places.{bodiesPlace, constraintsPlace, placesLength, statedCount}
 
 -- ---- forests
 
@@ -86,23 +86,25 @@ module _ (all t : Terms) where
   bodies-wider bodies bodiesAfter base (d ∷ earlier) same held =
       (rw (same (length earlier) (omega arith)) (stands-wider (held .0)), bodies-wider bodies bodiesAfter base earlier (λ j h. same j (omega arith)) (held .1))
 
-  -- The constraints stand at the nodes at which they stood.
-  pub constraints-wider : (places placesAfter : List ℕ) (m : ℕ) (ts : List Terms)
-      → ((j : ℕ) → j < m + length ts → getD placesAfter (constraintsPlace + j) 0 ≡ getD places (constraintsPlace + j) 0) → ConstraintsAt all places m ts
-      → ConstraintsAt (join all t) placesAfter m ts
-  unfolding ConstraintsAt
-  constraints-wider places placesAfter m [] same held = tt
-  constraints-wider places placesAfter m (x ∷ more) same held =
-      (rw (same m (omega arith)) (stands-wider (held .0)), constraints-wider places placesAfter (m + 1) more (λ j h. same j (omega arith)) (held .1))
+  -- Constraints or assumptions, from number m on, stand at the nodes at which they stood.
+  pub stated-wider : (places placesAfter : List ℕ) (m : ℕ) (ts : List Terms)
+      → ((j : ℕ) → m ≤ j → j < m + length ts → getD placesAfter (constraintsPlace + j) 0 ≡ getD places (constraintsPlace + j) 0) → StatedAt all places m ts
+      → StatedAt (join all t) placesAfter m ts
+  unfolding StatedAt
+  stated-wider places placesAfter m [] same held = tt
+  stated-wider places placesAfter m (x ∷ more) same held = (
+    rw (same m (omega arith) (omega arith)) (stands-wider (held .0)),
+    stated-wider places placesAfter (m + 1) more (λ j l h. same j (omega arith) (omega arith)) (held .1),
+  )
 
--- One constraint more.
-pub constraints-more : (all t : Terms) (places : List ℕ) (m : ℕ) (ts : List Terms) → ConstraintsAt all places m ts
-    → TermStands all (getD places (constraintsPlace + (m + length ts)) 0) t → ConstraintsAt all places m (ts ++ t ∷ [])
-unfolding ConstraintsAt
-constraints-more all t places m [] held last = (rw add-zero at last, tt)
-constraints-more all t places m (x ∷ more) held last =
+-- One of them more.
+pub stated-more : (all t : Terms) (places : List ℕ) (m : ℕ) (ts : List Terms) → StatedAt all places m ts
+    → TermStands all (getD places (constraintsPlace + (m + length ts)) 0) t → StatedAt all places m (ts ++ t ∷ [])
+unfolding StatedAt
+stated-more all t places m [] held last = (rw add-zero at last, tt)
+stated-more all t places m (x ∷ more) held last =
     let next : m + suc (length more) ≡ m + 1 + length more = omega arith in
-    (held .0, constraints-more all t places (m + 1) more (held .1) (rw next at last))
+    (held .0, stated-more all t places (m + 1) more (held .1) (rw next at last))
 
 -- ---- the tables with one term more
 
@@ -136,33 +138,46 @@ module _ {places nodes nodesAfter : List ℕ} {rows more : ℕ} {k : Known} (p :
   pub rows-grown : rows + more ≡ size (join (p .all) t)
   rows-grown = omega (arith, p .rows-are, g .sized, size-join (p .all) t)
 
-  -- One constraint more.
-  pub constraint-held : {m : ℕ} → m ≡ length (k .constraints) → m < mostConstraints → length (k .defined) ≤ mostDefined → length (k .functions) ≤ mostFunctions
-      → {placesAfter : List ℕ} → placesAfter ≡ set places (constraintsPlace + m) rows
-      → {after : Known} → after .defined ≡ k .defined → after .functions ≡ k .functions → after .constraints ≡ k .constraints ++ t ∷ []
-      → PlacesHold placesAfter nodesAfter (rows + more) after
-  constraint-held {m} counted few few-defined few-functions {placesAfter} put {after} same-defined same-functions one-more =
-      let other : (j : ℕ) → (j ≡ constraintsPlace + m → ⊥) → getD placesAfter j 0 ≡ getD places j 0 =
-      λ j h. rw put (getD-set-other places (constraintsPlace + m) j rows 0 h) in
-      let here : getD placesAfter (constraintsPlace + m) 0 ≡ rows =
-      rw put (getD-set-same places (constraintsPlace + m) rows 0 (omega (arith, p .long))) in
-      record {
-        long = ap length put ∙ length-set places (constraintsPlace + m) rows ∙ p .long;
-        defined-rows = rw same-defined (rows-elsewhere places placesAfter (λ j h. other j (λ e. omega arith)) 0 _
-            (omega (arith, length-map (k .defined) (λ (d : Defined). d .definition .signature))) (p .defined-rows));
-        function-rows = rw same-functions (rows-elsewhere places placesAfter (λ j h. other j (λ e. omega arith)) functionSignature _
-            (omega (arith, length-map (k .functions) signatureOf)) (p .function-rows));
-        all = join (p .all) t;
-        rest = drop (nodeWidth * rows + length (nodeTable t)) nodes;
-        nodes-are = nodes-grow;
-        rows-are = rows-grown;
-        plain = plain-join (p .all) t (p .plain) (g .plain);
-        bodies-at = rw same-defined (bodies-wider (p .all) t _ _ 0 (definitionsOf (k .defined)) (λ j h. rw (getD-drop, getD-drop)
-            (other _ (λ e. omega (arith, length-map (k .defined) (λ (d : Defined). d .definition))))) (p .bodies-at));
-        constraints-at = rw one-more (constraints-more (join (p .all) t) t placesAfter 0 (k .constraints)
-            (constraints-wider (p .all) t places placesAfter 0 (k .constraints) (λ j h. other _ (λ e. omega arith)) (p .constraints-at))
-            (rw (zero-add, ← counted, here) term-stands));
-      }
+  -- The term is put at number m of constraints and assumptions.
+  module _ {m : ℕ} (few : m < statedCount) {placesAfter : List ℕ} (put : placesAfter ≡ set places (constraintsPlace + m) rows) where
+    elsewhere : (j : ℕ) → (j ≡ constraintsPlace + m → ⊥) → getD placesAfter j 0 ≡ getD places j 0
+    elsewhere j h = rw put (getD-set-other places (constraintsPlace + m) j rows 0 h)
+
+    -- Those of other numbers stand where they stood.
+    pub others-held : (first : ℕ) (ts : List Terms) → ((j : ℕ) → first ≤ j → j < first + length ts → j ≡ m → ⊥) → StatedAt (p .all) places first ts
+        → StatedAt (join (p .all) t) placesAfter first ts
+    others-held first ts far held = stated-wider (p .all) t places placesAfter first ts (λ j l h. elsewhere _ (λ e. far j l h (omega arith))) held
+
+    -- It stands behind those whose next number is m.
+    pub next-held : (first : ℕ) (ts : List Terms) → m ≡ first + length ts → StatedAt (p .all) places first ts
+        → StatedAt (join (p .all) t) placesAfter first (ts ++ t ∷ [])
+    next-held first ts e held =
+        let here : getD placesAfter (constraintsPlace + m) 0 ≡ rows =
+        rw put (getD-set-same places (constraintsPlace + m) rows 0 (omega (arith, p .long))) in
+        stated-more (join (p .all) t) t placesAfter first ts (others-held first ts (λ j l h q. omega arith) held) (rw (← e, here) term-stands)
+
+    -- The tables hold what is known after it.
+    pub stated-held : length (k .defined) ≤ mostDefined → length (k .functions) ≤ mostFunctions
+        → {after : Known} → after .defined ≡ k .defined → after .functions ≡ k .functions
+        → StatedAt (join (p .all) t) placesAfter 0 (after .constraints) → StatedAt (join (p .all) t) placesAfter firstAssumption (after .assumptions)
+        → PlacesHold placesAfter nodesAfter (rows + more) after
+    stated-held few-defined few-functions same-defined same-functions constraints assumptions =
+        record {
+          long = ap length put ∙ length-set places (constraintsPlace + m) rows ∙ p .long;
+          defined-rows = rw same-defined (rows-elsewhere places placesAfter (λ j h. elsewhere j (λ e. omega arith)) 0 _
+              (omega (arith, length-map (k .defined) (λ (d : Defined). d .definition .signature))) (p .defined-rows));
+          function-rows = rw same-functions (rows-elsewhere places placesAfter (λ j h. elsewhere j (λ e. omega arith)) functionSignature _
+              (omega (arith, length-map (k .functions) signatureOf)) (p .function-rows));
+          all = join (p .all) t;
+          rest = drop (nodeWidth * rows + length (nodeTable t)) nodes;
+          nodes-are = nodes-grow;
+          rows-are = rows-grown;
+          plain = plain-join (p .all) t (p .plain) (g .plain);
+          bodies-at = rw same-defined (bodies-wider (p .all) t _ _ 0 (definitionsOf (k .defined)) (λ j h. rw (getD-drop, getD-drop)
+              (elsewhere _ (λ e. omega (arith, length-map (k .defined) (λ (d : Defined). d .definition))))) (p .bodies-at));
+          constraints-at = constraints;
+          assumptions-at = assumptions;
+        }
 
   -- One `define-fun` more.
   module _ {names : List ℕ} {n first arguments result : ℕ} (given : Signing names places n first arguments result)
@@ -171,14 +186,15 @@ module _ {places nodes nodesAfter : List ℕ} {rows more : ℕ} {k : Known} (p :
     behind-kept : (j : ℕ) → getD signed (bodiesPlace + j) 0 ≡ getD places (bodiesPlace + j) 0
     behind-kept j = sym (getD-drop bodiesPlace signed j 0) ∙ ap (λ (l : List ℕ). getD l j 0) (back-kept given is-signed) ∙ getD-drop bodiesPlace places j 0
 
-    pub definition-held : n ≡ length (k .defined) → n < mostDefined → length (k .functions) ≤ mostFunctions → length (k .constraints) ≤ mostConstraints
+    pub definition-held : n ≡ length (k .defined) → n < mostDefined → length (k .functions) ≤ mostFunctions
         → {placesAfter : List ℕ} → placesAfter ≡ set signed (bodiesPlace + n) rows
         → (d : Defined) → d .definition .signature .arguments ≡ sortsFrom names first arguments → d .definition .signature .result ≡ result → result ≤ maxWidth
         → d .definition .body ≡ t
         → {after : Known} → after .defined ≡ d ∷ k .defined → after .functions ≡ k .functions → after .constraints ≡ k .constraints
+        → after .assumptions ≡ k .assumptions
         → PlacesHold placesAfter nodesAfter (rows + more) after
     unfolding BodiesAt
-    definition-held counted few few-functions few-constraints {placesAfter} put d ea er narrow eb {after} one-more same-functions same-constraints =
+    definition-held counted few few-functions {placesAfter} put d ea er narrow eb {after} one-more same-functions same-constraints same-assumptions =
         let long : length signed ≡ placesLength = long-kept given is-signed ∙ p .long in
         let other : (j : ℕ) → (j ≡ bodiesPlace + n → ⊥) → getD placesAfter j 0 ≡ getD signed j 0 =
         λ j h. rw put (getD-set-other signed (bodiesPlace + n) j rows 0 h) in
@@ -186,6 +202,9 @@ module _ {places nodes nodesAfter : List ℕ} {rows more : ℕ} {k : Known} (p :
         let signatures = length-map (k .defined) (λ (d : Defined). d .definition .signature) in
         let definitions = length-map (k .defined) (λ (d : Defined). d .definition) in
         let functions = length-map (k .functions) signatureOf in
+        let behind : (j : ℕ) → getD placesAfter (constraintsPlace + j) 0 ≡ getD places (constraintsPlace + j) 0 = λ j.
+        let far : constraintsPlace + j ≡ bodiesPlace + (mostDefined + mostFunctions + j) = omega arith in
+        rw far (other _ (λ e. omega arith) ∙ behind-kept _) in
         record {
           long = ap length put ∙ length-set signed (bodiesPlace + n) rows ∙ long;
           defined-rows = rw one-more (rows-elsewhere signed placesAfter (λ j h. other j (λ e. omega arith)) 0 _ (omega arith)
@@ -202,7 +221,7 @@ module _ {places nodes nodesAfter : List ℕ} {rows more : ℕ} {k : Known} (p :
             bodies-wider (p .all) t (drop bodiesPlace places) (drop bodiesPlace placesAfter) 0 (definitionsOf (k .defined))
                 (λ j h. rw (getD-drop, getD-drop) (other _ (λ e. omega arith) ∙ behind-kept _)) (p .bodies-at),
           );
-          constraints-at = rw same-constraints (constraints-wider (p .all) t places placesAfter 0 (k .constraints) (λ j h.
-              let far : constraintsPlace + j ≡ bodiesPlace + (mostDefined + mostFunctions + j) = omega arith in
-              rw far (other _ (λ e. omega arith) ∙ behind-kept _)) (p .constraints-at));
+          constraints-at = rw same-constraints (stated-wider (p .all) t places placesAfter 0 (k .constraints) (λ j l h. behind j) (p .constraints-at));
+          assumptions-at = rw same-assumptions (stated-wider (p .all) t places placesAfter firstAssumption (k .assumptions) (λ j l h. behind j)
+              (p .assumptions-at));
         }

@@ -25,8 +25,8 @@ use Rattle.term_nodes.specs.Terms.{rawTerm}
 use Rattle.written_sorts.specs.Written.{headerPlace, sortOf, sortPlace}
 use Rattle.written_sorts.specs.declared.Fault.the-variants.{TooWide, Unknown, Empty}
 
--- What the commands before have said: whether the logic was set and `check-synth` was met; variables and constraints in script order; `define-fun`s and
--- functions, the last first.
+-- What the commands before have said: whether the logic was set and `check-synth` was met; variables, constraints and assumptions in script order;
+-- `define-fun`s and functions, the last first.
 pub record Known : Type 0 where
   pub logic : Bool
   pub ended : Bool
@@ -34,10 +34,11 @@ pub record Known : Type 0 where
   pub defined : List Defined
   pub functions : List Function
   pub constraints : List Terms
+  pub assumptions : List Terms
 
 -- Nothing is said before the first command.
 abbrev pub nothingKnown : Known
-nothingKnown = record { logic = false; ended = false; variables = []; defined = []; functions = []; constraints = [] }
+nothingKnown = record { logic = false; ended = false; variables = []; defined = []; functions = []; constraints = []; assumptions = [] }
 
 -- All names in scope.
 abbrev pub scope : Known → List (List ℕ)
@@ -51,7 +52,7 @@ bodyView k arguments = record { names = arguments; defined = k .defined; functio
 abbrev pub ruleView : Known → (arguments nonTerminals : List Named) → View
 ruleView k arguments nonTerminals = record { names = arguments; defined = k .defined; functions = []; nonTerminals = nonTerminals }
 
--- "Constraints see all earlier names."
+-- "Constraints see all earlier names."; an assumption is "a Bool term under the same rules as a constraint" (E1).
 abbrev pub constraintView : Known → View
 constraintView k = record { names = k .variables; defined = k .defined; functions = k .functions; nonTerminals = [] }
 
@@ -72,14 +73,15 @@ outOfPlace k c =
     || k .logic && is "set-logic" (item 0 c)
     || is "check-synth" (item 0 c) && eqb (length (k .functions)) 0
 
--- By the command's word: what declares a variable, defines a function, synthesizes one, constrains; nowhere for the others.
-abbrev pub byCommand : Items → (nowhere declared defined synthesized constrained : ℕ) → ℕ
-byCommand c nowhere declared defined synthesized constrained =
+-- By the command's word: what declares a variable, defines a function, synthesizes one, constrains, assumes; nowhere for the others.
+abbrev pub byCommand : Items → (nowhere declared defined synthesized constrained assumed : ℕ) → ℕ
+byCommand c nowhere declared defined synthesized constrained assumed =
     cond (is "declare-var" (item 0 c)) declared
     (cond (is "define-fun" (item 0 c)) defined
     (cond (is "synth-fun" (item 0 c)) synthesized
     (cond (is "constraint" (item 0 c)) constrained
-    nowhere)))
+    (cond (is "assume" (item 0 c)) assumed
+    nowhere))))
 
 -- 4 in a command, whose bracket is word `at`.
 unfoldable pub limitPlace : Counts → (nowhere : ℕ) → Known → (at : ℕ) → Items → ℕ
@@ -89,6 +91,7 @@ limitPlace counts nowhere k at c =
     (min (commandPast nowhere (counts .defined) (length (k .defined)) at) (min (headerPast counts nowhere c) (nodePast counts nowhere (item 4 c) (inside 4 c))))
     (min (commandPast nowhere (counts .functions) (length (k .functions)) at) (min (headerPast counts nowhere c) (grammarPast counts nowhere c)))
     (min (commandPast nowhere (counts .constraints) (length (k .constraints)) at) (nodePast counts nowhere (item 1 c) (inside 1 c)))
+    (min (commandPast nowhere (counts .assumptions) (length (k .assumptions)) at) (nodePast counts nowhere (item 1 c) (inside 1 c)))
 
 -- 7 in a command.
 unfoldable pub namePlace : (nowhere : ℕ) → Known → Items → ℕ
@@ -97,6 +100,7 @@ namePlace nowhere k c =
     (min (newName nowhere (scope k) (item 1 c)) (sortPlace Unknown nowhere (item 2 c) (inside 2 c)))
     (min (headerNames nowhere (scope k) c) (termNames nowhere (bodyView k (argumentsOf c)) (item 4 c) (inside 4 c)))
     (min (headerNames nowhere (scope k) c) (grammarNames nowhere (namesOf (argumentsOf c) ++ nameOf (item 1 c) ∷ scope k) (viewOf k c) c))
+    (termNames nowhere (constraintView k) (item 1 c) (inside 1 c))
     (termNames nowhere (constraintView k) (item 1 c) (inside 1 c))
 
 -- 8 in a command.
@@ -107,10 +111,11 @@ sortingPlace nowhere k c =
     (min (headerPlace Empty nowhere c) (bodyFault nowhere (bodyView k (argumentsOf c)) (sortOf (item 3 c) (inside 3 c)) (item 4 c) (inside 4 c)))
     (min (headerPlace Empty nowhere c) (grammarFault nowhere (viewOf k c) c))
     (bodyFault nowhere (constraintView k) 0 (item 1 c) (inside 1 c))
+    (bodyFault nowhere (constraintView k) 0 (item 1 c) (inside 1 c))
 
 -- 9 in a command.
 unfoldable pub grammarPlace : (nowhere : ℕ) → Known → Items → ℕ
-grammarPlace nowhere k c = byCommand c nowhere nowhere nowhere (grammarMisfit nowhere (viewOf k c) c) nowhere
+grammarPlace nowhere k c = byCommand c nowhere nowhere nowhere (grammarMisfit nowhere (viewOf k c) c) nowhere nowhere
 
 -- A refusal by its number and the word at fault, past the last word for the end of the text; or what is known after a command.
 pub data Read : Type 0 where
@@ -131,7 +136,7 @@ unfoldable pub judged : Counts → (nowhere : ℕ) → Known → (at : ℕ) → 
 judged counts nowhere k at c said =
     cond (notCarried c) (refused 6 at) (cond (not (commandShape c) || outOfPlace k c) (refused 5 at) (tested counts nowhere k at c said))
 
--- The label that a form's node is; in a body or a constraint there are no others.
+-- The label that a form's node is; in a body, a constraint or an assumption there are no others.
 abbrev pub labelOf : Item → Label
 labelOf (the l) = l
 labelOf (nonTerminal A) = operator operatorCount 0 0
@@ -147,12 +152,13 @@ termsIn (tree i ops more) = tree (labelOf i) (termsIn ops) (termsIn more)
 abbrev pub termOf : View → Lexeme → Items → Terms
 termOf view l ops = termsIn (formsOf view (rawTerm l ops))
 
--- What is known after a command that passes, which is one of the six that are carried.
+-- What is known after a command that passes, which is one of the seven that are carried.
 unfoldable pub knownAfter : Known → Items → Known
 knownAfter k c =
     let header : Signature = record { arguments = namedSorts (argumentsOf c); result = sortOf (item 3 c) (inside 3 c) } in
     let variable : Named = record { name = nameOf (item 1 c); sort = sortOf (item 2 c) (inside 2 c) } in
     let definition : Definition = record { signature = header; body = termOf (bodyView k (argumentsOf c)) (item 4 c) (inside 4 c) } in
+    let stated : Terms = termOf (constraintView k) (item 1 c) (inside 1 c) in
     let function : Function = record {
       name = nameOf (item 1 c);
       arguments = argumentsOf c;
@@ -167,7 +173,8 @@ knownAfter k c =
       variables = cond (is "declare-var" (item 0 c)) (k .variables ++ variable ∷ []) (k .variables);
       defined = cond (is "define-fun" (item 0 c)) (record { name = nameOf (item 1 c); definition = definition } ∷ k .defined) (k .defined);
       functions = cond (is "synth-fun" (item 0 c)) (function ∷ k .functions) (k .functions);
-      constraints = cond (is "constraint" (item 0 c)) (k .constraints ++ termOf (constraintView k) (item 1 c) (inside 1 c) ∷ []) (k .constraints);
+      constraints = cond (is "constraint" (item 0 c)) (k .constraints ++ stated ∷ []) (k .constraints);
+      assumptions = cond (is "assume" (item 0 c)) (k .assumptions ++ stated ∷ []) (k .assumptions);
     }
 
 -- What follows a command that passes; a refusal ends the reading.

@@ -24,6 +24,7 @@ pub struct Progress {
     pub defined: usize,
     pub functions: usize,
     pub constraints: usize,
+    pub assumptions: usize,
     pub nodes: usize,
     pub forms: usize,
 }

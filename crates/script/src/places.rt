@@ -1,4 +1,4 @@
-//! The table of places: the signatures in front, then where each body and each constraint begins, the numbers of each synthesized function, and its rules. No
+//! The table of places: the signatures in front, then where each body, constraint and assumption begins, the numbers of each synthesized function, and its rules. No
 //! other module knows which number stands where.
 use crate::signatures;
 use forest::limits;
@@ -9,21 +9,23 @@ ghost use mathlib.Core.Path.{_≡_};
 ghost use Prim.Native.Nat.{_+_, _*_, _≤_, _<_};
 ghost use lib.ListN.{drop, length, set};
 ghost use lib.Seq.{sets};
-ghost use Rattle.forest.specs.Limits.{mostConstraints, mostDefined, mostFunctions, mostRules};
-ghost use Rattle.script.specs.code.Places.{argumentsIn, beforeIn, bodiesPlace, bodyIn, constraintsOf, constraintsPlace, formRowsIn, formsIn};
+ghost use Rattle.forest.specs.Limits.{mostDefined, mostFunctions, mostRules};
+ghost use Rattle.script.specs.code.Places.{argumentsIn, beforeIn, bodiesPlace, bodyIn, constraintsPlace, formRowsIn, formsIn};
 ghost use Rattle.script.specs.code.Places.{functionBodiesPlace, functionWidth, functionsPlace, offsetIn, offsetsPlace, ownRules, placesLength};
-ghost use Rattle.script.specs.code.Places.{resultIn, ruleCountIn, rulesOf};
+ghost use Rattle.script.specs.code.Places.{resultIn, ruleCountIn, rulesOf, statedCount, statedOf};
 
 // Where the numbers of bodies begin, behind the rows of signatures: those of `define-fun`s, then those of synthesized functions.
 const BODIES: usize = signatures::ROW * signatures::ROWS;
 
 const FUNCTION_BODIES: usize = BODIES + limits::DEFINED;
 
-// Where those of constraints begin.
+// Where those of constraints begin, and behind them those of assumptions; and how many there are of both.
 const CONSTRAINTS: usize = FUNCTION_BODIES + limits::FUNCTIONS;
 
+const STATED: usize = limits::FIRST_ASSUMPTION + limits::ASSUMPTIONS;
+
 // Where the numbers of synthesized functions begin, and how many each has.
-const NUMBERS: usize = CONSTRAINTS + limits::CONSTRAINTS;
+const NUMBERS: usize = CONSTRAINTS + STATED;
 
 const NUMBER_ROW: usize = 4;
 
@@ -136,14 +138,12 @@ pub fn bodies_of<'a>(places: &'a [u64]) -> &'a [u64]
     &places[BODIES..]
 }
 
-// The nodes at which the first `count` constraints begin.
-pub fn constraints_of<'a>(places: &'a [u64], count: usize) -> &'a [u64]
+// The nodes at which constraints and assumptions begin.
+pub fn stated_of<'a>(places: &'a [u64]) -> &'a [u64]
     requires { ⌜ length (now places) ≡ placesLength ⌝ }
-    requires { ⌜ count ≤ mostConstraints ⌝ }
-    ensures { λ r. ⌜ now r ≡ constraintsOf (now (places .entry)) count ⌝ }
+    ensures { λ r. ⌜ now r ≡ statedOf (now (places .entry)) ⌝ }
 {
-    let end = CONSTRAINTS + count;
-    &places[CONSTRAINTS..end]
+    &places[CONSTRAINTS..NUMBERS]
 }
 
 // Puts the node at which the body of a `define-fun` begins.
@@ -154,12 +154,12 @@ pub fn put_defined_body(places: &mut [u64], defined: usize, node: usize)
     put_entry(places, BODIES + defined, node as u64);
 }
 
-// Puts the node at which a constraint begins.
-pub fn put_constraint(places: &mut [u64], constraint: usize, node: usize)
-    requires { ⌜ constraint < mostConstraints ⌝ }
-    ensures { λ _. ⌜ now (places .exit) ≡ set (now (places .entry)) (constraintsPlace + constraint) node ⌝ }
+// Puts the node at which the constraint or the assumption of a number begins.
+pub fn put_stated(places: &mut [u64], number: usize, node: usize)
+    requires { ⌜ number < statedCount ⌝ }
+    ensures { λ _. ⌜ now (places .exit) ≡ set (now (places .entry)) (constraintsPlace + number) node ⌝ }
 {
-    put_entry(places, CONSTRAINTS + constraint, node as u64);
+    put_entry(places, CONSTRAINTS + number, node as u64);
 }
 
 // Puts the node at which the body of a synthesized function begins, and the offset of the body's first word.

@@ -94,6 +94,7 @@ module _ {text lexemes names raw places nodes : List ℕ} {p : Progress} {i nowh
                 defined = n .few-defined;
                 functions = n .few-functions;
                 constraints = n .few-constraints;
+                assumptions = n .few-assumptions;
                 nodes = omega (arith, t .nodes-within z, c .here .few);
                 forms = omega (arith, t .forms-within z, c .here .few);
               }

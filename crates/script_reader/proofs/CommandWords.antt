@@ -5,24 +5,16 @@ use mathlib.Core.List.{List}
 use mathlib.Core.Path.{_≡_, refl, sym, ap, _∙_}
 use lib.Dec.{eqb}
 use Rattle.forest.specs.Limits.{scriptWords}
-use Rattle.lexemes.specs.Lists.{Items, after, closeOf, is, item}
+use Rattle.lexemes.specs.Lists.{after, closeOf, is}
 use Rattle.lexemes.specs.code.Table.{codeAt, nextAt}
 use Rattle.lexemes.specs.code.Standing.{ListAt}
-use Rattle.lexemes.specs.code.Codes.{checkSynthCode, constraintCode, declareVarCode, defineFunCode, setLogicCode, synthFunCode}
+use Rattle.lexemes.specs.code.Codes.{assumeCode, checkSynthCode, constraintCode, declareVarCode, defineFunCode, setLogicCode, synthFunCode}
 use Rattle.lexemes.proofs.ByCode.{codeFor, front-word, frontCode}
 use Rattle.lexemes.proofs.Listed.{first-code, held}
 use Rattle.lexemes.proofs.Standing.{forward}
 use Rattle.names.specs.code.Lookup.{sourceOf}
 use Rattle.script.specs.code.Tables.{CommandAt}
-
--- The tests of a command's word by its code.
-pub record Tests (c : Items) (code : ℕ) : Type 0 where
-  pub sets : is "set-logic" (item 0 c) ≡ eqb code setLogicCode
-  pub declares : is "declare-var" (item 0 c) ≡ eqb code declareVarCode
-  pub defines : is "define-fun" (item 0 c) ≡ eqb code defineFunCode
-  pub synthesizes : is "synth-fun" (item 0 c) ≡ eqb code synthFunCode
-  pub constrains : is "constraint" (item 0 c) ≡ eqb code constraintCode
-  pub checks : is "check-synth" (item 0 c) ≡ eqb code checkSynthCode
+use Rattle.script.proofs.CommandByCode.{Chosen}
 
 -- Where a command ends: its brackets are words of the text.
 pub record Ends (lexemes : List ℕ) (i close nowhere : ℕ) : Type 0 where
@@ -44,7 +36,7 @@ module _ {text lexemes : List ℕ} {i nowhere : ℕ} where
   }
 
   -- Which command it is.
-  pub tests : (h : CommandAt text lexemes i nowhere) → {code : ℕ} → code ≡ codeAt lexemes (i + 1) → Tests (h .command) code
+  pub tests : (h : CommandAt text lexemes i nowhere) → {code : ℕ} → code ≡ codeAt lexemes (i + 1) → Chosen (h .command) code
   unfolding after codeFor
   tests h {code} e =
       let front : frontCode (h .command) ≡ code = sym (first-code (listed h)) ∙ sym e in
@@ -54,7 +46,8 @@ module _ {text lexemes : List ℕ} {i nowhere : ℕ} where
         defines = front-word "define-fun" refl 0 (h .command) ∙ ap (λ (n : ℕ). eqb n defineFunCode) front;
         synthesizes = front-word "synth-fun" refl 0 (h .command) ∙ ap (λ (n : ℕ). eqb n synthFunCode) front;
         constrains = front-word "constraint" refl 0 (h .command) ∙ ap (λ (n : ℕ). eqb n constraintCode) front;
-        checks = front-word "check-synth" refl 0 (h .command) ∙ ap (λ (n : ℕ). eqb n checkSynthCode) front;
+        ends = front-word "check-synth" refl 0 (h .command) ∙ ap (λ (n : ℕ). eqb n checkSynthCode) front;
+        assumes = front-word "assume" refl 0 (h .command) ∙ ap (λ (n : ℕ). eqb n assumeCode) front;
       }
 
   -- Each command ends so.

@@ -8,7 +8,7 @@ use mathlib.Core.Path.{_≡_, refl, _∙_}
 use lib.Dec.{eqb, ltb}
 use borrow.Author.Tests.{le-ltb, ltb-false, ltb-true}
 use Rattle.lexemes.specs.Lists.{Items}
-use Rattle.lexemes.specs.code.Codes.{constraintCode, declareVarCode, defineFunCode, synthFunCode}
+use Rattle.lexemes.specs.code.Codes.{assumeCode, constraintCode, declareVarCode, defineFunCode, synthFunCode}
 use Rattle.shapes.specs.Carried.{notCarried}
 use Rattle.shapes.specs.Shapes.{commandShape}
 use Rattle.forest.specs.Limits.{Counts}
@@ -19,7 +19,7 @@ use Rattle.script.specs.declared.Verdict.{Verdict}
 use Rattle.script.specs.code.Answers.{limitAnswer, shapeAnswer, uncarriedAnswer, nameAnswer, sortAnswer, grammarAnswer}
 use Rattle.script_reader.specs.code.Commands.{Reads}
 use Rattle.script_reader.specs.declared.Step.{Step}
-use Rattle.script_reader.proofs.CommandWords.{Tests}
+use Rattle.script.proofs.CommandByCode.{Chosen}
 
 -- A refusal has a number, which is not 0.
 abbrev pub Numbered : Read → Type 0
@@ -105,16 +105,18 @@ module _ (counts : Counts) (nowhere : ℕ) (k : Known) (at : ℕ) (c : Items) (s
       go false false false true l n m g h = (number ∙ h .0, place ∙ h .1)
       go false false false false l n m g h = (number ∙ h, tables h)
 
-  module _ {code : ℕ} (t : Tests c code) where
+  module _ {code : ℕ} (t : Chosen c code) where
     -- Commands that say nothing but themselves pass.
-    pub others-pass : eqb code declareVarCode ≡ false → eqb code defineFunCode ≡ false → eqb code synthFunCode ≡ false → eqb code constraintCode ≡ false → tested counts nowhere k at c said ≡ passed said
+    pub others-pass : eqb code declareVarCode ≡ false → eqb code defineFunCode ≡ false → eqb code synthFunCode ≡ false
+        → eqb code constraintCode ≡ false → eqb code assumeCode ≡ false → tested counts nowhere k at c said ≡ passed said
     unfolding tested limitPlace namePlace sortingPlace grammarPlace
-    others-pass e9 e10 e11 e12 =
+    others-pass e9 e10 e11 e12 e14 =
         let d9 = t .declares ∙ e9 in
         let d10 = t .defines ∙ e10 in
         let d11 = t .synthesizes ∙ e11 in
         let d12 = t .constrains ∙ e12 in
-        rw (d9, d10, d11, d12, le-ltb nowhere nowhere (omega arith))
+        let d14 = t .assumes ∙ e14 in
+        rw (d9, d10, d11, d12, d14, le-ltb nowhere nowhere (omega arith))
 
 -- Where a command is not past its limit, there are fewer of its kind before it.
 pub fewer : (nowhere most before at others : ℕ) → at < nowhere → nowhere ≤ min (commandPast nowhere most before at) others → before < most

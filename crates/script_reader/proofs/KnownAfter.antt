@@ -6,15 +6,15 @@ use mathlib.Core.List.{List, [], _∷_, _++_}
 use mathlib.Core.Path.{_≡_, refl, sym, ap, ap₂, _∙_}
 use lib.Dec.{eqb}
 use lib.ListN.{length, length-append}
-use Rattle.forest.specs.Limits.{mostConstraints, mostDefined, mostFunctions, mostVariables}
+use Rattle.forest.specs.Limits.{mostAssumptions, mostConstraints, mostDefined, mostFunctions, mostVariables}
 use Rattle.lexemes.specs.Lists.{Items}
-use Rattle.lexemes.specs.code.Codes.{constraintCode, declareVarCode, defineFunCode, synthFunCode}
+use Rattle.lexemes.specs.code.Codes.{assumeCode, constraintCode, declareVarCode, defineFunCode, synthFunCode}
 use Rattle.script.specs.Script.{Known, knownAfter, outOfPlace}
 use Rattle.script.specs.code.Tables.{Counted, NamesHold, PlacesHold}
 use Rattle.script.specs.declared.Progress.{Progress}
 use Rattle.script_reader.specs.code.Commands.{saidBy}
 use Rattle.script_reader.specs.code.Progress.{outOfPlaceBy}
-use Rattle.script_reader.proofs.CommandWords.{Tests}
+use Rattle.script.proofs.CommandByCode.{Chosen}
 
 -- A list that a test adds to: how long it is.
 longer : {A : Type 0} (b m : Bool) (more few : List A) → b ≡ m → length more ≡ length few + 1 → length (cond b more few) ≡ cond m (length few + 1) (length few)
@@ -28,10 +28,10 @@ behind : {A : Type 0} (few : List A) (a : A) → length (few ++ a ∷ []) ≡ le
 behind few a = simp length-append
 
 -- Whether a command is out of place, by its code.
-pub out-by : {p : Progress} {k : Known} {c : Items} {code : ℕ} → Counted p k → Tests c code → outOfPlaceBy p code ≡ outOfPlace k c
-out-by n t = rw (n .logic-is, n .ended-is, n .functions-are, t .sets, t .checks)
+pub out-by : {p : Progress} {k : Known} {c : Items} {code : ℕ} → Counted p k → Chosen c code → outOfPlaceBy p code ≡ outOfPlace k c
+out-by n t = rw (n .logic-is, n .ended-is, n .functions-are, t .sets, t .ends)
 
-module _ (k : Known) {c : Items} {code : ℕ} (t : Tests c code) where
+module _ (k : Known) {c : Items} {code : ℕ} (t : Chosen c code) where
   -- Only `declare-var` adds a variable.
   pub same-variables : eqb code declareVarCode ≡ false → knownAfter k c .variables ≡ k .variables
   unfolding knownAfter
@@ -52,24 +52,34 @@ module _ (k : Known) {c : Items} {code : ℕ} (t : Tests c code) where
   unfolding knownAfter
   same-constraints e = rw (t .constrains, e)
 
+  -- Only `assume` adds an assumption.
+  pub same-assumptions : eqb code assumeCode ≡ false → knownAfter k c .assumptions ≡ k .assumptions
+  unfolding knownAfter
+  same-assumptions e = rw (t .assumes, e)
+
   -- The numbers after a command are those of what is known after it.
   pub counted-after : {p : Progress} (rows : ℕ) → Counted p k
       → let q = saidBy p code rows in
-      q .variables ≤ mostVariables → q .defined ≤ mostDefined → q .functions ≤ mostFunctions → q .constraints ≤ mostConstraints → Counted q (knownAfter k c)
+      q .variables ≤ mostVariables → q .defined ≤ mostDefined → q .functions ≤ mostFunctions → q .constraints ≤ mostConstraints
+      → q .assumptions ≤ mostAssumptions → Counted q (knownAfter k c)
   unfolding knownAfter
-  counted-after rows n variables defined functions constraints = record {
+  counted-after rows n variables defined functions constraints assumptions = record {
     logic-is = ap₂ _||_ (n .logic-is) (sym (t .sets));
-    ended-is = ap₂ _||_ (n .ended-is) (sym (t .checks));
+    ended-is = ap₂ _||_ (n .ended-is) (sym (t .ends));
     variables-are = ap (λ (m : ℕ). cond (eqb code declareVarCode) (m + 1) m) (n .variables-are) ∙ sym (longer _ _ _ (k .variables) (t .declares) (behind (k .variables) _));
     defined-are = ap (λ (m : ℕ). cond (eqb code defineFunCode) (m + 1) m) (n .defined-are) ∙ sym (longer _ _ _ (k .defined) (t .defines) (omega arith));
     functions-are = ap (λ (m : ℕ). cond (eqb code synthFunCode) (m + 1) m) (n .functions-are) ∙ sym (longer _ _ _ (k .functions) (t .synthesizes) (omega arith));
     constraints-are =
         ap (λ (m : ℕ). cond (eqb code constraintCode) (m + 1) m) (n .constraints-are)
         ∙ sym (longer _ _ _ (k .constraints) (t .constrains) (behind (k .constraints) _));
+    assumptions-are =
+        ap (λ (m : ℕ). cond (eqb code assumeCode) (m + 1) m) (n .assumptions-are)
+        ∙ sym (longer _ _ _ (k .assumptions) (t .assumes) (behind (k .assumptions) _));
     few-variables = variables;
     few-defined = defined;
     few-functions = functions;
     few-constraints = constraints;
+    few-assumptions = assumptions;
   }
 
 module _ {k later : Known} (defined : later .defined ≡ k .defined) (functions : later .functions ≡ k .functions) where
@@ -85,9 +95,9 @@ module _ {k later : Known} (defined : later .defined ≡ k .defined) (functions 
   }
 
   -- So do tables of places and nodes.
-  pub places-kept : {places nodes : List ℕ} {rows : ℕ} → later .constraints ≡ k .constraints
+  pub places-kept : {places nodes : List ℕ} {rows : ℕ} → later .constraints ≡ k .constraints → later .assumptions ≡ k .assumptions
       → PlacesHold places nodes rows k → PlacesHold places nodes rows later
-  places-kept constraints h = record {
+  places-kept constraints assumptions h = record {
     long = h .long;
     defined-rows = rw defined (h .defined-rows);
     function-rows = rw functions (h .function-rows);
@@ -98,4 +108,5 @@ module _ {k later : Known} (defined : later .defined ≡ k .defined) (functions 
     plain = h .plain;
     bodies-at = rw defined (h .bodies-at);
     constraints-at = rw constraints (h .constraints-at);
+    assumptions-at = rw assumptions (h .assumptions-at);
   }

@@ -23,7 +23,7 @@ use Rattle.names.specs.code.Lookup.{Names, sourceOf}
 use Rattle.names.specs.code.Table.{namesFrom, sortsFrom}
 use Rattle.forest.specs.Limits.{allowed}
 use Rattle.script.specs.Script.{Known, Read, andThen, judged, knownAfter, passed, readAll, refused, nothingKnown}
-use Rattle.script.specs.code.Tables.{ArgumentsHold, ConstraintsAt, GrammarsHold, KnownHeld}
+use Rattle.script.specs.code.Tables.{ArgumentsHold, GrammarsHold, KnownHeld, StatedAt}
 use Rattle.script.specs.code.Places.{formsPlace, placesLength}
 use Rattle.script.specs.declared.Progress.{Progress}
 use Rattle.script.specs.code.Answers.{shapeAnswer}
@@ -36,7 +36,7 @@ use Rattle.script_reader.proofs.JudgedInOrder.{Numbered, judged-numbere
 
 -- Before the first command the tables hold that nothing is known.
 pub nothing-held : {names places : List ℕ} (nodes : List ℕ) → Names names → length places ≡ placesLength → KnownHeld names places nodes nothingSaid nothingKnown
-unfolding namesFrom sortsFrom inOrder ArgumentsHold RowsAre AllPlain BodiesAt ConstraintsAt GrammarsHold nodeTable nodesOf rows size
+unfolding namesFrom sortsFrom inOrder ArgumentsHold RowsAre AllPlain BodiesAt StatedAt GrammarsHold nodeTable nodesOf rows size
 nothing-held nodes table long = record {
   counted = record {
     logic-is = refl;
@@ -45,10 +45,12 @@ nothing-held nodes table long = record {
     defined-are = refl;
     functions-are = refl;
     constraints-are = refl;
+    assumptions-are = refl;
     few-variables = omega arith;
     few-defined = omega arith;
     few-functions = omega arith;
     few-constraints = omega arith;
+    few-assumptions = omega arith;
   };
   names-hold = record {
     table = table;
@@ -69,6 +71,7 @@ nothing-held nodes table long = record {
     plain = tt;
     bodies-at = tt;
     constraints-at = tt;
+    assumptions-at = tt;
   };
   grammars-hold = tt;
   forms-room = omega arith;

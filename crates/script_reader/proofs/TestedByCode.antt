@@ -2,31 +2,49 @@
 use Prim.Native.Nat.{ℕ, _*_, _-_, _≤_, _<_}
 use Prim.Native.String.{String}
 use native.Mathlib.Omega.{arith}
-use mathlib.Core.Bool.{true}
+use mathlib.Core.Bool.{Bool, true, false, cond, _||_}
 use mathlib.Core.List.{List, _++_}
 use mathlib.Core.Path.{_≡_, refl, ap, subst, subst⁻¹}
 use lib.ListN.{drop, length, length-drop, take}
 use lib.Seq.{length-take-le}
+use lib.Dec.{eqb}
 use borrow.Author.Tests.{ne-eqb}
 use Rattle.lexemes.specs.Lists.{Items, is, item}
-use Rattle.lexemes.specs.code.Codes.{constraintCode, declareVarCode, defineFunCode, synthFunCode}
-use Rattle.forest.specs.Limits.{allowed, mostConstraints, mostDefined, mostFunctions, mostVariables}
+use Rattle.lexemes.specs.code.Codes.{assumeCode, constraintCode, declareVarCode, defineFunCode, synthFunCode}
+use Rattle.forest.specs.Limits.{allowed, mostAssumptions, mostConstraints, mostDefined, mostFunctions, mostVariables}
 use Rattle.terms.specs.code.Nodes.{rowWidth as nodeWidth}
 use Rattle.script.specs.Script.{Known, knownAfter, limitPlace, tested}
 use Rattle.script.specs.code.Tables.{CommandOf, Says, TablesHold}
 use Rattle.script.specs.code.Places.{formsPlace}
 use Rattle.script.specs.declared.Progress.{Progress}
 use Rattle.script.specs.declared.Verdict.{Verdict}
-use Rattle.commands.specs.code.Constraint.{Constrained, Constraining}
+use Rattle.commands.specs.code.State.{Stated, Stating, statedWord}
 use Rattle.commands.specs.code.DeclareVar.{Declared, Declaring}
 use Rattle.commands.specs.code.DefineFun.{Defined, Defining}
 use Rattle.synth_fun.specs.code.Synthesizing.{Synthesized, Synthesizing}
 use Rattle.script_reader.specs.code.Commands.{saidBy}
 use Rattle.script_reader.specs.code.Command.{CommandTested, Shaped}
-use Rattle.script_reader.proofs.CommandWords.{Tests, ends-in, tests}
-use Rattle.script_reader.proofs.KnownAfter.{counted-after, names-kept, places-kept, same-constraints, same-defined, same-functions, same-variables}
+use Rattle.script_reader.proofs.CommandWords.{ends-in, tests}
+use Rattle.script.proofs.CommandByCode.{Chosen}
+use Rattle.script_reader.proofs.KnownAfter.{counted-after, names-kept, places-kept, same-assumptions, same-constraints, same-defined, same-functions}
+use Rattle.script_reader.proofs.KnownAfter.{same-variables}
 use Rattle.script_reader.proofs.NodeTableParts.{Parts, all-lent, formsLent, parts-behind, parts-front, parts-same}
 use Rattle.script_reader.proofs.JudgedInOrder.{fewer, others-pass, within-limits}
+
+-- The code of `constraint` or `assume`.
+abbrev pub statedCode : (assumed : Bool) → ℕ
+statedCode assumed = cond assumed assumeCode constraintCode
+
+-- It is that of no other command, and of one that says a term.
+record OtherCodes (code : ℕ) : Type 0 where
+  declares : eqb code declareVarCode ≡ false
+  defines : eqb code defineFunCode ≡ false
+  synthesizes : eqb code synthFunCode ≡ false
+  says-term : eqb code defineFunCode || eqb code constraintCode || eqb code assumeCode ≡ true
+
+other-codes : (assumed : Bool) → OtherCodes (statedCode assumed)
+other-codes true = record { declares = refl; defines = refl; synthesizes = refl; says-term = refl }
+other-codes false = record { declares = refl; defines = refl; synthesizes = refl; says-term = refl }
 
 -- The tables hold what is known, in no more rows than words before the one given.
 pub record Held (names places nodes forms : List ℕ) (q : Progress) (k : Known) (close : ℕ) : Type 0 where
@@ -49,8 +67,8 @@ module _ {text lexemes names raw places nodes : List ℕ} {p : Progress} {code i
   later = knownAfter known command
 
   -- The tests of its word.
-  pub command-is : {m : ℕ} → code ≡ m → Tests command m
-  command-is e = subst (λ (m : ℕ). Tests command m) e (tests (c .commanded .here) (c .coded))
+  pub command-is : {m : ℕ} → code ≡ m → Chosen command m
+  command-is e = subst (λ (m : ℕ). Chosen command m) e (tests (c .commanded .here) (c .coded))
 
   -- The part for terms is whole.
   terms-whole : formsPlace ≤ length nodes
@@ -117,10 +135,15 @@ module _ {text lexemes names raw places nodes : List ℕ} {p : Progress} {code i
     within = c .commanded .forms-within;
   }
 
-  -- What `constraint` asks.
-  abbrev pub constraining : code ≡ constraintCode → Constraining text lexemes names raw places (take formsPlace nodes) p i nowhere
-  constraining e = record {
-    of = command-of (command-is e .constrains);
+  -- It is a `constraint` or an `assume`.
+  pub stated-is : (assumed : Bool) → code ≡ statedCode assumed → is (statedWord assumed) (item 0 command) ≡ true
+  stated-is true e = command-is e .assumes
+  stated-is false e = command-is e .constrains
+
+  -- What `constraint` and `assume` ask.
+  abbrev pub stating : (assumed : Bool) → code ≡ statedCode assumed → Stating text lexemes names raw places (take formsPlace nodes) p i nowhere assumed
+  stating assumed e = record {
+    of = command-of (stated-is assumed e);
     names-hold = c .commanded .tables .names-hold;
     places-hold = c .commanded .tables .places-hold;
     raw-room = c .commanded .roomy .raw-room;
@@ -152,9 +175,10 @@ module _ {text lexemes names raw places nodes : List ℕ} {p : Progress} {code i
           let functions = same-functions known t refl in
           record {
             tables = record {
-              counted = counted-after known t (v .rows) n (omega arith) (n .few-defined) (n .few-functions) (n .few-constraints);
+              counted = counted-after known t (v .rows) n (omega arith) (n .few-defined) (n .few-functions) (n .few-constraints) (n .few-assumptions);
               names-hold = g .names-hold z;
-              places-hold = places-kept (same-defined known t refl) functions (same-constraints known t refl) (before .tables .places-hold);
+              places-hold = places-kept (same-defined known t refl) functions (same-constraints known t refl) (same-assumptions known t refl)
+                  (before .tables .places-hold);
               grammars-hold = rw functions (before .tables .grammars-hold);
               forms-room = before .tables .forms-room;
             };
@@ -179,7 +203,7 @@ module _ {text lexemes names raw places nodes : List ℕ} {p : Progress} {code i
           let room = fewer nowhere mostDefined (length (known .defined)) i _ ahead most in
           record {
             tables = record {
-              counted = counted-after known t (v .rows) n (n .few-variables) (omega arith) (n .few-functions) (n .few-constraints);
+              counted = counted-after known t (v .rows) n (n .few-variables) (omega arith) (n .few-functions) (n .few-constraints) (n .few-assumptions);
               names-hold = g .names-hold z;
               places-hold = g .places-hold z;
               grammars-hold = rw (same-functions known t refl, g .kept) (before .tables .grammars-hold);
@@ -206,7 +230,7 @@ module _ {text lexemes names raw places nodes : List ℕ} {p : Progress} {code i
           let room = fewer nowhere mostFunctions (length (known .functions)) i _ ahead most in
           record {
             tables = record {
-              counted = counted-after known t (v .rows) n (n .few-variables) (n .few-defined) (omega arith) (n .few-constraints);
+              counted = counted-after known t (v .rows) n (n .few-variables) (n .few-defined) (omega arith) (n .few-constraints) (n .few-assumptions);
               names-hold = g .names-hold z;
               places-hold = g .places-hold z;
               grammars-hold = g .grammars-hold z;
@@ -216,38 +240,61 @@ module _ {text lexemes names raw places nodes : List ℕ} {p : Progress} {code i
             forms-within = g .within z;
           }
 
-  -- What a `constraint` gives.
-  pub constrained : (e : code ≡ constraintCode) {rawAfter placesAfter terms : List ℕ} {v : Verdict}
-      → Constrained (constraining e) rawAfter placesAfter terms v
-      → CommandTested c names rawAfter placesAfter (terms ++ drop formsPlace nodes) v
+  -- There are no more of them than there may be.
+  few-stated : (assumed : Bool) → code ≡ statedCode assumed → (v : Verdict) → Says v (tested allowed nowhere known i command later) → v .number ≡ 0
+      → let q = saidBy p (statedCode assumed) (v .rows) in (q .constraints ≤ mostConstraints) × (q .assumptions ≤ mostAssumptions)
   unfolding limitPlace
-  constrained e {rawAfter} {placesAfter} {terms} {v} g = by-code e (g .verdict-is) (g .raw-long) (parts-front terms-whole (g .nodes-long)) held
+  few-stated true e v says z =
+      let n = c .commanded .tables .counted in
+      let t = command-is e in
+      let most = rw (t .declares, t .defines, t .synthesizes, t .constrains, t .assumes) at (limits v says z) in
+      let room = fewer nowhere mostAssumptions (length (known .assumptions)) i _ ahead most in
+      (n .few-constraints, omega (arith, n .assumptions-are))
+  few-stated false e v says z =
+      let n = c .commanded .tables .counted in
+      let t = command-is e in
+      let most = rw (t .declares, t .defines, t .synthesizes, t .constrains) at (limits v says z) in
+      let room = fewer nowhere mostConstraints (length (known .constraints)) i _ ahead most in
+      (omega (arith, n .constraints-are), n .few-assumptions)
+
+  -- What a `constraint` and an `assume` give.
+  pub stated : (assumed : Bool) (e : code ≡ statedCode assumed) {rawAfter placesAfter terms : List ℕ} {v : Verdict}
+      → Stated (stating assumed e) rawAfter placesAfter terms v
+      → CommandTested c names rawAfter placesAfter (terms ++ drop formsPlace nodes) v
+  stated assumed e {rawAfter} {placesAfter} {terms} {v} g = by-code e (g .verdict-is) (g .raw-long) (parts-front terms-whole (g .nodes-long)) held
     where
-      held : v .number ≡ 0 → Held names placesAfter terms (drop formsPlace nodes) (saidBy p constraintCode (v .rows)) later (c .commanded .here .close)
+      held : v .number ≡ 0 → Held names placesAfter terms (drop formsPlace nodes) (saidBy p (statedCode assumed) (v .rows)) later (c .commanded .here .close)
       held z =
           let before = c .commanded in
           let n = before .tables .counted in
           let ends = ends-in (before .here) in
           let t = command-is e in
-          let most = rw (t .declares, t .defines, t .synthesizes, t .constrains) at (limits v (g .verdict-is) z) in
-          let room = fewer nowhere mostConstraints (length (known .constraints)) i _ ahead most in
-          let functions = same-functions known t refl in
+          let o = other-codes assumed in
+          let few = few-stated assumed e v (g .verdict-is) z in
+          let functions = same-functions known t (o .synthesizes) in
           record {
             tables = record {
-              counted = counted-after known t (v .rows) n (n .few-variables) (n .few-defined) (n .few-functions) (omega arith);
-              names-hold = names-kept (same-defined known t refl) functions (same-variables known t refl) (before .tables .names-hold);
-              places-hold = g .places-hold z;
-              grammars-hold = rw (functions, g .kept) (before .tables .grammars-hold);
-              forms-room = before .tables .forms-room;
+              counted =
+                  counted-after known t (v .rows) n
+                  (rw (o .declares) (n .few-variables))
+                  (rw (o .defines) (n .few-defined))
+                  (rw (o .synthesizes) (n .few-functions))
+                  (few .0)
+                  (few .1);
+              names-hold = names-kept (same-defined known t (o .defines)) functions (same-variables known t (o .declares)) (before .tables .names-hold);
+              places-hold = rw (o .says-term) (g .places-hold z);
+              grammars-hold = rw (o .synthesizes, functions, g .kept) (before .tables .grammars-hold);
+              forms-room = rw (o .synthesizes) (before .tables .forms-room);
             };
-            nodes-within = g .within z;
-            forms-within = omega (arith, before .forms-within);
+            nodes-within = rw (o .says-term) (g .within z);
+            forms-within = rw (o .synthesizes) (omega (arith, before .forms-within));
           }
 
   -- What the other commands give.
-  pub others : (code ≡ declareVarCode → ⊥) → (code ≡ defineFunCode → ⊥) → (code ≡ synthFunCode → ⊥) → (code ≡ constraintCode → ⊥) → {v : Verdict} → v ≡ record { number = 0; place = i; rows = 0 }
+  pub others : (code ≡ declareVarCode → ⊥) → (code ≡ defineFunCode → ⊥) → (code ≡ synthFunCode → ⊥) → (code ≡ constraintCode → ⊥)
+      → (code ≡ assumeCode → ⊥) → {v : Verdict} → v ≡ record { number = 0; place = i; rows = 0 }
       → CommandTested c names raw places nodes v
-  others n9 n10 n11 n12 {v} e =
+  others n9 n10 n11 n12 n14 {v} e =
       let before = c .commanded in
       let n = before .tables .counted in
       let ends = ends-in (before .here) in
@@ -256,22 +303,25 @@ module _ {text lexemes names raw places nodes : List ℕ} {p : Progress} {code i
       let e10 = ne-eqb code defineFunCode n10 in
       let e11 = ne-eqb code synthFunCode n11 in
       let e12 = ne-eqb code constraintCode n12 in
+      let e14 = ne-eqb code assumeCode n14 in
       let functions = same-functions known t e11 in
       let defined = same-defined known t e10 in
       let zero : v .number ≡ 0 = ap (λ (w : Verdict). w .number) e in
-      by-code refl (rw (others-pass allowed nowhere known i command later t e9 e10 e11 e12) zero) refl (parts-same nodes) (λ z. record {
+      by-code refl (rw (others-pass allowed nowhere known i command later t e9 e10 e11 e12 e14) zero) refl (parts-same nodes) (λ z. record {
         tables = record {
           counted =
               counted-after known t (v .rows) n
               (rw e9 (n .few-variables))
               (rw e10 (n .few-defined))
               (rw e11 (n .few-functions))
-              (rw e12 (n .few-constraints));
+              (rw e12 (n .few-constraints))
+              (rw e14 (n .few-assumptions));
           names-hold = names-kept defined functions (same-variables known t e9) (before .tables .names-hold);
-          places-hold = rw (e10, e12) (places-kept defined functions (same-constraints known t e12) (before .tables .places-hold));
+          places-hold = rw (e10, e12, e14) (places-kept defined functions (same-constraints known t e12) (same-assumptions known t e14)
+              (before .tables .places-hold));
           grammars-hold = rw (e11, functions) (before .tables .grammars-hold);
           forms-room = rw e11 (before .tables .forms-room);
         };
-        nodes-within = rw (e10, e12) (omega (arith, before .nodes-within));
+        nodes-within = rw (e10, e12, e14) (omega (arith, before .nodes-within));
         forms-within = rw e11 (omega (arith, before .forms-within));
       })

@@ -3,10 +3,11 @@ use crate::Step;
 use crate::progress::answer;
 use crate::progress::out_of_place;
 use crate::progress::step_by;
-use commands::constraint::constrain;
 use commands::declare_var::declare_var;
 use commands::define_fun::define_fun;
+use commands::state::state;
 use lexemes::code_at;
+use lexemes::codes::ASSUME;
 use lexemes::codes::CONSTRAINT;
 use lexemes::codes::DECLARE_VAR;
 use lexemes::codes::DEFINE_FUN;
@@ -59,7 +60,7 @@ fn test_command(
             &mut nodes[FORMS..],
             command,
         ),
-        CONSTRAINT => constrain(
+        CONSTRAINT => state(
             text,
             lexemes,
             names,
@@ -67,6 +68,17 @@ fn test_command(
             places,
             &mut nodes[..FORMS],
             command,
+            false,
+        ),
+        ASSUME => state(
+            text,
+            lexemes,
+            names,
+            raw,
+            places,
+            &mut nodes[..FORMS],
+            command,
+            true,
         ),
         _ => verdict(ACCEPTED, command.at, 0),
     }

@@ -1,5 +1,6 @@
 //! What a command says, in numbers.
 use crate::Step;
+use lexemes::codes::ASSUME;
 use lexemes::codes::CHECK_SYNTH;
 use lexemes::codes::CONSTRAINT;
 use lexemes::codes::DECLARE_VAR;
@@ -42,7 +43,7 @@ fn said(progress: Progress, code: u64, rows: usize) -> Progress
     requires { ⌜ Few (saidBy progress code rows) ⌝ }
     ensures { λ r. ⌜ r ≡ saidBy progress code rows ⌝ }
 {
-    let term = (code == DEFINE_FUN) | (code == CONSTRAINT);
+    let term = (code == DEFINE_FUN) | (code == CONSTRAINT) | (code == ASSUME);
     Progress {
         logic: progress.logic | (code == SET_LOGIC),
         ended: progress.ended | (code == CHECK_SYNTH),
@@ -50,6 +51,7 @@ fn said(progress: Progress, code: u64, rows: usize) -> Progress
         defined: grown(progress.defined, code == DEFINE_FUN, 1),
         functions: grown(progress.functions, code == SYNTH_FUN, 1),
         constraints: grown(progress.constraints, code == CONSTRAINT, 1),
+        assumptions: grown(progress.assumptions, code == ASSUME, 1),
         nodes: grown(progress.nodes, term, rows),
         forms: grown(progress.forms, code == SYNTH_FUN, rows),
     }

@@ -23,6 +23,7 @@ pub fn nothing_said() -> Progress
         defined: 0,
         functions: 0,
         constraints: 0,
+        assumptions: 0,
         nodes: 0,
         forms: 0,
     }

@@ -6,7 +6,7 @@ use mathlib.Core.Bool.{Bool, true, false, _&&_, _||_, and-false, and-true}
 use mathlib.Core.List.{List}
 use lib.Dec.{leb, ltb}
 use borrow.Author.Tests.{le-leb, le-ltb, leb-false, leb-true, lt-leb, lt-ltb, ltb-false, ltb-true}
-use Rattle.lexemes.specs.code.Codes.{checkSynthCode, otherCommandCode, otherCommandCount, setLogicCode, synthFunCode, trueCode}
+use Rattle.lexemes.specs.code.Codes.{assumeCode, otherCommandCode, otherCommandCount, setLogicCode, synthFunCode, trueCode}
 use Rattle.lexemes.specs.Reserved.{carriedCommands, otherCommands}
 use Rattle.lexemes.specs.code.Table.{codeAt, nextAt}
 use Rattle.lexemes.specs.code.Standing.{Between, ListAt}
@@ -72,15 +72,15 @@ module _ {lexemes : List ℕ} {at : ℕ} {command : ℕ} (ec : command ≡ codeA
     high = leb-false trueCode command (or-right (ltb command setLogicCode) (leb trueCode command) within)
 
     tested : (x : ListAt lexemes at)
-        → notCarried (x .operands) ≡ ltb checkSynthCode command || o || g || ltb command otherCommandCode && anyUncarried (x .operands)
+        → notCarried (x .operands) ≡ ltb assumeCode command || o || g || ltb command otherCommandCode && anyUncarried (x .operands)
     tested x = parts x ∙ rw (← logic x, ← grammar x, le-leb setLogicCode command low, lt-ltb command trueCode high, and-true (leb otherCommandCode command))
 
-    pub uncarried-command : ltb checkSynthCode command || o || g ≡ true → (x : ListAt lexemes at) → true ≡ notCarried (x .operands)
+    pub uncarried-command : ltb assumeCode command || o || g ≡ true → (x : ListAt lexemes at) → true ≡ notCarried (x .operands)
     uncarried-command t x = sym (tested x ∙ rw t)
 
-    pub carried-command : ltb checkSynthCode command || o || g ≡ false → {next : ℕ} → next ≡ nextAt lexemes at → {r : Bool}
+    pub carried-command : ltb assumeCode command || o || g ≡ false → {next : ℕ} → next ≡ nextAt lexemes at → {r : Bool}
         → ((b : Between lexemes (at + 1) (next - 1)) → r ≡ anyUncarried (b .items)) → (x : ListAt lexemes at) → r ≡ notCarried (x .operands)
     carried-command t e found x =
-        let up : command ≤ checkSynthCode =
-        ltb-false checkSynthCode command (or-left (ltb checkSynthCode command) o (or-left (ltb checkSynthCode command || o) g t)) in
+        let up : command ≤ assumeCode =
+        ltb-false assumeCode command (or-left (ltb assumeCode command) o (or-left (ltb assumeCode command || o) g t)) in
         sym (tested x ∙ rw (t, lt-ltb command otherCommandCode (omega arith), found (between x e)))

@@ -82,7 +82,7 @@ defineFunShape c = eqb (count c) 5 && headerShape c && termShape (item 4 c) (ins
 abbrev pub synthFunShape : Items → Bool
 synthFunShape c = eqb (count c) 6 && headerShape c && isListOf pairShape (item 4 c) (inside 4 c) && isListOf groupShape (item 5 c) (inside 5 c)
 
--- "(constraint <Term>)"
+-- "(constraint <Term>)", "(assume <Term>)"
 abbrev pub constraintShape : Items → Bool
 constraintShape c = eqb (count c) 2 && termShape (item 1 c) (inside 1 c)
 
@@ -99,4 +99,5 @@ commandShape c =
     (cond (is "synth-fun" (item 0 c)) (synthFunShape c)
     (cond (is "constraint" (item 0 c)) (constraintShape c)
     (cond (is "check-synth" (item 0 c)) (checkSynthShape c)
-    false)))))
+    (cond (is "assume" (item 0 c)) (constraintShape c)
+    false))))))

@@ -3,10 +3,10 @@ use crate::forms::set_logic_shape;
 use crate::lists::count_in;
 use lexemes::OPEN;
 use lexemes::code_at;
+use lexemes::codes::ASSUME;
 use lexemes::codes::BANG;
 use lexemes::codes::BIT_VEC;
 use lexemes::codes::BV;
-use lexemes::codes::CHECK_SYNTH;
 use lexemes::codes::EXISTS;
 use lexemes::codes::EXTRACT;
 use lexemes::codes::FORALL;
@@ -79,7 +79,7 @@ pub fn not_carried(lexemes: &[u64], at: usize) -> bool
     if (command < SET_LOGIC) | (command >= TRUE) {
         return false;
     }
-    if (command > CHECK_SYNTH) | other_logic(lexemes, at) | no_grammar(lexemes, at) {
+    if (command > ASSUME) | other_logic(lexemes, at) | no_grammar(lexemes, at) {
         return true;
     }
     any_uncarried(lexemes, at + 1, next_at(lexemes, at) - 1)

@@ -8,6 +8,7 @@ use crate::lists::count_in;
 use crate::lists::item_in;
 use crate::terms::term_shape;
 use lexemes::code_at;
+use lexemes::codes::ASSUME;
 use lexemes::codes::CHECK_SYNTH;
 use lexemes::codes::CONSTRAINT;
 use lexemes::codes::DECLARE_VAR;
@@ -42,6 +43,7 @@ pub fn command_shape(lexemes: &[u64], at: usize) -> bool
         SYNTH_FUN => synth_fun_shape(lexemes, at),
         CONSTRAINT => constraint_shape(lexemes, at),
         CHECK_SYNTH => count_in(lexemes, at) == 1,
+        ASSUME => constraint_shape(lexemes, at),
         _ => false,
     }
 }

@@ -56,7 +56,7 @@ pub fn synth_fun_shape(lexemes: &[u64], at: usize) -> bool
         & groups_shape(lexemes, item_in(lexemes, at, 5))
 }
 
-// Whether a list has the shape of `constraint`.
+// Whether a list has the shape of `constraint` and `assume`.
 pub fn constraint_shape(lexemes: &[u64], at: usize) -> bool
     requires { ⌜ ListAt (now lexemes) at ⌝ }
     ensures { λ r. ⌜ ((here : ListAt (now (lexemes .entry)) at) → r ≡ constraintShape (here .operands)) ⌝ }

@@ -22,6 +22,7 @@ use Rattle.script.proofs.Signed.{back-kept, rows-grow, rows-kept}
 use Rattle.script.proofs.SortsPut.{rows-before}
 use Rattle.script.proofs.Written.{before-written, drop-written, read-written}
 use Rattle.script.specs.Script.{argumentsOf, viewOf, definitionsOf}
+use Rattle.forest.specs.Limits.{firstAssumption}
 use Rattle.script.specs.code.Tables.{ArgumentsHold, GrammarHeld, GrammarsHold, PlacesHold, definedSignatures}
 use Rattle.script.specs.code.Places.{bodiesPlace, constraintsPlace, functionWidth, functionsPlace, ownRules, placesLength, rulesPlace}
 use Rattle.script.specs.declared.Progress.{Progress}
@@ -33,7 +34,7 @@ use Rattle.names.proofs.PairNames.{named-long}
 use Rattle.synth_fun.proofs.FunctionKnown.{after-is, functionOf, withFunction}
 use Rattle.synth_fun.proofs.RulesSaid.{forms-size, length-forms, said-long, sides-said, starts-said}
 use Rattle.synth_fun.proofs.SortsSought.{forms-there, limits, same-behind}
-use Rattle.synth_fun.proofs.TablesKept.{Same, bodies-same, constraints-same, grammars-kept, part-before, rows-elsewhere}
+use Rattle.synth_fun.proofs.TablesKept.{Same, bodies-same, stated-same, grammars-kept, part-before, rows-elsewhere}
 
 module _ {text lexemes names raw places forms : List ℕ} {p : Progress} {g : Gathered} {h : Header} {i nowhere : ℕ}
     (s : Unsorted text lexemes names raw places forms p g h i nowhere)
@@ -146,8 +147,10 @@ module _ {text lexemes names raw places forms : List ℕ} {p : Progress} {g : Ga
           plain = held .plain;
           bodies-at = bodies-same (held .all) _ _ 0 (definitionsOf (k .defined)) (λ j h. rw (getD-drop, getD-drop)
               (number-kept (bodiesPlace + (0 + j)) (omega arith) (omega (arith, counted .defined-are, counted .few-defined)))) (held .bodies-at);
-          constraints-at = constraints-same (held .all) places placesAfter 0 (k .constraints) (λ j h.
+          constraints-at = stated-same (held .all) places placesAfter 0 (k .constraints) (λ j h.
               number-kept (constraintsPlace + j) (omega arith) (omega (arith, counted .constraints-are, counted .few-constraints))) (held .constraints-at);
+          assumptions-at = stated-same (held .all) places placesAfter firstAssumption (k .assumptions) (λ j h.
+              number-kept (constraintsPlace + j) (omega arith) (omega (arith, counted .assumptions-are, counted .few-assumptions))) (held .assumptions-at);
         }
 
     -- the tables have what they had of the functions before it

@@ -34,10 +34,11 @@ withFunction k c = record {
   defined = k .defined;
   functions = functionOf k c ∷ k .functions;
   constraints = k .constraints;
+  assumptions = k .assumptions;
 }
 
 -- That is what is known after the command.
 pub after-is : {text lexemes : List ℕ} {p : Progress} {i nowhere : ℕ} (of : CommandOf "synth-fun" text lexemes p i nowhere)
     → After of ≡ withFunction (of .known) (of .here .command)
 unfolding knownAfter
-after-is of = let t = synth-chosen of in rw (t .declares, t .defines, t .synthesizes, t .constrains)
+after-is of = let t = synth-chosen of in rw (t .declares, t .defines, t .synthesizes, t .constrains, t .assumes)

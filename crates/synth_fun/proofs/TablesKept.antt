@@ -16,7 +16,8 @@ use Rattle.term_sorts.specs.code.Signatures.{RowsAre, allRows, functionSignatur
 use Rattle.names.specs.Scopes.{Defined, Function, signatureOf}
 use Rattle.script.proofs.Signed.{row-same, rows-same}
 use Rattle.script.specs.Script.{Known, definitionsOf}
-use Rattle.script.specs.code.Tables.{ConstraintsAt, Counted, GrammarHeld, GrammarsHold, PlacesHold, definedSignatures}
+use Rattle.forest.specs.Limits.{firstAssumption}
+use Rattle.script.specs.code.Tables.{Counted, GrammarHeld, GrammarsHold, PlacesHold, StatedAt, definedSignatures}
 use Rattle.script.specs.code.Places.{bodiesPlace, constraintsPlace, functionWidth, functionsPlace, rulesPlace, rulesWidth}
 use Rattle.script.specs.declared.Progress.{Progress}
 
@@ -45,14 +46,14 @@ bodies-same all bodies bodiesAfter base [] same held = tt
 bodies-same all bodies bodiesAfter base (d ∷ earlier) same held =
     (rw (same (length earlier) (omega arith)) (held .0), bodies-same all bodies bodiesAfter base earlier (λ j h. same j (omega arith)) (held .1))
 
--- Constraints whose places are what they were.
-pub constraints-same : (all : Terms) (places placesAfter : List ℕ) (m : ℕ) (ts : List Terms)
-    → ((j : ℕ) → j < m + length ts → getD placesAfter (constraintsPlace + j) 0 ≡ getD places (constraintsPlace + j) 0) → ConstraintsAt all places m ts
-    → ConstraintsAt all placesAfter m ts
-unfolding ConstraintsAt
-constraints-same all places placesAfter m [] same held = tt
-constraints-same all places placesAfter m (t ∷ more) same held =
-    (rw (same m (omega arith)) (held .0), constraints-same all places placesAfter (m + 1) more (λ j h. same j (omega arith)) (held .1))
+-- Constraints and assumptions whose places are what they were.
+pub stated-same : (all : Terms) (places placesAfter : List ℕ) (m : ℕ) (ts : List Terms)
+    → ((j : ℕ) → j < m + length ts → getD placesAfter (constraintsPlace + j) 0 ≡ getD places (constraintsPlace + j) 0) → StatedAt all places m ts
+    → StatedAt all placesAfter m ts
+unfolding StatedAt
+stated-same all places placesAfter m [] same held = tt
+stated-same all places placesAfter m (t ∷ more) same held =
+    (rw (same m (omega arith)) (held .0), stated-same all places placesAfter (m + 1) more (λ j h. same j (omega arith)) (held .1))
 
 -- What the tables have of the first `count` functions is what they had.
 pub record Same (numbers numbersAfter lent forms : List ℕ) (count rows : ℕ) : Type 0 where
@@ -105,6 +106,8 @@ places-kept {places} {placesAfter} {k = k} counted held long same =
       plain = held .plain;
       bodies-at = bodies-same (held .all) _ _ 0 (definitionsOf (k .defined)) (λ j h. rw (getD-drop, getD-drop)
           (same (bodiesPlace + (0 + j)) (omega (arith, counted .defined-are, counted .few-defined)))) (held .bodies-at);
-      constraints-at = constraints-same (held .all) places placesAfter 0 (k .constraints) (λ j h.
+      constraints-at = stated-same (held .all) places placesAfter 0 (k .constraints) (λ j h.
           same (constraintsPlace + j) (omega (arith, counted .constraints-are, counted .few-constraints))) (held .constraints-at);
+      assumptions-at = stated-same (held .all) places placesAfter firstAssumption (k .assumptions) (λ j h.
+          same (constraintsPlace + j) (omega (arith, counted .assumptions-are, counted .few-assumptions))) (held .assumptions-at);
     }

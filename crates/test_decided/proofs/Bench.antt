@@ -167,7 +167,7 @@ overX nonTerminals grammar =
 
 -- What a script of `define-fun`s and one function says.
 abbrev saying : List Defined → Function → Known
-saying defined f = record { logic = true; ended = true; variables = []; defined = defined; functions = f ∷ []; constraints = [] }
+saying defined f = record { logic = true; ended = true; variables = []; defined = defined; functions = f ∷ []; constraints = []; assumptions = [] }
 
 abbrev swapFunction : Function
 swapFunction = overX (record { name = spelling "BV32"; sort = 32 } ∷ record { name = spelling "BV16"; sort = 16 } ∷ []) swap

@@ -158,6 +158,18 @@ pub constraints-held : map defined constraints-texts ≡ map (λ (r : Reading). 
 unfolding after all allIn allNumerals answered anyUncarried argumentTokens bytesAt calledSort chained commandShape constantsPast count differing formSorts formed formsOf grammarPlace groupLeft groupRight hashed inOrder inScriptOrder inside isDecimal isKnown isNamed isOneOf isReserved item itemSort itemsOf join judged judgedAll judgedBody judgedExtra kindOf knownAfter labelSort leastIn levelsAt levelsBefore limitPlace listingMisfit literalKind namePlace named namedBy newPairs nodeWord nodesOf nodesPast notCarried numeralKind operatorAt operatorOf operatorSort operators pairwise placeIn rawTerms readAll reservedWords ruleMisfit rulePast rulesIn rulesOf runEnd sameBytes sameSorts sides sortBy sortOver sortingPlace spelled startsFrom symbolKind symbolMeans termFault termShapes termsIn tested treesFrom unknownIn withEach withSort wordAt wordEnd wordStarts wordsIn wordsOf
 constraints-held = refl
 
+-- The limit on assumptions.
+abbrev assumptions-texts : List Reading
+assumptions-texts =
+    row "(set-logic BV)(synth-fun f () Bool ((A Bool)) ((A Bool (true))))(assume true)(assume true)(assume true)(assume true)(assume true)(assume true)(assume true)(assume true)(assume true)(assume true)(assume true)(assume true)(assume true)(assume true)(assume true)(assume true)(assume true)(assume true)(assume true)(assume true)(assume true)(assume true)(assume true)(assume true)(assume true)(assume true)(assume true)(assume true)(assume true)(assume true)(assume true)(assume true)(check-synth)" "((define-fun f () Bool true))" []
+    ∷ row "(set-logic BV)(synth-fun f () Bool ((A Bool)) ((A Bool (true))))(assume true)(assume true)(assume true)(assume true)(assume true)(assume true)(assume true)(assume true)(assume true)(assume true)(assume true)(assume true)(assume true)(assume true)(assume true)(assume true)(assume true)(assume true)(assume true)(assume true)(assume true)(assume true)(assume true)(assume true)(assume true)(assume true)(assume true)(assume true)(assume true)(assume true)(assume true)(assume true)(assume true)(check-synth)" "" (4 ∷ 154 ∷ [])
+    ∷ []
+
+-- The definitions answer every one of them so.
+pub assumptions-held : map defined assumptions-texts ≡ map (λ (r : Reading). r .answer) assumptions-texts
+unfolding after all allIn allNumerals answered anyUncarried argumentTokens bytesAt calledSort chained commandShape constantsPast count differing formSorts formed formsOf grammarPlace groupLeft groupRight hashed inOrder inScriptOrder inside isDecimal isKnown isNamed isOneOf isReserved item itemSort itemsOf join judged judgedAll judgedBody judgedExtra kindOf knownAfter labelSort leastIn levelsAt levelsBefore limitPlace listingMisfit literalKind namePlace named namedBy newPairs nodeWord nodesOf nodesPast notCarried numeralKind operatorAt operatorOf operatorSort operators pairwise placeIn rawTerms readAll reservedWords ruleMisfit rulePast rulesIn rulesOf runEnd sameBytes sameSorts sides sortBy sortOver sortingPlace spelled startsFrom symbolKind symbolMeans termFault termShapes termsIn tested treesFrom unknownIn withEach withSort wordAt wordEnd wordStarts wordsIn wordsOf
+assumptions-held = refl
+
 -- The limit on non terminals.
 abbrev non-terminals-texts : List Reading
 non-terminals-texts =

@@ -71,7 +71,7 @@ readings =
     ∷ row "((((((((((((((((((((((((((((((((((((((((((((((((((((((((((((((((a))))))))))))))))))))))))))))))))))))))))))))))))))))))))))))))))" "" (5 ∷ 0 ∷ [])
     ∷ row "foo (set-logic BV)" "" (5 ∷ 0 ∷ [])
     ∷ row "(set-logic BV)()" "" (5 ∷ 4 ∷ [])
-    ∷ row "(assume true)(set-logic BV)" "" (6 ∷ 0 ∷ [])
+    ∷ row "(assume true)(set-logic BV)" "" (5 ∷ 0 ∷ [])
     ∷ row "(foo)(set-logic BV)" "" (5 ∷ 0 ∷ [])
     ∷ row "(constraint (let ((x true)) x))" "" (6 ∷ 0 ∷ [])
     ∷ row "(set-logic BV)(foo (let ((x true)) x))" "" (5 ∷ 4 ∷ [])
@@ -86,7 +86,7 @@ readings =
     ∷ row "(set-logic BV)(synth-fun f () Bool ((A Bool)) ((A Bool (true)))) " "" (5 ∷ 26 ∷ [])
     ∷ row "(set-logic BV)(synth-fun f () Bool ((A Bool)) ((A Bool (true))))(check-synth)(check-synth)" "" (5 ∷ 29 ∷ [])
     ∷ row "(set-logic BV)(synth-fun f () Bool ((A Bool)) ((A Bool (true))))(check-synth) x" "" (5 ∷ 29 ∷ [])
-    ∷ row "(set-logic BV)(synth-fun f () Bool ((A Bool)) ((A Bool (true))))(check-synth)(assume true)" "" (6 ∷ 29 ∷ [])
+    ∷ row "(set-logic BV)(synth-fun f () Bool ((A Bool)) ((A Bool (true))))(check-synth)(assume true)" "" (5 ∷ 29 ∷ [])
     ∷ row "(set-logic BV)(define-fun-rec g () Bool true)" "" (5 ∷ 4 ∷ [])
     ∷ row "(set-logic BV)(declare-var assume Bool)(synth-fun f () Bool ((A Bool)) ((A Bool (true))))(check-synth)" "" (7 ∷ 6 ∷ [])
     ∷ row "(set-logic BV)(declare-var define-fun-rec Bool)(synth-fun f () Bool ((A Bool)) ((A Bool (true))))(check-synth)" "((define-fun f () Bool true))" []
@@ -289,7 +289,7 @@ readings =
     ∷ row "(set-logic BV)(synth-fun f ((d Bool)) Bool ((A Bool)) ((A Bool (d))))(define-fun d () Bool false)(check-synth)" "((define-fun f ((d Bool)) Bool d))" []
     ∷ row "(set-logic BV)assume" "" (5 ∷ 4 ∷ [])
     ∷ row "(synth-fun f () Bool)" "" (6 ∷ 0 ∷ [])
-    ∷ row "(set-logic BV)(assume)" "" (6 ∷ 4 ∷ [])
+    ∷ row "(set-logic BV)(assume)" "" (5 ∷ 4 ∷ [])
     ∷ row "(set-logic BV)(synth-fun f () Bool ())" "" (5 ∷ 4 ∷ [])
     ∷ row "(set-logic BV)(synth-fun f () Bool ((A Bool)))" "" (5 ∷ 4 ∷ [])
     ∷ row "(set-logic BV)(synth-fun f () Bool x)" "" (5 ∷ 4 ∷ [])
@@ -457,6 +457,18 @@ readings =
     ∷ row "(set-logic BV)(declare-var x (_ BitVec 8))(declare-var p Bool)(constraint (= x (bvnand x x)))" "" (7 ∷ 24 ∷ [])
     ∷ row "(set-logic BV)(declare-var x (_ BitVec 8))(declare-var p Bool)(constraint (bvandx x x))" "" (7 ∷ 21 ∷ [])
     ∷ row "(set-logic BV)(declare-var x (_ BitVec 8))(declare-var p Bool)(constraint (BVAND x x))" "" (7 ∷ 21 ∷ [])
+    ∷ row "(set-logic BV)(declare-var x (_ BitVec 8))(synth-fun f () Bool ((A Bool)) ((A Bool (true))))(constraint false)(assume (distinct x x))(check-synth)" "((define-fun f () Bool true))" []
+    ∷ row "(set-logic BV)(declare-var x (_ BitVec 8))(synth-fun f () Bool ((A Bool)) ((A Bool (true))))(assume (= x #x01))(constraint true)(check-synth)" "((define-fun f () Bool true))" []
+    ∷ row "(set-logic BV)(declare-var x (_ BitVec 8))(synth-fun f () Bool ((A Bool)) ((A Bool (true))))(assume true)(assume (= x x))(constraint true)(check-synth)" "((define-fun f () Bool true))" []
+    ∷ row "(set-logic BV)(declare-var x (_ BitVec 8))(synth-fun f () Bool ((A Bool)) ((A Bool (true))))(assume false)(assume (= x x))(check-synth)" "((define-fun f () Bool true))" []
+    ∷ row "(set-logic BV)(declare-var x (_ BitVec 8))(synth-fun f () Bool ((A Bool)) ((A Bool (true))))(assume true)(check-synth)" "((define-fun f () Bool true))" []
+    ∷ row "(set-logic BV)(synth-fun f () Bool ((A Bool)) ((A Bool (true))))(assume false)(constraint false)(check-synth)" "((define-fun f () Bool true))" []
+    ∷ row "(set-logic BV)(synth-fun f () Bool ((A Bool)) ((A Bool (true))))(assume f)(check-synth)" "((define-fun f () Bool true))" []
+    ∷ row "(assume true)(set-logic BV)(synth-fun f () Bool ((A Bool)) ((A Bool (true))))(check-synth)" "" (5 ∷ 0 ∷ [])
+    ∷ row "(set-logic BV)(declare-var x (_ BitVec 8))(assume x)" "" (8 ∷ 15 ∷ [])
+    ∷ row "(set-logic BV)(synth-fun f () Bool ((A Bool)) ((A Bool (true))))(check-synth)" "((assume true))" (5 ∷ 1 ∷ [])
+    ∷ row "(set-logic BV)(declare-var x (_ BitVec 8))(synth-fun f () Bool ((A Bool)) ((A Bool (true))))(assume (= x #x01))(constraint (= x #x02))(check-synth)" "((define-fun f () Bool true))" []
+    ∷ row "(set-logic BV)(declare-var x (_ BitVec 8))(synth-fun f () Bool ((A Bool)) ((A Bool (true))))(assume (= x #x01))(constraint false)(check-synth)" "((define-fun f () Bool true))" []
     ∷ []
 
 -- The definitions answer every one of them so.

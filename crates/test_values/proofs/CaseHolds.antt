@@ -1,7 +1,7 @@
 -- The case meets what the functions of `evaluation` ask.
 use Prim.Native.Nat.{ℕ, zero, suc, _≤_, _<_}
 use native.Mathlib.Omega.{arith}
-use mathlib.Core.Path.{_≡_, refl, sym, ap, _∙_}
+use mathlib.Core.Path.{_≡_, refl, sym, ap, subst, _∙_}
 use mathlib.Core.List.{List, [], _∷_, append-nil}
 use mathlib.Core.Option.{some}
 use lib.Dec.{lit<, lit≤}
@@ -21,12 +21,12 @@ use Rattle.evaluation.specs.code.Budget.{Priced, held}
 use Rattle.evaluation.specs.code.Evaluator.{Evaluable, Room}
 use Rattle.evaluation.specs.code.Costs.{Costing, Pricing}
 use Rattle.evaluation.specs.code.Tables.{BodiesAt, CallsDefined, CallsEarlier, CallsKnown, BodiesHold, SmallBodies, TermStands}
-use Rattle.forest.specs.Limits.{mostDefined}
-use Rattle.test_values.specs.Case.{all, constraints, d0, defs, f0, funs, numbers, places, room, shifted, small, sorts}
+use Rattle.forest.specs.Limits.{firstAssumption, mostDefined}
+use Rattle.test_values.specs.Case.{all, assumed, constraints, d0, defs, f0, funs, numbers, places, room, shifted, small, sorts}
 use Rattle.evaluation.specs.Points.{pointAt, valuesBy}
-use Rattle.evaluation.specs.Running.{isTrue, runPoints, runTerms}
-use Rattle.evaluation.specs.declared.Ran.the-variants.{Ended, False}
-use Rattle.evaluation.specs.code.Running.{AllValued, PointsRunnable, SmallTerms, TermsAt}
+use Rattle.evaluation.specs.Running.{isTrue, run, runPoint, runPoints, runTerms}
+use Rattle.evaluation.specs.declared.Ran.the-variants.{Ended, False, Passed}
+use Rattle.evaluation.specs.code.Running.{AllValued, Placed, PointsRunnable, SmallTerms, TermsFrom}
 
 -- The labels are told by their numbers.
 pub all-plain : AllPlain all
@@ -86,9 +86,22 @@ unfolding SmallBodies size
 small-funs = (lit≤ tt, tt)
 
 -- So are the constraints.
-pub small-constraints : SmallTerms constraints
+small-constraints : SmallTerms constraints
 unfolding SmallTerms size
 small-constraints = (lit≤ tt, (lit≤ tt, tt))
+
+-- So is the assumption.
+small-assumed : (n : ℕ) → n ≤ 1 → SmallTerms (assumed n)
+unfolding SmallTerms size
+small-assumed zero h = tt
+small-assumed (suc zero) h = (lit≤ tt, tt)
+small-assumed (suc (suc n)) h = absurd (omega arith)
+
+-- There are as many assumptions.
+pub assumed-counted : (n : ℕ) → n ≤ 1 → n ≡ length (assumed n)
+assumed-counted zero h = refl
+assumed-counted (suc zero) h = refl
+assumed-counted (suc (suc n)) h = absurd (omega arith)
 
 -- There is room for the first constraint.
 pub shifted-room : {stack : List ℕ} → stack ≡ replicate room 33 → Room stack 1 (size shifted) defs funs
@@ -111,9 +124,24 @@ unfolding CallsKnown
 shifted-calls = (tt, (lit< tt, (tt, tt, tt), (tt, (tt, tt, (tt, tt, tt)), tt)), tt)
 
 -- The constraints stand at their places.
-pub constraints-at : TermsAt all places constraints
-unfolding TermsAt
+constraints-at : TermsFrom all places 0 constraints
+unfolding TermsFrom
 constraints-at = (shifted-stands, (small-stands, tt))
+
+-- So does the assumption.
+assumed-at : (n : ℕ) → n ≤ 1 → TermsFrom all places firstAssumption (assumed n)
+unfolding TermsFrom
+assumed-at zero h = tt
+assumed-at (suc zero) h = (small-stands, tt)
+assumed-at (suc (suc n)) h = absurd (omega arith)
+
+-- The constraints have room in the table.
+pub constraints-placed : Placed all places 0 constraints
+constraints-placed = record { at = constraints-at; small = small-constraints; within = lit≤ tt }
+
+-- So has the assumption.
+pub assumed-placed : (n : ℕ) → n ≤ 1 → Placed all places firstAssumption (assumed n)
+assumed-placed n h = record { at = assumed-at n h; small = small-assumed n h; within = omega (arith, assumed-counted n h) }
 
 -- The first constraint is true where x is 33.
 pub shifted-true : valuesAt defs funs (value 8 33 ∷ []) shifted ≡ some (value 0 1 ∷ [])
@@ -141,17 +169,39 @@ points-valued zero h = (record { v = value 0 1; is = refl; truth = refl }, (reco
 points-valued (suc zero) h = (record { v = value 0 1; is = refl; truth = refl }, (record { v = value 0 0; is = refl; truth = refl }, tt))
 points-valued (suc (suc p)) h = absurd (omega arith)
 
+-- So has the assumption.
+pub points-assumed : (n : ℕ) → n ≤ 1 → (p : ℕ) → p < 2 → AllValued defs funs (pointAt sorts numbers p) (assumed n)
+unfolding AllValued called chained definedValue functionValue labelValue operatorAt operatorGives operatorSort operatorValue operators resultOf
+    sameSorts sortBy valueOver valuesBy valuesIn withValue
+points-assumed zero l p h = tt
+points-assumed (suc zero) l zero h = (record { v = value 0 1; is = refl; truth = refl }, tt)
+points-assumed (suc zero) l (suc zero) h = (record { v = value 0 0; is = refl; truth = refl }, tt)
+points-assumed (suc zero) l (suc (suc p)) h = absurd (omega arith)
+points-assumed (suc (suc n)) l p h = absurd (omega arith)
+
 -- With 100 of the budget the second constraint is found false at the second point, and 44 are left.
-pub run-false : runPoints defs funs sorts numbers constraints 2 0 100 ≡ False 1 1 44
+pub run-false : runPoints defs funs sorts numbers (assumed 0) constraints 2 0 0 100 ≡ run 2 (False 1 1 44)
 unfolding called chained costs definedCost definedValue functionCost functionValue isTrue labelValue operatorAt operatorGives operatorSort operatorValue
-    operators resultOf runPoints runTerms sameSorts sortBy valueOver valuesBy valuesIn withValue
+    operators resultOf runPoint runPoints runTerms sameSorts sortBy valueOver valuesBy valuesIn withValue
 run-false = refl
 
 -- With 55 its evaluation isn't begun, and 12 are left.
-pub run-ended : runPoints defs funs sorts numbers constraints 2 0 55 ≡ Ended 1 1 12
+pub run-ended : runPoints defs funs sorts numbers (assumed 0) constraints 2 0 0 55 ≡ run 2 (Ended 1 1 12)
 unfolding called chained costs definedCost definedValue functionCost functionValue isTrue labelValue operatorAt operatorGives operatorSort operatorValue
-    operators resultOf runPoints runTerms sameSorts sortBy valueOver valuesBy valuesIn withValue
+    operators resultOf runPoint runPoints runTerms sameSorts sortBy valueOver valuesBy valuesIn withValue
 run-ended = refl
+
+-- Where it is assumed too the second point is skipped, and 46 of 100 are left.
+pub run-assumed : runPoints defs funs sorts numbers (assumed 1) constraints 2 0 0 100 ≡ run 1 (Passed 46)
+unfolding called chained costs definedCost definedValue functionCost functionValue isTrue labelValue operatorAt operatorGives operatorSort operatorValue
+    operators resultOf runPoint runPoints runTerms sameSorts sortBy valueOver valuesBy valuesIn withValue
+run-assumed = refl
+
+-- With 53 the evaluation of the assumption isn't begun there, and 12 are left.
+pub assumption-ended : runPoints defs funs sorts numbers (assumed 1) constraints 2 0 0 53 ≡ run 1 (Ended 1 64 12)
+unfolding called chained costs definedCost definedValue functionCost functionValue isTrue labelValue operatorAt operatorGives operatorSort operatorValue
+    operators resultOf runPoint runPoints runTerms sameSorts sortBy valueOver valuesBy valuesIn withValue
+assumption-ended = refl
 
 -- What is held of the first constraint's cost, which is 15.
 pub shifted-held : held (costOf defs funs shifted) ≡ 14
@@ -204,20 +254,26 @@ module _ {nodes bodies : List ℕ} (nodes-are : nodes ≡ nodeTable all) (bodies
         room = shifted-room e;
       }
 
-  -- The constraints can be run at both points.
-  abbrev pub runnable : {prices : List ℕ} → Priced prices defs funs → PointsRunnable nodes bodies prices places sorts numbers
-  runnable p =
+  -- The constraints and the assumption can be run at both points.
+  abbrev pub runnable : (n : ℕ) → n ≤ 1 → {prices begin : List ℕ} → Priced prices defs funs → begin ≡ places
+      → PointsRunnable nodes bodies prices begin (record { constraints = 2; assumptions = n }) sorts numbers
+  runnable n h {begin = begin} p at =
       record {
         defs = defs;
         funs = funs;
         holds = holds;
         priced = p;
-        few = lit≤ tt;
         few-variables = lit≤ tt;
-        terms = constraints;
-        terms-at = constraints-at;
-        small = small-constraints;
+        constraints = constraints;
+        assumptions = assumed n;
+        constraints-counted = refl;
+        assumptions-counted = assumed-counted n h;
+        constraints-placed = subst (λ (l : List ℕ). Placed all l 0 constraints) (sym at) constraints-placed;
+        assumptions-placed = subst (λ (l : List ℕ). Placed all l firstAssumption (assumed n)) (sym at) (assumed-placed n h);
+        few-constraints = lit≤ tt;
+        places-long = ap length at;
         whole = refl;
         fits = points-fit;
-        valued = points-valued;
+        constraints-valued = points-valued;
+        assumptions-valued = points-assumed n h;
       }

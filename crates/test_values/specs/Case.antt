@@ -1,10 +1,12 @@
--- A small case: a `define-fun`, a synthesized function, two constraints and two points, all of 8 bits.
+-- A small case: a `define-fun`, a synthesized function, two constraints, an assumption and two points, all of 8 bits.
 use Prim.Native.Nat.{ℕ, _+_, _*_}
 use mathlib.Core.List.{List, [], _∷_}
+use lib.ListN.{replicate, set, take}
 use Rattle.forest.specs.Forest.{none, tree}
 use Rattle.forest.specs.Limits.{mostNodes}
 use Rattle.terms.specs.Labels.{Terms, defined, function, literal, name, operator}
 use Rattle.terms.specs.Sorts.{Definition}
+use Rattle.evaluation.specs.code.Running.{statedTerms}
 use Rattle.evaluation.specs.declared.Ran.{Ran}
 use Rattle.evaluation.specs.declared.Ran.the-variants.{Ended, False, Passed}
 
@@ -48,9 +50,13 @@ funs = f0 ∷ []
 abbrev pub constraints : List Terms
 constraints = shifted ∷ small ∷ []
 
--- The nodes at which the constraints begin.
+-- None, or the second constraint, as assumptions.
+abbrev pub assumed : (n : ℕ) → List Terms
+assumed n = take n (small ∷ [])
+
+-- The nodes at which the constraints and the assumption begin, each at its number.
 abbrev pub places : List ℕ
-places = 6 ∷ 12 ∷ []
+places = set (replicate statedTerms 12) 0 6
 
 -- The sorts of the variables.
 abbrev pub sorts : List ℕ

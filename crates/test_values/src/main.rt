@@ -1,5 +1,7 @@
 //! Runs a small case: its costs, a value, and the run over its points with different budgets.
 use evaluation::Ran;
+use evaluation::Run;
+use evaluation::Stated;
 use evaluation::costs::body_costs;
 use evaluation::costs::cost_at;
 use evaluation::evaluator::eval_term;
@@ -7,15 +9,19 @@ use evaluation::running::left_of;
 use evaluation::running::run_points;
 use forest::limits;
 ghost use mathlib.Core.Path.{_≡_};
+ghost use Prim.Native.Nat.{_≤_};
 ghost use lib.ListN.{getD, replicate, set};
 ghost use Rattle.terms.specs.Costs.{costOf};
 ghost use Rattle.terms.specs.code.Nodes.{nodeTable};
 ghost use Rattle.evaluation.specs.code.Budget.{Priced, held};
-ghost use Rattle.evaluation.specs.Running.{runPoints};
-ghost use Rattle.test_values.specs.Case.{all, answerOf, constraints, defs, funs, numbers, room, shifted, sorts};
+ghost use Rattle.evaluation.specs.Running.{leftOf, runPoints};
+ghost use Rattle.test_values.specs.Case.{all, answerOf, assumed, constraints, defs, funs, numbers, places, room, shifted, sorts};
 
 // How many values that stack has room for.
 const STACK: usize = 1 + 6 + 2 * limits::NODES;
+
+// How many terms a table of places has room for.
+const STATED: usize = limits::FIRST_ASSUMPTION + limits::ASSUMPTIONS;
 
 // The node table of the case, four numbers a node: the bodies of d0 and f0, and the two constraints.
 const NODES: [u64; 64] = [
@@ -101,6 +107,15 @@ fn bodies() -> [u64; 40]
     bodies
 }
 
+// The nodes at which the terms begin, each at its number: the first constraint's is node 6, the second's, which is the assumption too, is node 12.
+fn places() -> [u64; STATED]
+    ensures { λ r. ⌜ r ≡ places ⌝ }
+{
+    let mut places = [12u64; STATED];
+    places[0] = 6;
+    places
+}
+
 // What is held of the costs of the bodies.
 fn prices() -> [u64; 40]
     ensures { λ r. ⌜ Priced r defs funs ⌝ }
@@ -138,18 +153,25 @@ fn value() -> u64
     v.number
 }
 
-// What the run over the two points finds.
-fn run(budget: u64) -> Ran
-    ensures { λ r. ⌜ r ≡ runPoints defs funs sorts numbers constraints 2 0 budget ⌝ }
+// What the run over the two points finds, without the assumption or with it.
+fn run(assumptions: usize, budget: u64) -> Run
+    requires { ⌜ assumptions ≤ 1 ⌝ }
+    ensures { λ r. ⌜ r ≡ runPoints defs funs sorts numbers (assumed assumptions) constraints 2 0 0 budget ⌝ }
 {
     let nodes = nodes();
     let bodies = bodies();
     let costs = prices();
+    let places = places();
+    let stated = Stated {
+        constraints: 2,
+        assumptions,
+    };
     run_points(
         &nodes,
         &bodies,
         &costs,
-        &[6u64, 12],
+        &places,
+        stated,
         &[8u64; 1],
         &[3u64, 33],
         budget,
@@ -157,9 +179,10 @@ fn run(budget: u64) -> Ran
 }
 
 // The number of the answer that a run leads to: "0 accepted", "14 constraint false", "15 budget ended".
-fn answer(ran: Ran) -> u64
-    ensures { λ r. ⌜ r ≡ answerOf ran ⌝ }
+fn answer(run: Run) -> u64
+    ensures { λ r. ⌜ r ≡ answerOf (run .ran) ⌝ }
 {
+    let ran = run.ran;
     match ran {
         Ran::Passed(_) => 0,
         Ran::False(_, _, _) => 14,
@@ -167,11 +190,31 @@ fn answer(ran: Ran) -> u64
     }
 }
 
+// What a run leaves of the budget.
+fn left(run: Run) -> u64
+    ensures { λ r. ⌜ r ≡ leftOf (run .ran) ⌝ }
+{
+    let ran = run.ran;
+    left_of(ran)
+}
+
+// At how many points the assumption held.
+fn held(run: Run) -> usize
+    ensures { λ r. ⌜ r ≡ run .held ⌝ }
+{
+    run.held
+}
+
 fn main() {
     check::expect(cost() == 14);
     check::expect(value() == 1);
-    check::expect(answer(run(100)) == 14);
-    check::expect(left_of(run(100)) == 44);
-    check::expect(answer(run(55)) == 15);
-    check::expect(left_of(run(55)) == 12);
+    check::expect(answer(run(0, 100)) == 14);
+    check::expect(left(run(0, 100)) == 44);
+    check::expect(answer(run(0, 55)) == 15);
+    check::expect(left(run(0, 55)) == 12);
+    check::expect(answer(run(1, 100)) == 0);
+    check::expect(left(run(1, 100)) == 46);
+    check::expect(held(run(1, 100)) == 1);
+    check::expect(answer(run(1, 53)) == 15);
+    check::expect(left(run(1, 53)) == 12);
 }

@@ -5,6 +5,6 @@ pub mod OneFunction
 pub mod DeriveTurns
 pub mod VariableSorts
 pub mod FunctionsHeld
-pub mod ConstraintsRun
+pub mod StatedRuns
 pub mod PointsAnswer
 pub mod ResponseFits

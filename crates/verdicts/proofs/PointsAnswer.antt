@@ -10,27 +10,28 @@ use Rattle.evaluation.specs.declared.PointList.{PointList}
 use Rattle.evaluation.specs.declared.PointList.the-variants.{Good}
 use Rattle.evaluation.specs.declared.Ran.{Ran}
 use Rattle.evaluation.specs.declared.Ran.the-variants.{Passed, False, Ended}
+use Rattle.evaluation.specs.declared.Run.{Run}
 use Rattle.names.specs.Scopes.{namedSorts}
 use Rattle.names.specs.code.Table.{sortsFrom, variableRow}
 use Rattle.script.specs.declared.Progress.{Progress}
 use Rattle.script.specs.Script.{definitionsOf}
 use Rattle.script.proofs.Signed.{length-sorts}
 use Rattle.outcome.specs.Derived.{termsOf}
-use Rattle.outcome.specs.Evaluated.{functionsWith, ranOutcome}
+use Rattle.outcome.specs.Evaluated.{functionsWith, ranOutcome, runOutcome}
 use Rattle.outcome.specs.declared.Outcome.{Outcome}
-use Rattle.verdicts.specs.code.Evaluate.{Constrained, ConstraintsRan, Evaluable, pointsGive, pointsOutcome}
+use Rattle.verdicts.specs.code.Evaluate.{Constrained, Evaluable, StatedRan, pointsGive, pointsOutcome}
 use Rattle.evaluation.proofs.Left.{points-left}
 
 -- An answer with so many units.
 abbrev pub withUnits : (units : ℕ) → Outcome → Outcome
 withUnits units o = record { number = o .number; text = o .text; place = o .place; second = o .second; units = units }
 
--- The answer of a run over so many points, by what the run found and what it left.
-pub outcome-found : (count budget : ℕ) {ran : Ran} (found : Ran) {left : ℕ} → left ≡ leftOf ran → ran ≡ found
-    → withUnits (budget - left) (ranOutcome count budget found) ≡ ranOutcome count budget ran
-outcome-found count budget (Passed l) e is = rw (e, is)
-outcome-found count budget (False point constraint l) e is = rw (e, is)
-outcome-found count budget (Ended point constraint l) e is = rw (e, is)
+-- The answer of a run, by what the run found and what it left.
+pub outcome-found : (budget held : ℕ) {ran : Ran} (found : Ran) {left : ℕ} → left ≡ leftOf ran → ran ≡ found
+    → withUnits (budget - left) (ranOutcome budget held found) ≡ ranOutcome budget held ran
+outcome-found budget held (Passed l) e is = rw (e, is)
+outcome-found budget held (False point constraint l) e is = rw (e, is)
+outcome-found budget held (Ended point term l) e is = rw (e, is)
 
 module _ {names places nodes : List ℕ} {p : Progress} (q : Evaluable names places nodes p)
     {sorts : List ℕ} (read : sorts ≡ sortsFrom names variableRow (p .variables)) where
@@ -56,18 +57,18 @@ module _ {names places nodes : List ℕ} {p : Progress} (q : Evaluable names pla
         ap (pointsOutcome (q .known) (termsOf (q .bodies)) points budget) (sym is ∙ tested ∙ ap (λ (ss : List ℕ). pointsOf ss points) sorts-read)
 
     module _ {n : ℕ} (good : list ≡ Good n) where
-      -- The constraints can be run over them.
+      -- The constraints and the assumptions can be run over them.
       abbrev pub constrained : Constrained places nodes p sorts points
       constrained = record { names = names; tables = q; sorts-are = sorts-read; count = n; good = sym tested ∙ good }
 
-      module _ (budget : ℕ) {ran : Ran} (got : ConstraintsRan places nodes p sorts points budget ran) where
+      module _ (budget : ℕ) {run : Run} (got : StatedRan places nodes p sorts points budget run) where
         -- The run leaves no more than the budget.
-        pub budget-left : leftOf ran ≤ budget
+        pub budget-left : leftOf (run .ran) ≤ budget
         budget-left =
             let k = q .known in
             let funs = functionsWith k (termsOf (q .bodies)) in
-            rw (got constrained) (points-left (definitionsOf (k .defined)) funs (namedSorts (k .variables)) points (k .constraints) n 0 budget)
+            rw (got constrained) (points-left (definitionsOf (k .defined)) funs (namedSorts (k .variables)) points (k .assumptions) (k .constraints) n 0 0 budget)
 
         -- Its answer is what the points give.
-        pub run-evaluated : {r : Outcome} → r ≡ ranOutcome n budget ran → r ≡ pointsGive (q .known) (termsOf (q .bodies)) points budget
-        run-evaluated is = is ∙ ap (ranOutcome n budget) (got constrained) ∙ outcome-by good budget
+        pub run-evaluated : {r : Outcome} → r ≡ runOutcome budget run → r ≡ pointsGive (q .known) (termsOf (q .bodies)) points budget
+        run-evaluated is = is ∙ ap (runOutcome budget) (got constrained) ∙ outcome-by good budget

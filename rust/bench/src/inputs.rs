@@ -113,15 +113,32 @@ fn body(depth: usize) -> String {
 
 /// A script with 64 constraints that hold everywhere, at so many points.
 pub fn constraints(points: usize) -> Input {
+    evaluated(&equations("constraint", 64), points)
+}
+
+/// A script with 32 assumptions and 64 constraints that hold everywhere, at so many points.
+pub fn assumptions(points: usize) -> Input {
+    let assumptions = equations("assume", 32);
+    evaluated(&(assumptions + &equations("constraint", 64)), points)
+}
+
+/// So many commands of a head, each with an equation that holds everywhere.
+fn equations(head: &str, count: usize) -> String {
+    repeated(count, |number| {
+        format!(
+            "({head} (= (f (bvadd x #x000000{number:02X})) (f (bvadd #x000000{number:02X} x))))\n"
+        )
+    })
+}
+
+/// A script with these commands about a function f and a variable x, at so many points.
+fn evaluated(commands: &str, points: usize) -> Input {
     let sort = "(_ BitVec 32)";
-    let constraints = repeated(64, |number| {
-        format!("(constraint (= (f (bvadd x #x000000{number:02X})) (f (bvadd #x000000{number:02X} x))))\n")
-    });
     let script = format!(
         "(set-logic BV)\n(declare-var x {sort})
 (define-fun fold ((w {sort}) (by {sort})) {sort} (bvxor w (bvlshr w by)))
 (synth-fun f ((w {sort})) {sort} ((A {sort})) ((A {sort} (w (Constant {sort}) (fold A A) (bvmul A A) (bvand A A)))))
-{constraints}{END}"
+{commands}{END}"
     );
     let response = format!("((define-fun f ((w {sort})) {sort} (bvand (fold (bvmul w #x9E3779B1) #x00000010) #x0000FFFF)))");
     let point = |number: u64| number.wrapping_mul(0x9E37_79B1) & 0xFFFF_FFFF;
@@ -162,6 +179,19 @@ pub fn unknown(word: &str, times: usize) -> Input {
 #[cfg(test)]
 mod tests {
     use super::*;
+    use simple::{check, AREA_LENGTH};
+
+    #[test]
+    fn assumptions_and_constraints_are_evaluated_at_every_point() {
+        let units = [constraints(3), assumptions(3)].map(|input| {
+            let (script, response) = (&input.script, &input.response);
+            let mut area = vec![0; AREA_LENGTH];
+            let answer = check(script, response, &input.points, u64::MAX, &mut area);
+            assert_eq!((answer.number, answer.second), (0, 3));
+            answer.units
+        });
+        assert_eq!(units[0] / 64, units[1] / 96);
+    }
 
     #[test]
     fn the_largest_script_is_as_large_as_may_be() {

@@ -5,7 +5,7 @@
 mod inputs;
 
 use inputs::{
-    applications, blocks, constraints, typical, unknown, Input, BLOCK_WORDS, MOST_BLOCKS,
+    applications, assumptions, blocks, constraints, typical, unknown, Input, BLOCK_WORDS, MOST_BLOCKS,
     MOST_POINTS,
 };
 use std::io;
@@ -188,6 +188,12 @@ fn evaluations(library: &mut Library) -> io::Result<Vec<(usize, Times)>> {
     counts.into_iter().map(row).collect()
 }
 
+/// The time that evaluation takes where there are assumptions, at the most points allowed.
+fn assumed(library: &mut Library) -> io::Result<Times> {
+    let unevaluated = measured(library, &assumptions(0))?;
+    Ok(measured(library, &assumptions(MOST_POINTS))?.beyond(&unevaluated))
+}
+
 /// Measures all; says whether every goal is met.
 fn run() -> io::Result<bool> {
     let mut library = Library::open()?;
@@ -211,6 +217,11 @@ fn run() -> io::Result<bool> {
         judge(
             "64 constraints at 1,024 points",
             &evaluations[evaluations.len() - 1].1,
+            2.0,
+        ),
+        judge(
+            "32 assumptions and 64 constraints at 1,024 points",
+            &assumed(&mut library)?,
             2.0,
         ),
     ];

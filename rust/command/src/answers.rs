@@ -2,6 +2,7 @@
 
 use crate::facts::Facts;
 use crate::points::{bits, Origin, MOST_NUMBERS};
+use crate::stated::Stated;
 use simple::grammar::Sorted;
 
 /// "Script 32,768 bytes".
@@ -130,12 +131,14 @@ pub fn counted(count: u64, thing: &str) -> String {
 /// The answer in a sentence, without the place.
 pub fn sentence(facts: &Facts) -> String {
     let answer = facts.answer;
-    let (place, second) = (answer.place, answer.second);
+    let place = answer.place;
     let located = facts.located.as_ref();
     let word = located.map_or("", |one| one.place.word.as_str());
     if let Some(cause) = &facts.cause {
         return cause.clone();
     }
+    let named = Stated::named(answer).map(|stated| stated.to_string());
+    let named = named.unwrap_or_default();
     match answer.number {
         0 => accepted(facts),
         1 => too_long(facts),
@@ -146,10 +149,10 @@ pub fn sentence(facts: &Facts) -> String {
             let function = facts.function.as_deref().unwrap_or_default();
             format!("the grammar of {function} does not derive this body")
         }
-        14 => format!("constraint {second} is false at point {place}"),
+        14 => format!("{named} is false at point {place}"),
         15 => {
             let budget = counted(facts.given.budget, "unit");
-            format!("the budget of {budget} ends before constraint {second} at point {place}")
+            format!("the budget of {budget} ends before {named} at point {place}")
         }
         16 => bad_points(facts),
         number => format!("unknown answer {number}"),
@@ -200,45 +203,103 @@ fn limit(word: &str) -> &'static str {
 
 /// Answer 0 in words.
 fn accepted(facts: &Facts) -> String {
-    let script = &facts.given.read;
-    let derived = match script.synthesized.len() {
+    let derived = match facts.given.read.synthesized.len() {
         1 => "the body is derived".to_string(),
         count => format!("all {count} bodies are derived"),
     };
-    let at = match script.variables.len() {
-        0 => String::new(),
-        _ => format!(" at {}", of_all_points(facts)),
-    };
+    format!("{derived}; {}", evaluated(facts))
+}
+
+/// What was evaluated at an acceptance.
+fn evaluated(facts: &Facts) -> String {
+    let script = &facts.given.read;
+    let assumed = !script.assumptions.is_empty();
     let never = facts.guards.iter().filter(|guard| guard.held == 0).count();
     let never = match never {
         0 => String::new(),
         count => format!("; {} of => never held", counted(count as u64, "left side")),
     };
-    match (script.constraints.len(), facts.answer.second) {
-        (0, _) => format!("{derived}; there is no constraint: nothing was evaluated"),
-        (_, 0) => format!("{derived}; constraints are checked at no point: nothing was evaluated"),
-        (1, _) => format!("{derived}; the constraint holds{at}{never}"),
-        (count, _) => format!("{derived}; all {count} constraints hold{at}{never}"),
+    let at = at_points(facts);
+    match (script.constraints.len(), facts.done) {
+        (0, 1..) if assumed => {
+            "there is no constraint: only assumptions were evaluated".to_string()
+        }
+        (0, _) => "there is no constraint: nothing was evaluated".to_string(),
+        (_, 0) => "constraints are checked at no point: nothing was evaluated".to_string(),
+        _ if facts.answer.second == 0 => {
+            format!("{}: no constraint was evaluated", held_nowhere(facts))
+        }
+        (1, _) => format!("the constraint holds{at}{never}"),
+        (count, _) => format!("all {count} constraints hold{at}{never}"),
     }
+}
+
+/// At which points the constraints hold, and that the assumptions hold there.
+fn at_points(facts: &Facts) -> String {
+    let script = &facts.given.read;
+    let hold = match script.assumptions.len() {
+        1 => "the assumption holds",
+        _ => "the assumptions hold",
+    };
+    match (script.variables.len(), script.assumptions.len()) {
+        (0, 0) => String::new(),
+        (0, _) => format!(", and {hold}"),
+        (_, 0) => format!(" at {}", of_all_points(facts)),
+        _ => format!(" at {}, where {hold}", of_points_done(facts)),
+    }
+}
+
+/// That the assumptions hold at none of the points that were done.
+fn held_nowhere(facts: &Facts) -> String {
+    let script = &facts.given.read;
+    let one = script.assumptions.len() == 1;
+    match (script.variables.len(), one) {
+        (0, true) => "the assumption does not hold".to_string(),
+        (0, false) => "the assumptions do not all hold".to_string(),
+        (_, true) => format!("the assumption holds at {}", of_points_done(facts)),
+        (_, false) => format!("the assumptions hold at {}", of_points_done(facts)),
+    }
+}
+
+/// How many points there are.
+fn all_points(bits: u32) -> String {
+    match bits {
+        0..=MOST_WRITTEN_OUT => grouped(1 << bits),
+        _ => format!("2^{bits}"),
+    }
+}
+
+/// How many different points were done, and whether these are all.
+fn points_done(facts: &Facts) -> (u64, bool) {
+    let variables = &facts.given.read.variables;
+    let done = match facts.given.points.origin {
+        Origin::File(_) => facts.given.points.distinct(variables.len()),
+        _ => facts.done,
+    };
+    let bits = bits(variables);
+    (done, bits < 64 && done == 1 << bits)
 }
 
 /// How many points were done of how many.
 fn of_all_points(facts: &Facts) -> String {
-    let bits = bits(&facts.given.read.variables);
-    let all = match bits {
-        0..=MOST_WRITTEN_OUT => grouped(1 << bits),
-        _ => format!("2^{bits}"),
-    };
-    let done = match facts.given.points.origin {
-        Origin::File(_) => facts
-            .given
-            .points
-            .distinct(facts.given.read.variables.len()),
-        _ => facts.answer.second,
-    };
-    match bits < 64 && done == 1 << bits {
-        true => format!("all {all} points"),
-        false => format!("{} of {all} points", grouped(done)),
+    let all = all_points(bits(&facts.given.read.variables));
+    match points_done(facts) {
+        (_, true) => format!("all {all} points"),
+        (done, false) => format!("{} of {all} points", grouped(done)),
+    }
+}
+
+/// At how many of the points that were done the assumptions hold, and of how many points these are where they are not all.
+fn of_points_done(facts: &Facts) -> String {
+    let all = all_points(bits(&facts.given.read.variables));
+    let (held, done) = (facts.answer.second, grouped(facts.done));
+    let (_, whole) = points_done(facts);
+    match (held, whole) {
+        (0, true) => format!("none of all {done} points"),
+        (0, false) => format!("none of {done} points (of {all})"),
+        (_, true) if held == facts.done => format!("all {done} points"),
+        (_, true) => format!("{} of all {done} points", grouped(held)),
+        (_, false) => format!("{} of {done} points (of {all})", grouped(held)),
     }
 }
 

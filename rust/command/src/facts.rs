@@ -10,6 +10,7 @@ use crate::points::Points;
 use crate::refute::Claim;
 use crate::run::{Given, Run};
 use crate::source::Text;
+use crate::stated::Stated;
 use simple::eval::Value;
 use simple::grammar::Sorted;
 use std::ops::Range;
@@ -35,16 +36,17 @@ pub struct Derived {
     pub steps: Vec<Step>,
 }
 
-/// A constraint that is false or was not begun, and the point.
+/// A constraint that is false, or a constraint or assumption that was not begun, and the point.
 pub struct Judged {
-    /// The constraint's command in the script.
+    pub stated: Stated,
+    /// Its command in the script.
     pub located: Located,
     pub text: String,
     /// The variables with their values.
     pub point: Vec<(String, Value)>,
     /// The texts and values of the first two neighbours that differ, where the constraint is a false equation.
     pub sides: Option<[(String, Value); 2]>,
-    /// Whether the constraint has a signed operator.
+    /// Whether it has a signed operator.
     pub signed: bool,
 }
 
@@ -52,6 +54,8 @@ pub struct Judged {
 pub struct Facts {
     pub given: Given,
     pub answer: Answer,
+    /// At how many points the checker was asked.
+    pub done: u64,
     /// The place that the answer names, where it is one in a text.
     pub located: Option<Located>,
     /// The cause in a sentence, where the command knows it.
@@ -90,6 +94,7 @@ pub fn gather(
         function: function_of(&given, answer),
         derived: derived(&given, answer, &run.area)?,
         judged: judged(&given, answer, &run.point),
+        done: run.done,
         guards: run.guards,
         claim: run.claim,
         strict,
@@ -193,19 +198,19 @@ fn derived(given: &Given, answer: Answer, area: &[u16]) -> Result<Vec<Derived>, 
     derived.collect()
 }
 
-/// The constraint and the point that answers 14 and 15 name.
+/// The constraint or assumption and the point that answers 14 and 15 name.
 fn judged(given: &Given, answer: Answer, numbers: &[u64]) -> Option<Judged> {
-    let named = matches!(answer.number, 14 | 15);
-    let index = named.then_some(answer.second as usize)?;
-    let constraint = given.read.constraints.get(index)?;
-    let sides = differing(&given.read, &given.bodies, &constraint.term, numbers);
+    let stated = Stated::named(answer)?;
+    let found = stated.within(&given.read)?;
+    let sides = differing(&given.read, &given.bodies, &found.term, numbers);
     let sides = sides.filter(|_| answer.number == 14);
     Some(Judged {
-        located: located_word(&given.script, constraint.place, 1),
-        text: constraint.term.to_string(),
+        stated,
+        located: located_word(&given.script, found.place, 1),
+        text: found.term.to_string(),
         point: point(&given.read.variables, numbers),
         sides: sides.map(|sides| sides.map(|(side, value)| (side.to_string(), value))),
-        signed: is_signed(&constraint.term),
+        signed: is_signed(&found.term),
     })
 }
 

@@ -1,4 +1,4 @@
-//! How often the left side of each `=>` of the constraints held. The counts are the command's own and take no part in a verdict.
+//! How often the left side of each `=>` of the constraints held, at points whose assumptions hold. The counts are the command's own and take no part in a verdict.
 
 use crate::program::Program;
 use simple::eval::Value;
@@ -6,7 +6,7 @@ use simple::operands;
 use simple::script::Script;
 use simple::tree::Tree;
 
-/// The left side of a `=>`, and at how many points it held.
+/// The left side of a `=>`, and at how many points it held, of those at which constraints are evaluated.
 #[derive(Clone, Debug, PartialEq, Eq)]
 pub struct Guard {
     pub constraint: usize,
@@ -20,7 +20,7 @@ pub struct Guard {
 pub struct Count<'a> {
     program: &'a Program<'a>,
     guards: Vec<Guard>,
-    /// For each guard its node, and those of the left sides in whose right sides it stands.
+    /// For each guard its node, those of the left sides in whose right sides it stands, and those of the assumptions.
     nodes: Vec<Vec<usize>>,
     /// All that must be known to know the guards.
     below: Vec<usize>,
@@ -38,7 +38,7 @@ impl<'a> Count<'a> {
             values: vec![Value::Bool(false); program.nodes.len()],
         };
         for (index, constraint) in script.constraints.iter().enumerate() {
-            count.enter(index, &constraint.term, &[]);
+            count.enter(index, &constraint.term, &program.assumed);
         }
         count.below = program.below(&count.nodes.concat());
         count
@@ -129,6 +129,24 @@ mod tests {
             .collect();
         assert_eq!(found, [(0, "p", 2), (0, "(not q)", 2), (1, "(and p q)", 0)]);
         assert_eq!(&text[guards[2].place..guards[2].place + 9], "(and p q)");
+    }
+
+    #[test]
+    fn left_sides_are_counted_where_the_assumptions_hold() {
+        let text = "(set-logic BV)(declare-var p Bool)(declare-var q Bool)(synth-fun f () Bool ((B Bool)) ((B Bool (true))))
+            (constraint (=> p f))(assume q)(assume (=> p f))(check-synth)";
+        let script = simple::script::read(text.as_bytes()).expect("a sound script");
+        let bodies = simple::response::read(b"((define-fun f () Bool true))", &script);
+        let bodies = bodies.expect("a sound response");
+        let program = program(&script, &bodies).expect("a program");
+        let mut count = Count::new(&script, &program);
+        count.add(&[0, 0, 0, 1, 1, 0, 1, 1]);
+        let guards = count.guards();
+        let found: Vec<(&str, u64)> = guards
+            .iter()
+            .map(|one| (one.term.as_str(), one.held))
+            .collect();
+        assert_eq!(found, [("p", 1)]);
     }
 
     #[test]

@@ -17,7 +17,7 @@ use sverdhyll::digest::sha256;
 /// The name of the format, and its version: a later one keeps the keys of an earlier one.
 const FORMAT: [(&str, Json); 2] = [
     ("format", Json::Word("sverdhyll")),
-    ("version", Json::Number(3)),
+    ("version", Json::Number(4)),
 ];
 
 /// A JSON value.
@@ -155,7 +155,7 @@ fn note(note: &Note) -> Json {
     ])
 }
 
-/// The constraint and the point of answer 14 or 15.
+/// The constraint or assumption and the point of answer 14 or 15.
 fn constraint(judged: &Judged) -> Json {
     let valued = |key: &'static str, (name, value): &(String, Value)| {
         let signed = whole(*value).filter(|_| judged.signed);
@@ -171,6 +171,8 @@ fn constraint(judged: &Judged) -> Json {
     };
     let point = judged.point.iter().map(|one| valued("name", one));
     Object(vec![
+        ("kind", text(judged.stated.kind())),
+        ("number", Number(judged.stated.number())),
         ("line", Number(judged.located.place.line as u64)),
         ("column", Number(judged.located.place.column as u64)),
         ("term", text(&judged.text)),

@@ -28,6 +28,7 @@ mod search;
 mod slips;
 mod smt;
 mod source;
+mod stated;
 mod text;
 mod trials;
 

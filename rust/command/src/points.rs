@@ -3,11 +3,11 @@
 use crate::edges::{edges, literals};
 use crate::failure::Failure;
 use crate::place::{place, shown};
-use crate::program::program;
+use crate::program::{program, Program};
 use crate::random::Random;
 use crate::search::search;
 use crate::source::{Source, Text};
-use simple::eval::{constraint_costs, Functions};
+use simple::eval::{assumption_costs, constraint_costs, Functions, Value};
 use simple::grammar::Sorted;
 use simple::operators::Sort;
 use simple::script::Script;
@@ -25,6 +25,10 @@ const ALL_BITS: u32 = 22;
 const CHOSEN: u64 = 4_096;
 /// Fewer of them are taken where they would cost more units, but always what one call takes.
 const CHOSEN_UNITS: u128 = 20_000_000;
+/// A pseudo-random point is drawn at most so often, until the assumptions hold at it.
+const DRAWS: usize = 16;
+/// So many values of terms are found in all to know where the assumptions hold.
+const MOST_VALUES: usize = 20_000_000;
 /// The search begins with so many points.
 const POOL: usize = 160;
 /// The seed where none is given.
@@ -208,12 +212,45 @@ pub fn bits(variables: &[Sorted]) -> u32 {
     variables.iter().map(bits).sum()
 }
 
-/// What all constraints cost at one point, at most 2^64.
+/// What all assumptions and constraints cost at one point, at most 2^64.
 fn cost(subject: &Subject) -> u128 {
     let functions = Functions::new(subject.script, subject.bodies);
-    let costs = constraint_costs(subject.script, &functions).into_iter();
+    let costs = assumption_costs(subject.script, &functions).into_iter();
+    let costs = costs.chain(constraint_costs(subject.script, &functions));
     let cost = costs.fold(0, u128::saturating_add);
     cost.min(1 << 64)
+}
+
+/// Whether the assumptions hold at points, as long as that may be asked.
+struct Assumed<'a> {
+    program: &'a Program<'a>,
+    /// All that must be known to know the assumptions.
+    below: Vec<usize>,
+    values: Vec<Value>,
+    /// How many values may still be found.
+    left: usize,
+}
+
+impl<'a> Assumed<'a> {
+    /// The assumptions of a program; none where it has none.
+    fn new(program: &'a Program<'a>) -> Option<Assumed<'a>> {
+        let assumed = Assumed {
+            program,
+            below: program.below(&program.assumed),
+            values: vec![Value::Bool(false); program.nodes.len()],
+            left: MOST_VALUES,
+        };
+        (!program.assumed.is_empty()).then_some(assumed)
+    }
+
+    /// Whether the assumptions hold at a point, or that may not be asked any more.
+    fn may_hold(&mut self, point: &[u64]) -> bool {
+        if self.left < self.below.len() {
+            return true;
+        }
+        self.left -= self.below.len();
+        self.program.holds(&self.below, point, &mut self.values)
+    }
 }
 
 /// The points with which a list begins, at most so many: those that a search finds, then edge values.
@@ -224,10 +261,14 @@ fn chosen(subject: &Subject, edges: &[Vec<u64>], count: u64, seed: u64) -> Vec<V
     pool.extend((0..POOL / 4).map(|_| random_point(&subject.script.variables, edges, &mut random)));
     let program = program(subject.script, subject.bodies);
     let program = program.filter(|program| !program.roots.is_empty());
-    let found = program.map(|program| search(&program, &pool, seed));
+    let found = program.as_ref().map(|one| search(one, &pool, seed));
     let mut known = HashSet::new();
     let mut chosen = found.unwrap_or_default();
-    chosen.extend(edge_points(edges, most / 2, &mut random));
+    let mut behind = edge_points(edges, most / 2, &mut random);
+    if let Some(mut assumed) = program.as_ref().and_then(Assumed::new) {
+        behind.sort_by_cached_key(|point| !assumed.may_hold(point));
+    }
+    chosen.append(&mut behind);
     chosen.retain(|point| known.insert(key(point)));
     chosen.truncate(most);
     chosen
@@ -290,11 +331,16 @@ pub struct Parts<'a> {
     random: Random,
     /// The points that were taken, where they are chosen and pseudo-random ones.
     known: HashSet<u128>,
+    assumed: Option<Assumed<'a>>,
 }
 
 impl<'a> Parts<'a> {
-    /// The parts of a list for a script's variables.
-    pub fn new(points: &'a Points, variables: &'a [Sorted]) -> Parts<'a> {
+    /// The parts of a list for a script's variables; pseudo-random points are rather those at which the assumptions of its program hold.
+    pub fn new(
+        points: &'a Points,
+        variables: &'a [Sorted],
+        program: Option<&'a Program<'a>>,
+    ) -> Parts<'a> {
         let (known, seed) = match points.origin {
             Origin::Random { seed, .. } => {
                 let listed = points.listed.chunks(variables.len().max(1));
@@ -308,6 +354,7 @@ impl<'a> Parts<'a> {
             taken: 0,
             random: Random(seed),
             known,
+            assumed: program.and_then(Assumed::new),
         }
     }
 
@@ -337,12 +384,26 @@ impl<'a> Parts<'a> {
         if let Some(listed) = self.points.listed.get(at..at.saturating_add(width)) {
             return listed.to_vec();
         }
-        loop {
-            let point = random_point(self.variables, &self.points.edges, &mut self.random);
-            if self.known.insert(key(&point)) {
-                return point;
+        let mut point = self.drawn();
+        while !self.known.insert(key(&point)) {
+            point = random_point(self.variables, &self.points.edges, &mut self.random);
+        }
+        point
+    }
+
+    /// A pseudo-random point, if possible one at which the assumptions hold.
+    fn drawn(&mut self) -> Vec<u64> {
+        let mut draw = || random_point(self.variables, &self.points.edges, &mut self.random);
+        let mut point = draw();
+        if let Some(assumed) = &mut self.assumed {
+            for _ in 1..DRAWS {
+                if assumed.may_hold(&point) {
+                    break;
+                }
+                point = draw();
             }
         }
+        point
     }
 }
 
@@ -450,7 +511,8 @@ mod tests {
             texts,
             budget: 1_000_000_000,
         });
-        let mut parts = Parts::new(&points, &script.variables);
+        let program = program(&script, &bodies);
+        let mut parts = Parts::new(&points, &script.variables, program.as_ref());
         let mut numbers = Vec::new();
         loop {
             let next = parts.next();
@@ -560,6 +622,36 @@ mod tests {
             let (_, numbers) = made(&Wanted::Random { count: 9, seed }, &one);
             assert_eq!(numbers[0], 0x1234_5678, "seed {seed}");
         }
+    }
+
+    #[test]
+    fn most_points_are_such_that_the_assumptions_hold() {
+        let declared =
+            "(declare-var x (_ BitVec 32))(declare-var y (_ BitVec 32))(assume (bvult x y))";
+        let assumed = format!("{declared}(assume (= ((_ extract 1 0) y) #b10))");
+        let wanted = Wanted::Random {
+            count: 1_000,
+            seed: 1,
+        };
+        let holds = |point: &&[u64]| point[0] < point[1] && point[1] % 4 == 2;
+        let (_, numbers) = made(&wanted, &subject(&assumed, "(= x x)", "n"));
+        assert_eq!(numbers.len(), 2_000);
+        let held = numbers.chunks(2).filter(holds).count();
+        assert!(held > 500, "{held}");
+        let false_only = "(=> (= (f x) #x00000007) (= y #x00000008))";
+        let (_, numbers) = made(&wanted, &subject(&assumed, false_only, "n"));
+        assert!(holds(&&numbers[..2]) && numbers[0] == 7, "{numbers:?}");
+    }
+
+    #[test]
+    fn a_list_of_nearly_all_points_ends() {
+        let declared = "(declare-var x (_ BitVec 8))(assume (distinct x #x05))";
+        let wanted = Wanted::Random {
+            count: 255,
+            seed: 1,
+        };
+        let (_, numbers) = made(&wanted, &subject(declared, "(= x x)", "n"));
+        assert_eq!(numbers.iter().collect::<HashSet<_>>().len(), 255);
     }
 
     #[test]

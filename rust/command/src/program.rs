@@ -1,6 +1,7 @@
-//! The constraints with the bodies put in for the functions: one list of nodes, each after its operands, so that one pass gives all values at a point. The
-//! values are the simple checker's.
+//! The assumptions and constraints with the bodies put in for the functions: one list of nodes, each after its operands, so that one pass gives all values at a
+//! point. The values are the simple checker's.
 
+use crate::trials::head;
 use simple::eval::{literal_value, operator_value, Value};
 use simple::grammar::Sorted;
 use simple::operands;
@@ -8,8 +9,9 @@ use simple::operators::{operator, Sort};
 use simple::script::Script;
 use simple::tree::Tree;
 use std::collections::{BTreeMap, HashMap};
+use std::sync::OnceLock;
 
-/// A script whose constraints have more nodes, functions put in, has no program.
+/// A script whose assumptions and constraints have more nodes, functions put in, has no program.
 const MOST_NODES: usize = 20_000;
 
 /// A variable by its index, a literal, or an operator with the indices of its operands.
@@ -31,12 +33,14 @@ pub struct Place<'a> {
     pub nodes: Vec<usize>,
 }
 
-/// The nodes of all constraints.
+/// The nodes of all assumptions and constraints.
 #[derive(Debug, Default)]
 pub struct Program<'a> {
     pub variables: Vec<Sort>,
     pub nodes: Vec<Node<'a>>,
-    /// The node of each constraint.
+    /// The node of each assumption.
+    pub assumed: Vec<usize>,
+    /// The node of each constraint, behind the assumptions if there are any: it is false where these are true and the constraint is false.
     pub roots: Vec<usize>,
     /// Where the nodes come from, those of the response first.
     pub places: Vec<Place<'a>>,
@@ -75,13 +79,24 @@ pub fn program<'a>(script: &'a Script, bodies: &'a [Tree]) -> Option<Program<'a>
         maker.program.variables.push(variable.sort);
         names.insert(&variable.name, maker.push(Node::Variable(index))?);
     }
+    for assumption in &script.assumptions {
+        let node = maker.node(&assumption.term, &names, false)?;
+        maker.program.assumed.push(node);
+    }
     for constraint in &script.constraints {
-        let root = maker.node(&constraint.term, &names, false)?;
+        let node = maker.node(&constraint.term, &names, false)?;
+        let root = maker.behind_assumptions(node)?;
         maker.program.roots.push(root);
     }
     let mut program = maker.program;
     program.places = maker.places.into_values().collect();
     Some(program)
+}
+
+/// The word `=>`, as the head of an application.
+fn implies() -> &'static Tree {
+    static HEAD: OnceLock<Tree> = OnceLock::new();
+    HEAD.get_or_init(|| head("=>"))
 }
 
 /// The `define-fun`s, and the synthesized functions with their bodies, by name.
@@ -111,6 +126,17 @@ impl<'a> Maker<'a> {
         let index = self.program.nodes.len();
         self.program.nodes.push(node);
         (index < MOST_NODES).then_some(index)
+    }
+
+    /// A node that is true where an assumption is false, and has the value of another elsewhere.
+    fn behind_assumptions(&mut self, node: usize) -> Option<usize> {
+        let mut operands = self.program.assumed.clone();
+        if operands.is_empty() {
+            return Some(node);
+        }
+        operands.push(node);
+        let head = implies();
+        self.push(Node::Apply { head, operands })
     }
 
     /// The node of a term.
@@ -160,6 +186,13 @@ impl<'a> Maker<'a> {
 }
 
 impl Program<'_> {
+    /// Whether all assumptions are true at a point, by the values of the nodes that stand below them.
+    pub fn holds(&self, below: &[usize], point: &[u64], values: &mut [Value]) -> bool {
+        self.enter(below.iter().copied(), point, values);
+        let mut assumed = self.assumed.iter();
+        assumed.all(|&node| values[node] == Value::Bool(true))
+    }
+
     /// The values of all nodes at a point.
     pub fn values(&self, point: &[u64]) -> Vec<Value> {
         let mut values = vec![Value::Bool(false); self.nodes.len()];

@@ -1,5 +1,5 @@
 //! The calls of the checker: one for the texts alone, then one for each part of the point list. Every answer is the checker's own; only the index of a point is
-//! put to that of the whole list, and points and units are summed.
+//! put to that of the whole list, and units and the points whose assumptions hold are summed.
 
 use crate::arguments::Solver;
 use crate::failure::Failure;
@@ -30,6 +30,8 @@ pub struct Given {
 /// What the calls came to.
 pub struct Run {
     pub answer: Answer,
+    /// At how many points the checker was asked, until its answer was not 0.
+    pub done: u64,
     /// The derivations that the checker shows.
     pub area: Vec<u16>,
     /// The point that answer 14 or 15 names.
@@ -44,6 +46,7 @@ pub struct Run {
 pub fn texts(library: &mut Library, given: &Given) -> Result<Run, Failure> {
     let mut run = Run {
         answer: Answer::default(),
+        done: u64::from(given.read.variables.is_empty()),
         area: vec![0; AREA_LENGTH],
         point: Vec::new(),
         guards: Vec::new(),
@@ -98,11 +101,11 @@ impl Run {
         };
         let accepted = self.answer;
         self.call(library, given, &point, given.budget - accepted.units)?;
-        match self.answer.number {
-            0 => self.answer.second += accepted.second,
-            _ => self.answer.place += accepted.second,
-        }
-        if self.answer.number != 0 {
+        if self.answer.number == 0 {
+            self.answer.second += accepted.second;
+            self.done += 1;
+        } else {
+            self.answer.place += self.done;
             self.guards.clear();
         }
         self.answer.units += accepted.units;
@@ -151,9 +154,9 @@ impl Run {
         let mut count = program
             .as_ref()
             .map(|program| Count::new(&given.read, program));
-        let mut parts = Parts::new(&given.points, variables);
+        let mut parts = Parts::new(&given.points, variables, program.as_ref());
         let mut progress = Progress::new(given.points.count(variables));
-        let (mut done, mut units) = (0, 0);
+        let (mut held, mut units) = (0, 0);
         loop {
             let numbers = parts.next();
             if numbers.is_empty() {
@@ -168,15 +171,16 @@ impl Run {
                     .get(at..at + variables.len())
                     .unwrap_or_default()
                     .to_vec();
-                self.answer.place += done;
+                self.answer.place += self.done;
                 return Ok(());
             }
-            done += self.answer.second;
-            self.answer.second = done;
+            held += self.answer.second;
+            self.answer.second = held;
+            self.done += (numbers.len() / variables.len()) as u64;
             if let Some(count) = &mut count {
                 count.add(&numbers);
             }
-            progress.show(done);
+            progress.show(self.done);
         }
         self.guards = count.map(Count::guards).unwrap_or_default();
         Ok(())

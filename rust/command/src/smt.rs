@@ -1,4 +1,4 @@
-//! The question that points cannot settle, for an SMT solver: is a constraint false at some point? Its text is outside the proof.
+//! The question that points cannot settle, for an SMT solver: is a constraint false at some point where the assumptions hold? Its text is outside the proof.
 
 use crate::pieces::{pieces, Piece};
 use simple::grammar::Sorted;
@@ -67,10 +67,15 @@ const KNOWN: [&str; 56] = [
     "nat2bv",
 ];
 
-/// The question in SMT-LIB 2: a model is a point at which a constraint is false, and `unsat` says that there is none.
+/// The question in SMT-LIB 2: a model is a point at which all assumptions hold and a constraint is false, and `unsat` says that there is none.
 pub fn question(script: &Script, bodies: &[Tree]) -> String {
-    let mut text = String::from(
-        "; A model is a point at which a constraint of the script is false with the bodies of the response; unsat says that there is none.\n\
+    let assumed = match script.assumptions.len() {
+        0 => "",
+        1 => "the assumption holds and ",
+        _ => "the assumptions hold and ",
+    };
+    let mut text = format!(
+        "; A model is a point at which {assumed}a constraint of the script is false with the bodies of the response; unsat says that there is none.\n\
          (set-option :produce-models true)\n(set-logic QF_BV)\n",
     );
     let declared = |one: &Sorted| format!("(declare-fun {} () {})\n", name(&one.name), one.sort);
@@ -79,6 +84,8 @@ pub fn question(script: &Script, bodies: &[Tree]) -> String {
     text.extend(defined.map(|one| definition(&one.name, &one.arguments, one.sort, &one.body)));
     let given = script.synthesized.iter().zip(bodies);
     text.extend(given.map(|(one, body)| definition(&one.name, &one.arguments, one.sort, body)));
+    let assumptions = script.assumptions.iter();
+    text.extend(assumptions.map(|one| format!("(assert {})\n", term(&one.term))));
     let constraints = script.constraints.iter();
     let negated: Vec<String> = constraints
         .map(|one| format!("(not {})", term(&one.term)))
@@ -159,5 +166,23 @@ mod tests {
                 "(get-value (|as of the script|))",
             ]
         );
+    }
+
+    #[test]
+    fn assumptions_stand_before_the_constraints() {
+        let script = "(set-logic BV)(declare-var p Bool)(synth-fun f ((x Bool)) Bool ((B Bool)) ((B Bool (x))))
+            (constraint (f p))(assume (f p))(assume (not (not p)))(check-synth)";
+        let script = simple::script::read(script.as_bytes()).expect("a sound script");
+        let bodies = simple::response::read(b"((define-fun f ((x Bool)) Bool x))", &script);
+        let question = question(&script, &bodies.expect("a sound response"));
+        let first = "; A model is a point at which the assumptions hold and a constraint of the script is false ";
+        assert!(question.starts_with(first));
+        let lines: Vec<&str> = question.lines().skip(5).collect();
+        let asserted = [
+            "(assert (f p))",
+            "(assert (not (not p)))",
+            "(assert (not (f p)))",
+        ];
+        assert_eq!(lines[..3], asserted);
     }
 }

@@ -133,14 +133,14 @@ fn write_source(located: &Located, columns: usize, to: &mut impl Write) -> io::R
     writeln!(to, "{:>1$}{carets}", "| ", line.len())
 }
 
-/// Writes the constraint and the point of answer 14 or 15.
+/// Writes the constraint or assumption and the point of answer 14 or 15.
 fn write_judged(facts: &Facts, judged: &Judged, to: &mut impl Write) -> io::Result<()> {
     let answer = facts.answer;
     writeln!(
         to,
-        "{}: constraint {}, counted from 0:",
+        "{}: {}, counted from 0:",
         position(&judged.located),
-        answer.second
+        judged.stated
     )?;
     writeln!(to, "  {}", judged.text)?;
     if !judged.point.is_empty() {

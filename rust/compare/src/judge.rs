@@ -1,13 +1,17 @@
 //! Asks both checkers and holds their answers and areas against each other.
 
 use crate::trial::Trial;
-use simple::{replay, AREA_LENGTH};
+use simple::eval::whole_points;
+use simple::generate::Case;
+use simple::{replay, script, AREA_LENGTH};
 use std::{fmt, io};
 use sverdhyll::{Answer, Library};
 
 /// What both checkers say of a case.
 pub struct Agreed {
     pub answer: Answer,
+    /// Whether it is accepted with points at which an assumption is false.
+    pub points_skipped: bool,
     /// Whether the areas differ, which only several derivations of a body allow.
     pub shown_otherwise: bool,
 }
@@ -84,6 +88,7 @@ pub fn judged(library: &mut Library, trial: &Trial) -> io::Result<Result<Agreed,
     };
     Ok(match fault {
         None => Ok(Agreed {
+            points_skipped: points_skipped(case, &proved),
             answer: proved,
             shown_otherwise: area != simple_area,
         }),
@@ -93,6 +98,16 @@ pub fn judged(library: &mut Library, trial: &Trial) -> io::Result<Result<Agreed,
             fault,
         }),
     })
+}
+
+/// Whether fewer points are counted than there are: "Answer 0's second number now counts the points whose assumptions all held."
+fn points_skipped(case: &Case, answer: &Answer) -> bool {
+    if answer.number != 0 {
+        return false;
+    }
+    let script = script::read(&case.script).expect("a sound script after 0");
+    let points = whole_points(&case.points, &script.variables);
+    answer.second < points.len() as u64
 }
 
 /// What is wrong with the proved checker's area: "after any other answer each entry is 65,535, except that an area of

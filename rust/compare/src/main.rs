@@ -143,11 +143,8 @@ fn run(wanted: &Wanted) -> io::Result<bool> {
         None => brought.tally.missing(),
         Some(_) => Vec::new(),
     };
-    for (number, text) in &missing {
-        println!(
-            "answer {number} about {} did not come out",
-            tally::TEXTS[usize::from(*text)]
-        );
+    for name in &missing {
+        println!("{name} did not come out");
     }
     if !brought.found.is_empty() {
         show(wanted, &brought.found)?;

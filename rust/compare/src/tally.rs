@@ -1,10 +1,11 @@
 //! How often each answer came out.
 
 use crate::judge::Agreed;
+use simple::FIRST_ASSUMPTION;
 use std::fmt;
 
 /// The texts that an answer may speak of.
-pub const TEXTS: [&str; 4] = ["script", "response", "points", "none"];
+const TEXTS: [&str; 4] = ["script", "response", "points", "none"];
 /// The texts that each answer may speak of.
 const SPOKEN_OF: [&[u8]; 17] = [
     &[3],
@@ -26,10 +27,13 @@ const SPOKEN_OF: [&[u8]; 17] = [
     &[2],
 ];
 
-/// How often each answer came out of each text, and how often the two checkers showed different derivations.
+/// How often each answer came out of each text, 0 with points skipped and 15 before an assumption, and how often the two checkers
+/// showed different derivations.
 #[derive(Default)]
 pub struct Tally {
     answers: [[u64; 4]; 17],
+    points_skipped: u64,
+    before_assumption: u64,
     shown_otherwise: u64,
 }
 
@@ -38,6 +42,9 @@ impl Tally {
     pub fn count(&mut self, agreed: &Agreed) {
         let answer = &agreed.answer;
         self.answers[usize::from(answer.number)][usize::from(answer.text)] += 1;
+        let before_assumption = answer.number == 15 && answer.second >= FIRST_ASSUMPTION as u64;
+        self.before_assumption += u64::from(before_assumption);
+        self.points_skipped += u64::from(agreed.points_skipped);
         self.shown_otherwise += u64::from(agreed.shown_otherwise);
     }
 
@@ -48,15 +55,30 @@ impl Tally {
                 *count += others;
             }
         }
+        self.points_skipped += other.points_skipped;
+        self.before_assumption += other.before_assumption;
         self.shown_otherwise += other.shown_otherwise;
     }
 
-    /// The answers, with the texts they may speak of, that did not come out.
-    pub fn missing(&self) -> Vec<(usize, u8)> {
+    /// The answers, with the texts they may speak of, that did not come out, and what assumptions did not bring.
+    pub fn missing(&self) -> Vec<String> {
         let rows = SPOKEN_OF.iter().enumerate();
         let all = rows.flat_map(|(number, texts)| texts.iter().map(move |&text| (number, text)));
-        all.filter(|&(number, text)| self.answers[number][usize::from(text)] == 0)
-            .collect()
+        let none = all.filter(|&(number, text)| self.answers[number][usize::from(text)] == 0);
+        let name = |(number, text)| format!("answer {number} about {}", TEXTS[usize::from(text)]);
+        let mut missing: Vec<String> = none.map(name).collect();
+        let by_assumptions = self.by_assumptions().into_iter();
+        let none = by_assumptions.filter(|&(_, count)| count == 0);
+        missing.extend(none.map(|(name, _)| name.to_string()));
+        missing
+    }
+
+    /// What only assumptions bring, and how often it came out.
+    fn by_assumptions(&self) -> [(&'static str, u64); 2] {
+        [
+            ("answer 0 with points skipped", self.points_skipped),
+            ("answer 15 before an assumption", self.before_assumption),
+        ]
     }
 }
 
@@ -66,6 +88,9 @@ impl fmt::Display for Tally {
         writeln!(to, "answer {script:>9} {response:>9} {points:>9} {none:>9}")?;
         for (number, [script, response, points, none]) in self.answers.iter().enumerate() {
             writeln!(to, "{number:6} {script:9} {response:9} {points:9} {none:9}")?;
+        }
+        for (name, count) in self.by_assumptions() {
+            writeln!(to, "{name}: {count} cases")?;
         }
         writeln!(
             to,

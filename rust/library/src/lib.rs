@@ -12,7 +12,7 @@
 //! let mut shown = vec![0; AREA_LENGTH];
 //! let answer = library.check(&script, &response, &[0, 1, 255], 1_000_000, &mut shown)?;
 //! match answer.outcome() {
-//!     Outcome::Accepted { points, .. } => println!("right at {points} points"),
+//!     Outcome::Accepted { points, .. } => println!("right at the {points} points whose assumptions hold"),
 //!     other => println!("{other}"),
 //! }
 //! # Ok::<(), std::io::Error>(())
@@ -52,6 +52,8 @@ pub const AREA_LENGTH: usize = 32_768;
 pub const LIST_LENGTH: usize = 4_096;
 /// "every entry of the area that no list uses is 65,535".
 pub const UNUSED: u16 = 65_535;
+/// "Answer 15 numbers assumptions from 64".
+pub const FIRST_ASSUMPTION: u64 = 64;
 
 /// An answer in numbers, as the library gives it; [`Answer::outcome`] says what they mean.
 #[derive(Clone, Copy, Debug, Default, PartialEq, Eq, Hash)]

@@ -1,6 +1,6 @@
 //! What an answer says, as an enum.
 
-use crate::Answer;
+use crate::{Answer, FIRST_ASSUMPTION};
 use std::fmt;
 
 /// A text that an answer can speak of.
@@ -26,12 +26,12 @@ impl fmt::Display for Text {
 
 /// What the checker answers: the table of answers, each with what its numbers stand for.
 ///
-/// `at` is an offset in bytes in the text; functions, points and constraints are numbered from 0; `units` is the summed cost of the evaluations done, that of a
-/// false constraint included.
+/// `at` is an offset in bytes in the text; functions, points, constraints and assumptions are numbered from 0; `units` is the summed cost of the evaluations done,
+/// that of a false assumption or constraint included.
 ///
 /// | No. | Variant | Meaning | What comes with it |
 /// |---|---|---|---|
-/// | 0 | `Accepted` | every body is derived, and every constraint holds at every point | how many points, units |
+/// | 0 | `Accepted` | every body is derived, and every constraint holds at every point whose assumptions hold | how many points these are, units |
 /// | 1 | `TooLong` | script, response or points too long, or an area that is not of its size | which, and its length |
 /// | 2 | `BadWord` | no word of the language | the word |
 /// | 3 | `Bracket` | a bracket closed too often, or never closed | the bracket, or the text's length |
@@ -46,12 +46,12 @@ impl fmt::Display for Text {
 /// | 12 | `Header` | the response does not answer the functions of the script | the first word that differs |
 /// | 13 | `NoDerivation` | the grammar of a function does not derive its body | the body, the function |
 /// | 14 | `ConstraintFalse` | a constraint is false at a point | point, constraint, units |
-/// | 15 | `BudgetEnded` | the budget does not suffice for a constraint at a point | point, constraint, units |
+/// | 15 | `BudgetEnded` | the budget does not suffice for a constraint or an assumption at a point | point, constraint, or [`FIRST_ASSUMPTION`] and the assumption, units |
 /// | 16 | `BadPoints` | the points are not whole, or a number is outside its sort | the list's length, or the number's index |
 #[derive(Clone, Copy, Debug, PartialEq, Eq, Hash)]
 #[non_exhaustive]
 pub enum Outcome {
-    /// 0: accepted.
+    /// 0: accepted; `points` are those whose assumptions all held.
     Accepted { points: u64, units: u64 },
     /// 1: too long, or an area that is not of its size.
     TooLong { text: Text, length: u64 },
@@ -85,7 +85,7 @@ pub enum Outcome {
         constraint: u64,
         units: u64,
     },
-    /// 15: the budget ended.
+    /// 15: the budget ended; from [`FIRST_ASSUMPTION`] on, `constraint` is an assumption.
     BudgetEnded {
         point: u64,
         constraint: u64,
@@ -157,7 +157,7 @@ impl fmt::Display for Outcome {
     /// The answer in a sentence, without a full stop.
     fn fmt(&self, to: &mut fmt::Formatter) -> fmt::Result {
         match *self {
-            Outcome::Accepted { points, units } => write!(to, "accepted: derived, and no constraint is false; points done: {points}, units spent: {units}"),
+            Outcome::Accepted { points, units } => write!(to, "accepted: derived, and no constraint is false; points whose assumptions hold: {points}, units spent: {units}"),
             Outcome::TooLong { text: Text::Area, length } => write!(to, "the area has {length} entries, not {}", crate::AREA_LENGTH),
             Outcome::TooLong { text, length } => write!(to, "the {text} is too long: {length}"),
             Outcome::BadWord { text, at } => write!(to, "{text}, byte {at}: no word of the language"),
@@ -176,7 +176,11 @@ impl fmt::Display for Outcome {
                 write!(to, "constraint {constraint} is false at point {point}; units spent: {units}")
             }
             Outcome::BudgetEnded { point, constraint, units } => {
-                write!(to, "the budget ends before constraint {constraint} at point {point}; units spent: {units}")
+                let (kind, number) = match constraint {
+                    FIRST_ASSUMPTION.. => ("assumption", constraint - FIRST_ASSUMPTION),
+                    _ => ("constraint", constraint),
+                };
+                write!(to, "the budget ends before {kind} {number} at point {point}; units spent: {units}")
             }
             Outcome::BadPoints { at } => write!(to, "the points are not whole, or number {at} is outside its sort"),
             Outcome::Other(Answer { number, .. }) => write!(to, "answer {number}, which this version does not know"),
@@ -226,6 +230,18 @@ mod tests {
             said(14, 2),
             "constraint 5 is false at point 4; units spent: 6"
         );
+        for (second, named) in [
+            (63, "constraint 63"),
+            (64, "assumption 0"),
+            (95, "assumption 31"),
+        ] {
+            let ended = Answer {
+                second,
+                ..answer(15, 2)
+            };
+            let expected = format!("the budget ends before {named} at point 4; units spent: 6");
+            assert_eq!(Outcome::from(ended).to_string(), expected);
+        }
         assert_eq!(said(1, 3), "the area has 4 entries, not 32768");
         assert_eq!(said(1, 2), "the point list is too long: 4");
     }

@@ -35,7 +35,7 @@ fn a_package_elsewhere() {
         .output()
         .expect("cargo");
     fs::remove_dir_all(&package).expect("removed");
-    let said = "accepted: derived, and no constraint is false; points done: 1, units spent: 24\nrules: 7 15 3 8\n";
+    let said = "accepted: derived, and no constraint is false; points whose assumptions hold: 1, units spent: 24\nrules: 7 15 3 8\n";
     assert_eq!(
         String::from_utf8_lossy(&done.stdout),
         said,

@@ -54,6 +54,7 @@ pub enum Command<'a> {
     DefineFun(DefineFun<'a>),
     SynthFun(SynthFun<'a>),
     Constraint(&'a Tree),
+    Assume(&'a Tree),
     CheckSynth,
 }
 
@@ -209,6 +210,7 @@ pub fn command(tree: &Tree) -> Option<Command<'_>> {
         ("define-fun", _) => define_fun(tree).map(Command::DefineFun),
         ("synth-fun", _) => synth_fun(items).map(Command::SynthFun),
         ("constraint", [_, term]) => is_term(term).then_some(Command::Constraint(term)),
+        ("assume", [_, term]) => is_term(term).then_some(Command::Assume(term)),
         ("check-synth", [_]) => Some(Command::CheckSynth),
         _ => None,
     }

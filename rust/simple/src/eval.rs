@@ -4,10 +4,10 @@ use crate::constants::constant;
 use crate::grammar::Sorted;
 use crate::operators::Sort;
 use crate::script::{Constraint, Script};
-use crate::signed;
 use crate::terms::{extract_indices, operands};
 use crate::tree::Tree;
 use crate::words::Kind;
+use crate::{signed, FIRST_ASSUMPTION};
 use std::collections::HashMap;
 use std::fmt;
 
@@ -75,11 +75,18 @@ pub struct Functions<'a> {
 /// The values of arguments or variables by name.
 pub type Values<'a> = HashMap<&'a str, Value>;
 
-/// How the evaluation of the points ended.
+/// How the evaluation of the points ended; a number is a constraint's, or from 64 on an assumption's.
 pub enum Outcome {
-    Accepted { points: usize },
+    Accepted { held: usize },
     False { point: usize, constraint: usize },
-    BudgetEnded { point: usize, constraint: usize },
+    BudgetEnded { point: usize, number: usize },
+}
+
+/// How the evaluation of all assumptions or all constraints at a point ended, by an index where it ended early.
+enum End {
+    AllHeld,
+    False(usize),
+    BudgetEnded(usize),
 }
 
 /// 16: "point list not whole points, or value outside its sort": "list length, or first bad index".
@@ -96,58 +103,106 @@ pub fn points_fault(points: &[u64], variables: &[Sorted]) -> Option<usize> {
     points.iter().enumerate().position(outside)
 }
 
-/// "for each point, each constraint in script order; the first false one ends the work with answer 14. One whose cost
-/// exceeds what the budget has left isn't begun." Gives the end and the units spent.
+/// "for each point, each constraint in script order; the first false one ends the work with answer 14"; "At each point the
+/// assumptions are evaluated first, in script order, up to the first false one, which skips the point's constraints." Gives the
+/// end and the units spent.
 pub fn evaluate(script: &Script, bodies: &[Tree], points: &[u64], budget: u64) -> (Outcome, u64) {
     let functions = Functions::new(script, bodies);
     let points = whole_points(points, &script.variables);
-    let costs = constraint_costs(script, &functions);
-    let mut left = budget;
+    let assumption_costs = assumption_costs(script, &functions);
+    let constraint_costs = constraint_costs(script, &functions);
+    let (mut held, mut left) = (0, budget);
     for (point, values) in points.iter().enumerate() {
-        for (constraint, Constraint { term, .. }) in script.constraints.iter().enumerate() {
-            if costs[constraint] > u128::from(left) {
-                return (Outcome::BudgetEnded { point, constraint }, budget - left);
+        let mut end = |terms: &[Constraint], costs: &[u128]| {
+            first_not_held(terms, costs, &functions, values, &mut left)
+        };
+        match end(&script.assumptions, &assumption_costs) {
+            End::AllHeld => held += 1,
+            End::False(_) => continue,
+            End::BudgetEnded(index) => {
+                let number = FIRST_ASSUMPTION + index;
+                return (Outcome::BudgetEnded { point, number }, budget - left);
             }
-            left -= costs[constraint] as u64;
-            if functions.value(term, values) != Value::Bool(true) {
-                return (Outcome::False { point, constraint }, budget - left);
+        }
+        match end(&script.constraints, &constraint_costs) {
+            End::AllHeld => {}
+            End::False(constraint) => return (Outcome::False { point, constraint }, budget - left),
+            End::BudgetEnded(number) => {
+                return (Outcome::BudgetEnded { point, number }, budget - left)
             }
         }
     }
-    let points = points.len();
-    (Outcome::Accepted { points }, budget - left)
+    (Outcome::Accepted { held }, budget - left)
 }
 
-/// The constraints that are false at the first point and cost no more than a bound.
-pub fn false_constraints(
+/// Evaluates terms at a point "in script order, up to the first false one", each at its cost: "One whose cost exceeds what the
+/// budget has left isn't begun."
+fn first_not_held(
+    terms: &[Constraint],
+    costs: &[u128],
+    functions: &Functions,
+    values: &Values,
+    left: &mut u64,
+) -> End {
+    for (index, (Constraint { term, .. }, &cost)) in terms.iter().zip(costs).enumerate() {
+        if cost > u128::from(*left) {
+            return End::BudgetEnded(index);
+        }
+        *left -= cost as u64;
+        if functions.value(term, values) != Value::Bool(true) {
+            return End::False(index);
+        }
+    }
+    End::AllHeld
+}
+
+/// The numbers of the assumptions and constraints that are false at a point, or at the last one if there are fewer, and cost no
+/// more than a bound.
+pub fn false_numbers(
     script: &Script,
     bodies: &[Tree],
     points: &[u64],
+    point: usize,
     most: u64,
 ) -> Vec<usize> {
     let functions = Functions::new(script, bodies);
     let points = whole_points(points, &script.variables);
-    let Some(first) = points.first() else {
+    let Some(values) = points.get(point).or(points.last()) else {
         return Vec::new();
     };
-    let costs = constraint_costs(script, &functions);
-    let is_false = |&index: &usize| {
-        let value = || functions.value(&script.constraints[index].term, first);
-        costs[index] <= u128::from(most) && value() == Value::Bool(false)
+    let indices = |terms: &[Constraint], costs: Vec<u128>| {
+        let is_false = |&index: &usize| {
+            let value = || functions.value(&terms[index].term, values);
+            costs[index] <= u128::from(most) && value() == Value::Bool(false)
+        };
+        (0..terms.len()).filter(is_false).collect::<Vec<usize>>()
     };
-    (0..script.constraints.len()).filter(is_false).collect()
+    let assumptions = indices(&script.assumptions, assumption_costs(script, &functions));
+    let mut numbers = indices(&script.constraints, constraint_costs(script, &functions));
+    numbers.extend(assumptions.iter().map(|index| FIRST_ASSUMPTION + index));
+    numbers
 }
 
 /// The cost of each constraint, which is the same at every point.
 pub fn constraint_costs(script: &Script, functions: &Functions) -> Vec<u128> {
+    costs(&script.constraints, script, functions)
+}
+
+/// The cost of each assumption, which is the same at every point.
+pub fn assumption_costs(script: &Script, functions: &Functions) -> Vec<u128> {
+    costs(&script.assumptions, script, functions)
+}
+
+/// The costs of terms that see the script's variables.
+fn costs(terms: &[Constraint], script: &Script, functions: &Functions) -> Vec<u128> {
     let variables = script.variables.iter().map(|one| one.name.as_str());
     let variables: Vec<&str> = variables.collect();
-    let cost = |constraint: &Constraint| functions.cost(&constraint.term, &variables);
-    script.constraints.iter().map(cost).collect()
+    let cost = |one: &Constraint| functions.cost(&one.term, &variables);
+    terms.iter().map(cost).collect()
 }
 
 /// "one per declared variable, point after point"; "With no variables the list is empty and one empty point is taken."
-fn whole_points<'a>(points: &[u64], variables: &'a [Sorted]) -> Vec<Values<'a>> {
+pub fn whole_points<'a>(points: &[u64], variables: &'a [Sorted]) -> Vec<Values<'a>> {
     if variables.is_empty() {
         return vec![Values::new()];
     }

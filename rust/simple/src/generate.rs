@@ -6,8 +6,11 @@ mod noise;
 pub mod random;
 mod sized;
 
-use crate::eval::{constraint_costs, false_constraints, Functions};
-use crate::{check, response, script, words, AREA_LENGTH, MOST_RESPONSE_BYTES, MOST_SCRIPT_BYTES};
+use crate::eval::{assumption_costs, constraint_costs, false_numbers, Functions};
+use crate::{
+    check, response, script, words, AREA_LENGTH, FIRST_ASSUMPTION, MOST_RESPONSE_BYTES,
+    MOST_SCRIPT_BYTES,
+};
 use draft::{draft, tower, Draft};
 use random::Random;
 
@@ -29,7 +32,10 @@ pub fn valid(seed: u64) -> Case {
     loop {
         let draft = match random.percent(3) {
             true => tower(&mut random),
-            false => settled(draft(&mut random, true)),
+            false => {
+                let draft = draft(&mut random, true);
+                settled(&mut random, draft)
+            }
         };
         let mut case = rendered(&mut random, draft);
         if within_limits(&case) {
@@ -117,9 +123,9 @@ fn within_limits(case: &Case) -> bool {
         && words::read(&case.response, response::MOST_WORDS).is_ok()
 }
 
-/// A draft with each constraint negated that is false at the first point, so that later ones are evaluated too; what
-/// terms mean then decides the answer.
-fn settled(mut draft: Draft) -> Draft {
+/// A draft with each constraint negated that is false at a point, mostly the first one, so that later ones are evaluated too, and
+/// mostly each assumption too; what terms mean then decides the answer.
+fn settled(random: &mut Random, mut draft: Draft) -> Draft {
     let text = |words: &[String]| words.join(" ").into_bytes();
     let Ok(script) = script::read(&text(&draft.script)) else {
         return draft;
@@ -127,8 +133,13 @@ fn settled(mut draft: Draft) -> Draft {
     let Ok(bodies) = response::read(&text(&draft.response), &script) else {
         return draft;
     };
-    for index in false_constraints(&script, &bodies, &draft.points, MOST_UNITS) {
-        mutate::negate(&mut draft.script, index);
+    let point = random.pick(&[0, 0, 0, 1, 2]);
+    let mut numbers = false_numbers(&script, &bodies, &draft.points, point, MOST_UNITS);
+    if random.percent(25) {
+        numbers.retain(|&number| number < FIRST_ASSUMPTION);
+    }
+    for number in numbers {
+        mutate::negate(&mut draft.script, number);
     }
     draft
 }
@@ -189,11 +200,15 @@ fn budget(random: &mut Random, case: &Case) -> u64 {
     }
 }
 
-/// The largest budget that still isn't enough for a constraint once so many units are spent.
-fn most_of_same_end(case: &Case, spent: u64, constraint: usize) -> u64 {
+/// The largest budget that still isn't enough for the constraint or assumption of a number once so many units are spent.
+fn most_of_same_end(case: &Case, spent: u64, number: usize) -> u64 {
     let script = script::read(&case.script).expect("a sound script");
     let bodies = response::read(&case.response, &script).expect("a sound response");
-    let cost = constraint_costs(&script, &Functions::new(&script, &bodies))[constraint];
+    let functions = Functions::new(&script, &bodies);
+    let cost = match number.checked_sub(FIRST_ASSUMPTION) {
+        None => constraint_costs(&script, &functions)[number],
+        Some(index) => assumption_costs(&script, &functions)[index],
+    };
     let most = u128::from(spent).saturating_add(cost) - 1;
     u64::try_from(most).unwrap_or(u64::MAX)
 }

@@ -35,6 +35,9 @@ pub const LIST_LENGTH: usize = 4_096;
 /// "every entry of the area that no list uses is 65,535".
 pub const UNUSED: u16 = 65_535;
 
+/// "Answer 15 numbers assumptions from 64."
+pub const FIRST_ASSUMPTION: usize = 64;
+
 /// The text "script" of an answer.
 const SCRIPT: u8 = 0;
 /// The text "response" of an answer.
@@ -157,9 +160,9 @@ fn derivations(script: &script::Script, bodies: &[tree::Tree]) -> Result<Vec<Vec
 /// The answer 0, 14 or 15 with "the units spent: the summed cost of evaluations done, a false one included".
 fn last_answer(outcome: Outcome, units: u64) -> Answer {
     let (number, text, place, second) = match outcome {
-        Outcome::Accepted { points } => (0, NONE, 0, points),
+        Outcome::Accepted { held } => (0, NONE, 0, held),
         Outcome::False { point, constraint } => (14, POINTS, point, constraint),
-        Outcome::BudgetEnded { point, constraint } => (15, POINTS, point, constraint),
+        Outcome::BudgetEnded { point, number } => (15, POINTS, point, number),
     };
     Answer {
         number,

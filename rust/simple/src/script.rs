@@ -20,6 +20,8 @@ const MOST_DEFINITIONS: usize = 32;
 const MOST_VARIABLES: usize = 16;
 /// "64 constraints".
 const MOST_CONSTRAINTS: usize = 64;
+/// "up to 32 of them": assumptions.
+const MOST_ASSUMPTIONS: usize = 32;
 /// "16 non-terminals ... a grammar".
 const MOST_NONTERMINALS: usize = 16;
 /// "128 rules a grammar".
@@ -43,7 +45,7 @@ pub struct Synthesized {
     pub definitions_before: usize,
 }
 
-/// A constraint's term, and the place of its command.
+/// The term of a constraint or an assumption, and the place of its command.
 pub struct Constraint {
     pub place: usize,
     pub term: Tree,
@@ -56,6 +58,7 @@ pub struct Script {
     pub definitions: Vec<Definition>,
     pub synthesized: Vec<Synthesized>,
     pub constraints: Vec<Constraint>,
+    pub assumptions: Vec<Constraint>,
     logic_set: bool,
     ended: bool,
 }
@@ -101,6 +104,14 @@ pub fn arguments(header: &Header) -> Vec<Sorted> {
     arguments
         .map(|argument| sorted(argument.name, argument.sort))
         .collect()
+}
+
+/// A constraint or an assumption of a command.
+fn constraint(tree: &Tree, term: &Tree) -> Constraint {
+    Constraint {
+        place: tree.start(),
+        term: term.clone(),
+    }
 }
 
 /// Names without operands: variables, arguments or non-terminals.
@@ -187,6 +198,7 @@ impl Script {
             Command::DefineFun(_) => (self.definitions.len(), MOST_DEFINITIONS),
             Command::SynthFun(_) => (self.synthesized.len(), MOST_SYNTHESIZED),
             Command::Constraint(_) => (self.constraints.len(), MOST_CONSTRAINTS),
+            Command::Assume(_) => (self.assumptions.len(), MOST_ASSUMPTIONS),
             Command::SetLogic | Command::CheckSynth => (0, 1),
         };
         let mut places = Vec::new();
@@ -197,7 +209,9 @@ impl Script {
             Command::DeclareVar { sort, .. } => places.extend(width_past_limit(sort)),
             Command::DefineFun(definition) => places.extend(definition.past_limit()),
             Command::SynthFun(synth) => places.extend(past_limit_in_synth_fun(synth)),
-            Command::Constraint(term) => places.extend(term_past_limit(term)),
+            Command::Constraint(term) | Command::Assume(term) => {
+                places.extend(term_past_limit(term))
+            }
             Command::SetLogic | Command::CheckSynth => {}
         }
         places.into_iter().min()
@@ -229,7 +243,7 @@ impl Script {
                 let unknown = |term| unknown_name(term, &names);
                 places.extend(rule_terms(synth).into_iter().filter_map(unknown));
             }
-            Command::Constraint(term) => {
+            Command::Constraint(term) | Command::Assume(term) => {
                 places.extend(unknown_name(term, &names_of(&self.seen_by_constraint())));
             }
             Command::SetLogic | Command::CheckSynth => {}
@@ -254,7 +268,7 @@ impl Script {
                 let fault = |term| sort_of(term, &seen).err();
                 places.extend(rule_terms(synth).into_iter().filter_map(fault));
             }
-            Command::Constraint(term) => {
+            Command::Constraint(term) | Command::Assume(term) => {
                 places.extend(body_fault(term, Sort::Bool, &self.seen_by_constraint()));
             }
             Command::SetLogic | Command::CheckSynth => {}
@@ -316,10 +330,8 @@ impl Script {
                 grammar: grammar(synth),
                 definitions_before: self.definitions.len(),
             }),
-            Command::Constraint(term) => self.constraints.push(Constraint {
-                place: tree.start(),
-                term: (*term).clone(),
-            }),
+            Command::Constraint(term) => self.constraints.push(constraint(tree, term)),
+            Command::Assume(term) => self.assumptions.push(constraint(tree, term)),
             Command::CheckSynth => self.ended = true,
         }
     }
@@ -349,7 +361,7 @@ impl Script {
         seen
     }
 
-    /// "Constraints see all earlier names."
+    /// "Constraints see all earlier names", and assumptions are "under the same rules".
     pub fn seen_by_constraint(&self) -> Vec<Name> {
         let mut seen = self.seen_by_function(&self.variables, self.definitions.len());
         let synthesized = self.synthesized.iter();

@@ -7,22 +7,22 @@ use crate::tree::Tree;
 
 /// "n from 1 to 64".
 pub const MOST_WIDTH: u32 = 64;
-/// "256 nodes (literals, names, applications; no head is one) a body, constraint or rule".
+/// "256 nodes (literals, names, applications; no head is one) a body, constraint or rule", and an assumption "under the same rules".
 const MOST_NODES: usize = 256;
 
 /// The command words that are carried.
-pub const CARRIED_COMMANDS: [&str; 6] = [
+pub const CARRIED_COMMANDS: [&str; 7] = [
     "set-logic",
     "declare-var",
     "define-fun",
     "synth-fun",
     "constraint",
+    "assume",
     "check-synth",
 ];
 
 /// "Other 2.1 commands": the other heads of document 000, section 2.9.
-pub const OTHER_COMMANDS: [&str; 22] = [
-    "assume",
+pub const OTHER_COMMANDS: [&str; 21] = [
     "chc-constraint",
     "declare-weight",
     "inv-constraint",

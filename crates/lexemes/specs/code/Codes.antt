@@ -43,13 +43,17 @@ constraintCode = synthFunCode + 1
 abbrev pub checkSynthCode : ℕ
 checkSynthCode = constraintCode + 1
 
--- How many other commands there are, which are not carried; their codes follow that of `check-synth`.
+-- `assume`
+abbrev pub assumeCode : ℕ
+assumeCode = checkSynthCode + 1
+
+-- How many other commands there are, which are not carried; their codes follow that of `assume`.
 abbrev pub otherCommandCount : ℕ
-otherCommandCount = 22
+otherCommandCount = 21
 
 -- The first of them.
 abbrev pub otherCommandCode : ℕ
-otherCommandCode = checkSynthCode + 1
+otherCommandCode = assumeCode + 1
 
 -- `true`
 abbrev pub trueCode : ℕ

@@ -1,4 +1,4 @@
--- What a script and a response that pass keep to, besides the sorts of rules, bodies and constraints.
+-- What a script and a response that pass keep to, besides the sorts of rules, bodies, constraints and assumptions.
 use Rattle.forest.specs.Limits.{mostNodes}
 use Prim.Native.Nat.{_≤_}
 use mathlib.Core.List.{List, [], _∷_}
@@ -21,10 +21,11 @@ unfoldable pub AllAdmitted : List Function → Type 0
 AllAdmitted [] = Unit {0}
 AllAdmitted (f ∷ others) = Admitted (f .grammar) × AllAdmitted others
 
--- The bodies of `define-fun`s and the constraints of a script have at most 256 nodes each.
+-- The bodies of `define-fun`s, the constraints and the assumptions of a script have at most 256 nodes each.
 pub record FewNodes (k : Known) : Type 0 where
   pub bodies : SmallBodies (definitionsOf (k .defined))
   pub constraints : SmallTerms (k .constraints)
+  pub assumptions : SmallTerms (k .assumptions)
 
 -- A script that passes.
 pub record Assured (k : Known) : Type 0 where

@@ -1,6 +1,6 @@
--- What holds of a script that passes, though no sort check is run on the terms that its grammars derive: every rule has its non-terminal's sort, every body and
--- constraint its own. `labelSort` has no sort for a name that is not in its scope, so rules and bodies name only what they may see, and constraints only names
--- of the script.
+-- What holds of a script that passes, though no sort check is run on the terms that its grammars derive: every rule has its non-terminal's sort, every body,
+-- constraint and assumption its own. `labelSort` has no sort for a name that is not in its scope, so rules and bodies name only what they may see, and
+-- constraints and assumptions only names of the script.
 use Prim.Native.Nat.{ℕ, _<_}
 use mathlib.Core.List.{List, [], _∷_, map}
 use mathlib.Core.Option.{some}
@@ -34,8 +34,9 @@ unfoldable pub AllBool : Scope → List Terms → Type 0
 AllBool scope [] = Unit {0}
 AllBool scope (t ∷ more) = (termSorts scope t ≡ some (0 ∷ [])) × AllBool scope more
 
--- Every body, rule and constraint of a script has its sort.
+-- Every body, rule, constraint and assumption of a script has its sort.
 pub record Sorted (k : Known) : Type 0 where
   pub bodies : AllSorted (map (λ (d : Defined). d .definition) (k .defined))
   pub functions : AllRulesSorted (k .defined) (k .functions)
   pub constraints : AllBool (scopeOf (constraintView k) .terms) (k .constraints)
+  pub assumptions : AllBool (scopeOf (constraintView k) .terms) (k .assumptions)

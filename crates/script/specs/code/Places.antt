@@ -1,9 +1,9 @@
--- The table of places, and which number stands where in it: the signatures in front, then where each body and each constraint begins, the numbers of each
--- synthesized function, and its rules.
+-- The table of places, and which number stands where in it: the signatures in front, then where each body, constraint and assumption begins, the numbers of
+-- each synthesized function, and its rules.
 use Prim.Native.Nat.{ℕ, _+_, _*_}
 use mathlib.Core.List.{List}
 use lib.ListN.{drop, getD, take}
-use Rattle.forest.specs.Limits.{mostConstraints, mostDefined, mostFunctions, mostRules, responseWords, scriptWords}
+use Rattle.forest.specs.Limits.{firstAssumption, mostAssumptions, mostDefined, mostFunctions, mostRules, responseWords, scriptWords}
 use Rattle.terms.specs.code.Nodes.{rowWidth as nodeWidth}
 use Rattle.derivation.specs.code.Rules.{ruleWidth}
 use Rattle.term_sorts.specs.code.Signatures.{allRows, functionSignature, signatureWidth}
@@ -16,16 +16,20 @@ bodiesPlace = signatureWidth * allRows
 abbrev pub functionBodiesPlace : ℕ
 functionBodiesPlace = bodiesPlace + mostDefined
 
--- Where the numbers of constraints begin.
+-- Where those of constraints begin, and behind them, as answer 15 numbers them, those of assumptions.
 abbrev pub constraintsPlace : ℕ
 constraintsPlace = functionBodiesPlace + mostFunctions
 
+-- How many constraints and assumptions have a place.
+abbrev pub statedCount : ℕ
+statedCount = firstAssumption + mostAssumptions
+
 -- Where the numbers of synthesized functions begin.
 abbrev pub functionsPlace : ℕ
-functionsPlace = constraintsPlace + mostConstraints
+functionsPlace = constraintsPlace + statedCount
 
--- How many numbers a synthesized function has: the row at which its forms begin, how many rows they take, how many rules it has, and how many `define-fun`s stand
--- before it.
+-- How many numbers a synthesized function has: the row at which its forms begin, how many rows they take, how many rules it has, and how many `define-fun`s
+-- stand before it.
 abbrev pub functionWidth : ℕ
 functionWidth = 4
 
@@ -93,6 +97,6 @@ ownRules j = functionsPlace + rulesPlace j
 abbrev pub rulesOf : (places : List ℕ) → (j : ℕ) → List ℕ
 rulesOf places j = take (ruleWidth * ruleCountIn places j) (drop (ownRules j) places)
 
--- The nodes at which the first n constraints begin.
-abbrev pub constraintsOf : (places : List ℕ) → (n : ℕ) → List ℕ
-constraintsOf places n = take n (drop constraintsPlace places)
+-- The nodes at which constraints and assumptions begin.
+abbrev pub statedOf : (places : List ℕ) → List ℕ
+statedOf places = take statedCount (drop constraintsPlace places)

@@ -1,6 +1,6 @@
--- What is known after each command as tables: the table of names; a table of places; the nodes of bodies and constraints; and the forms of rules. The table of
--- places has the signatures in front, then where each body and each constraint begins, four numbers for each synthesized function, and its rules. One table of
--- nodes may have both the nodes and, behind them, the forms.
+-- What is known after each command as tables: the table of names; a table of places; the nodes of bodies, constraints and assumptions; and the forms of rules.
+-- The table of places has the signatures in front, then where each body, constraint and assumption begins, four numbers for each synthesized function, and its
+-- rules. One table of nodes may have both the nodes and, behind them, the forms.
 use Prim.Native.Nat.{ℕ, _+_, _*_, _≤_}
 use Prim.Native.String.{String}
 use mathlib.Core.Bool.{true}
@@ -12,7 +12,8 @@ use Rattle.forest.specs.code.Cursors.{size}
 use Rattle.words.specs.Trees.{list}
 use Rattle.lexemes.specs.Lists.{Items, is, item}
 use Rattle.shapes.specs.Shapes.{commandShape}
-use Rattle.forest.specs.Limits.{allowed, mostArguments, mostConstraints, mostDefined, mostFunctions, mostRules, mostVariables, scriptWords}
+use Rattle.forest.specs.Limits.{allowed, firstAssumption, mostArguments, mostAssumptions, mostConstraints, mostDefined, mostFunctions, mostRules, mostVariables}
+use Rattle.forest.specs.Limits.{scriptWords}
 use Rattle.lexemes.specs.code.Standing.{Stands as Standing}
 use Rattle.term_faults.specs.code.Bodies.{Lawful}
 use Rattle.terms.specs.Labels.{Terms}
@@ -38,10 +39,12 @@ pub record Counted (p : Progress) (k : Known) : Type 0 where
   pub defined-are : p .defined ≡ length (k .defined)
   pub functions-are : p .functions ≡ length (k .functions)
   pub constraints-are : p .constraints ≡ length (k .constraints)
+  pub assumptions-are : p .assumptions ≡ length (k .assumptions)
   pub few-variables : p .variables ≤ mostVariables
   pub few-defined : p .defined ≤ mostDefined
   pub few-functions : p .functions ≤ mostFunctions
   pub few-constraints : p .constraints ≤ mostConstraints
+  pub few-assumptions : p .assumptions ≤ mostAssumptions
 
 -- The arguments of functions, the last first, stand in their own rows.
 unfoldable pub ArgumentsHold : (names : List ℕ) → List Function → Type 0
@@ -65,12 +68,12 @@ pub record NamesHold (names : List ℕ) (k : Known) : Type 0 where
 abbrev pub definedSignatures : List Defined → List Signature
 definedSignatures ds = map (λ (d : Defined). d .definition .signature) ds
 
--- Terms, from number m on, begin at the nodes that the table has for constraints.
-unfoldable pub ConstraintsAt : (all : Terms) → (places : List ℕ) → (m : ℕ) → List Terms → Type 0
-ConstraintsAt all places m [] = Unit {0}
-ConstraintsAt all places m (t ∷ more) = TermStands all (getD places (constraintsPlace + m) 0) t × ConstraintsAt all places (m + 1) more
+-- Terms, from number m on, begin at the nodes that the table has for constraints and assumptions.
+unfoldable pub StatedAt : (all : Terms) → (places : List ℕ) → (m : ℕ) → List Terms → Type 0
+StatedAt all places m [] = Unit {0}
+StatedAt all places m (t ∷ more) = TermStands all (getD places (constraintsPlace + m) 0) t × StatedAt all places (m + 1) more
 
--- The tables have the signatures, the bodies and the constraints that are known, in so many rows of nodes.
+-- The tables have the signatures, the bodies, the constraints and the assumptions that are known, in so many rows of nodes.
 pub record PlacesHold (places nodes : List ℕ) (rows : ℕ) (k : Known) : Type 0 where
   pub long : length places ≡ placesLength
   pub defined-rows : RowsAre places 0 (definedSignatures (k .defined))
@@ -81,7 +84,8 @@ pub record PlacesHold (places nodes : List ℕ) (rows : ℕ) (k : Known) : Type 
   pub rows-are : rows ≡ size all
   pub plain : AllPlain all
   pub bodies-at : BodiesAt all (drop bodiesPlace places) 0 (definitionsOf (k .defined))
-  pub constraints-at : ConstraintsAt all places 0 (k .constraints)
+  pub constraints-at : StatedAt all places 0 (k .constraints)
+  pub assumptions-at : StatedAt all places firstAssumption (k .assumptions)
 
 -- The numbers of function j, in the part of the table of places that begins with those of functions, and its rules and forms, in the first `rows` rows: where
 -- its forms begin, how many rows they take, how many rules there are, and how many `define-fun`s stand before it.

@@ -6,7 +6,7 @@ use mathlib.Core.Path.{_≡_}
 use lib.Dec.{eqb}
 use lib.ListN.{length}
 use Rattle.terms.specs.code.Nodes.{rowWidth as nodeWidth}
-use Rattle.lexemes.specs.code.Codes.{checkSynthCode, constraintCode, declareVarCode, defineFunCode, setLogicCode, synthFunCode}
+use Rattle.lexemes.specs.code.Codes.{assumeCode, checkSynthCode, constraintCode, declareVarCode, defineFunCode, setLogicCode, synthFunCode}
 use Rattle.term_nodes.specs.code.Table.{rowWidth as rawWidth}
 use Rattle.script.specs.Script.{Read, passed, refused}
 use Rattle.script.specs.code.Tables.{KnownHeld}
@@ -33,6 +33,7 @@ saidBy p code rows = record {
   defined = cond (eqb code defineFunCode) (p .defined + 1) (p .defined);
   functions = cond (eqb code synthFunCode) (p .functions + 1) (p .functions);
   constraints = cond (eqb code constraintCode) (p .constraints + 1) (p .constraints);
-  nodes = cond (eqb code defineFunCode || eqb code constraintCode) (p .nodes + rows) (p .nodes);
+  assumptions = cond (eqb code assumeCode) (p .assumptions + 1) (p .assumptions);
+  nodes = cond (eqb code defineFunCode || eqb code constraintCode || eqb code assumeCode) (p .nodes + rows) (p .nodes);
   forms = cond (eqb code synthFunCode) (p .forms + rows) (p .forms);
 }

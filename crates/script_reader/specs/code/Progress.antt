@@ -4,7 +4,7 @@ use mathlib.Core.Bool.{Bool, _&&_, _||_, not}
 use mathlib.Core.Path.{_≡_}
 use lib.Dec.{eqb}
 use Rattle.lexemes.specs.code.Codes.{checkSynthCode, setLogicCode}
-use Rattle.forest.specs.Limits.{mostConstraints, mostDefined, mostFunctions, mostVariables, scriptWords}
+use Rattle.forest.specs.Limits.{mostAssumptions, mostConstraints, mostDefined, mostFunctions, mostVariables, scriptWords}
 use Rattle.script.specs.declared.Progress.{Progress}
 use Rattle.script.specs.declared.Verdict.{Verdict}
 use Rattle.script_reader.specs.declared.Step.{Step}
@@ -21,6 +21,7 @@ pub record Few (p : Progress) : Type 0 where
   pub defined : p .defined ≤ mostDefined
   pub functions : p .functions ≤ mostFunctions
   pub constraints : p .constraints ≤ mostConstraints
+  pub assumptions : p .assumptions ≤ mostAssumptions
   pub nodes : p .nodes ≤ scriptWords
   pub forms : p .forms ≤ scriptWords
 

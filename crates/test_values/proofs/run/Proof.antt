@@ -12,6 +12,9 @@ bodies-requires c κs = search needs
 prices-requires : tie.Need-prices-requires
 prices-requires c κs = search needs
 
+places-requires : tie.Need-places-requires
+places-requires c κs = search needs
+
 slice-aggregate-run-points : tie.Need-slice-aggregate-run-points
 slice-aggregate-run-points c = search needs
 
@@ -31,14 +34,12 @@ slice-aggregate-run-points-6 : tie.Need-slice-aggregate-run-points-6
 slice-aggregate-run-points-6 c = search needs
 
 run-points-requires : tie.Need-run-points-requires
-run-points-requires c κs = let nodes = c .before .before .before .before .before .before .before .before .nodes .ensures in
-    let bodies = c .before .before .before .before .before .before .before .bodies .ensures in
-    runnable nodes bodies (c .before .before .before .before .before .before .prices .ensures)
+run-points-requires c κs = let nodes = c .before .before .before .before .before .before .before .before .before .nodes .ensures in
+    runnable nodes (c .before .before .before .before .before .before .before .before .bodies .ensures) (c .before .before .before .before .before .before .before .before .before .before .args .assumptions) (c .before .before .before .before .before .before .before .before .before .before .pre) (c .before .before .before .before .before .before .before .prices .ensures) (c .before .before .before .before .before .before .places .ensures)
 
 returns : tie.Need-returns
-returns c = let nodes = c .before .before .before .before .before .before .before .before .before .nodes .ensures in
-    let bodies = c .before .before .before .before .before .before .before .before .bodies .ensures in
-    c .run-points .ensures (runnable nodes bodies (c .before .before .before .before .before .before .before .prices .ensures))
+returns c = let nodes = c .before .before .before .before .before .before .before .before .before .before .nodes .ensures in
+    c .run-points .ensures (runnable nodes (c .before .before .before .before .before .before .before .before .before .bodies .ensures) (c .before .before .before .before .before .before .before .before .before .before .before .args .assumptions) (c .before .before .before .before .before .before .before .before .before .before .before .pre) (c .before .before .before .before .before .before .before .before .prices .ensures) (c .before .before .before .before .before .before .before .places .ensures))
 
 pub run-spec : {M : Type 1} → statement M
 run-spec =
@@ -47,6 +48,7 @@ run-spec =
     nodes-requires
     bodies-requires
     prices-requires
+    places-requires
     slice-aggregate-run-points
     slice-aggregate-run-points-2
     slice-aggregate-run-points-3

@@ -6,7 +6,7 @@ use Rattle.terms.specs.Labels.{Terms}
 use Rattle.evaluation.specs.Points.{pointsOf}
 use Rattle.evaluation.specs.declared.PointList.{PointList}
 use Rattle.evaluation.specs.declared.PointList.the-variants.{Good, Bad}
-use Rattle.evaluation.specs.declared.Ran.{Ran}
+use Rattle.evaluation.specs.declared.Run.{Run}
 use Rattle.names.specs.Scopes.{namedSorts}
 use Rattle.script.specs.Script.{Known}
 use Rattle.script.specs.declared.Progress.{Progress}
@@ -15,13 +15,13 @@ use Rattle.script.specs.code.Answers.{pointsAnswer}
 use Rattle.outcome.specs.code.Texts.{pointsText}
 use Rattle.verdicts.specs.code.Held.{Held}
 use Rattle.outcome.specs.Derived.{termsOf}
-use Rattle.outcome.specs.Evaluated.{ranOutcome, ranWith}
+use Rattle.outcome.specs.Evaluated.{ranWith, runOutcome}
 use Rattle.outcome.specs.declared.Outcome.{Outcome}
 
 -- 16: "point list not whole points, or value outside its sort", at "list length, or first bad index"; else what the run gives.
 abbrev pub pointsOutcome : Known → List Terms → (points : List ℕ) → (budget : ℕ) → PointList → Outcome
 pointsOutcome k ts points budget (Bad place) = record { number = pointsAnswer; text = pointsText; place = place; second = 0; units = 0 }
-pointsOutcome k ts points budget (Good n) = ranOutcome n budget (ranWith k ts points n budget)
+pointsOutcome k ts points budget (Good n) = runOutcome budget (ranWith k ts points n budget)
 
 -- What the points give.
 abbrev pub pointsGive : Known → List Terms → (points : List ℕ) → (budget : ℕ) → Outcome
@@ -48,7 +48,7 @@ pub record Constrained (places nodes : List ℕ) (p : Progress) (sorts points : 
   pub count : ℕ
   pub good : pointsOf sorts points ≡ Good count
 
--- The run is that of the script's constraints, where its functions have the terms of the response for bodies.
-abbrev pub ConstraintsRan : (places nodes : List ℕ) → Progress → (sorts points : List ℕ) → (budget : ℕ) → Ran → Type 0
-ConstraintsRan places nodes p sorts points budget r =
+-- The run is that of the script's constraints and assumptions, where its functions have the terms of the response for bodies.
+abbrev pub StatedRan : (places nodes : List ℕ) → Progress → (sorts points : List ℕ) → (budget : ℕ) → Run → Type 0
+StatedRan places nodes p sorts points budget r =
     (q : Constrained places nodes p sorts points) → r ≡ ranWith (q .tables .known) (termsOf (q .tables .bodies)) points (q .count) budget

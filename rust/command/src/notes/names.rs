@@ -102,7 +102,7 @@ pub fn seen(reading: &Reading, tree: &Tree) -> Vec<Name> {
             script.seen_by_function(&arguments(&definition.header), script.definitions.len())
         }
         Some(Command::SynthFun(synth)) => script.seen_by_rule(&synth),
-        Some(Command::Constraint(_)) => script.seen_by_constraint(),
+        Some(Command::Constraint(_) | Command::Assume(_)) => script.seen_by_constraint(),
         _ => Vec::new(),
     }
 }

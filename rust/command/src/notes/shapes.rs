@@ -127,6 +127,7 @@ fn form(name: &str, tree: &Tree, items: &[Tree]) -> Option<Hint> {
             &[name_misfit, pairs_misfit, sort_misfit, pairs_misfit, groups_misfit],
         ),
         "constraint" => ("(constraint TERM)", &[term_misfit]),
+        "assume" => ("(assume TERM)", &[term_misfit]),
         _ => ("(check-synth)", &[]),
     };
     let mut misfits = items[1..].iter().zip(parts).filter_map(|(item, part)| part(item));

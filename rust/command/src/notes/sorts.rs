@@ -32,7 +32,7 @@ fn terms(tree: &Tree) -> (Vec<&Tree>, Option<Sort>) {
     match command(tree) {
         Some(Command::DefineFun(definition)) => (vec![definition.body], Some(sort(definition.header.sort))),
         Some(Command::SynthFun(synth)) => (rule_terms(&synth), None),
-        Some(Command::Constraint(term)) => (vec![term], Some(Sort::Bool)),
+        Some(Command::Constraint(term) | Command::Assume(term)) => (vec![term], Some(Sort::Bool)),
         _ => (Vec::new(), None),
     }
 }

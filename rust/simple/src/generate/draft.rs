@@ -64,6 +64,7 @@ struct Maker<'a> {
     definitions: Vec<Name>,
     functions: Vec<Function>,
     constraints: usize,
+    assumptions: usize,
     rules_left: usize,
     script: Vec<String>,
 }
@@ -265,6 +266,7 @@ pub fn draft(random: &mut Random, derived: bool) -> Draft {
         definitions: Vec::new(),
         functions: Vec::new(),
         constraints: 0,
+        assumptions: 0,
         rules_left: 0,
         script: words("( set-logic BV )"),
     };
@@ -277,7 +279,7 @@ pub fn draft(random: &mut Random, derived: bool) -> Draft {
     }
 }
 
-/// A draft whose constraint has a huge cost: each `define-fun` applies the last one several times.
+/// A draft with a constraint or assumption of huge cost: each `define-fun` applies the last one several times.
 pub fn tower(random: &mut Random) -> Draft {
     let mut script =
         words("( set-logic BV ) ( synth-fun f ( ) Bool ( ( A Bool ) ) ( ( A Bool ( true ) ) ) )");
@@ -296,8 +298,11 @@ pub fn tower(random: &mut Random) -> Draft {
         script.extend(body.words());
         script.extend(words(")"));
     }
-    script.extend(words("( constraint d1 )"));
-    script.extend(words(&format!("( constraint d{levels} ) ( check-synth )")));
+    for name in ["d1".to_string(), format!("d{levels}")] {
+        let head = random.pick(&["constraint", "assume"]);
+        script.extend(words(&format!("( {head} {name} )")));
+    }
+    script.extend(words("( check-synth )"));
     Draft {
         script,
         response: words("( ( define-fun f ( ) Bool true ) )"),
@@ -306,16 +311,22 @@ pub fn tower(random: &mut Random) -> Draft {
 }
 
 impl Maker<'_> {
-    /// Commands in a random order, with at least one `synth-fun`.
+    /// Commands in a random order, with at least one `synth-fun` and often without assumptions.
     fn commands(&mut self, many: bool) {
-        let [variables, definitions, functions, constraints] =
-            if many { [16, 32, 8, 64] } else { [4, 5, 4, 6] };
+        let [variables, definitions, functions, constraints, mut assumptions] = match many {
+            true => [16, 32, 8, 64, 32],
+            false => [4, 5, 4, 6, 3],
+        };
+        if self.random.percent(40) {
+            assumptions = 0;
+        }
         let commands = self.random.between(1, if many { 100 } else { 16 });
         for _ in 0..commands {
-            match self.random.below(6) {
+            match self.random.below(7) {
                 0 if self.variables.len() < variables => self.declare_var(),
                 1 if self.definitions.len() < definitions => self.define_fun(),
                 2 if self.functions.len() < functions => self.synth_fun(),
+                3 | 4 if self.assumptions < assumptions => self.assume(),
                 3.. if self.constraints < constraints => self.constraint(),
                 _ => {}
             }
@@ -542,11 +553,16 @@ impl Maker<'_> {
         Shape::apply_bool(head, (0..count).map(operand).collect())
     }
 
-    /// An order on two non-terminals, or on literals where no non-terminal has bits.
-    fn order_term(&mut self, nonterminals: &[Name]) -> Shape {
+    /// The name of an order on words.
+    fn order(&mut self) -> &'static str {
         let orders = OPERATORS.iter().filter(|one| one.rule == SortRule::Order);
         let orders: Vec<&Operator> = orders.collect();
-        let name = self.random.pick(&orders).name;
+        self.random.pick(&orders).name
+    }
+
+    /// An order on two non-terminals, or on literals where no non-terminal has bits.
+    fn order_term(&mut self, nonterminals: &[Name]) -> Shape {
+        let name = self.order();
         let mut sorts: Vec<Sort> = nonterminals.iter().map(|one| one.sort).collect();
         sorts.retain(|&sort| sort != Sort::Bool);
         let sort = match sorts.is_empty() {
@@ -695,21 +711,53 @@ impl Maker<'_> {
         }
     }
 
-    /// `(constraint t)`: by a function's own body, true by its form or by what operators mean, or any.
+    /// `(constraint t)`.
     fn constraint(&mut self) {
+        let term = self.condition();
+        self.constraints += self.stated("constraint", &term);
+    }
+
+    /// `(assume t)`: a literal, a bound of a variable, or a term as of a constraint.
+    fn assume(&mut self) {
+        let term = match self.random.below(8) {
+            0 => Shape::literal(self.random, Sort::Bool),
+            1..=4 if !self.variables.is_empty() => self.bound(),
+            _ => self.condition(),
+        };
+        self.assumptions += self.stated("assume", &term);
+    }
+
+    /// Puts in a command of a term unless it is too large, and says how many it has put in.
+    fn stated(&mut self, command: &str, term: &Shape) -> usize {
+        if term.nodes() > MOST_NODES - 1 {
+            return 0;
+        }
+        self.script.extend(joined([words(command), term.words()]));
+        1
+    }
+
+    /// A variable held against a literal, which comes out true at some points and false at others.
+    fn bound(&mut self) -> Shape {
+        let variable = self.random.pick(&self.variables);
+        let literal = Shape::literal(self.random, variable.sort);
+        let head = match variable.sort {
+            Sort::Bool => self.random.pick(&["=", "distinct", "or", "=>"]),
+            Sort::BitVec(_) => self.order(),
+        };
+        let variable = Shape::leaf(&variable.name, variable.sort);
+        Shape::apply_bool(head, vec![variable, literal])
+    }
+
+    /// A term of a constraint or an assumption: by a function's own body, true by its form or by what operators mean, or any.
+    fn condition(&mut self) -> Shape {
         let mut seen = [&self.variables[..], &self.variables, &self.definitions].concat();
         seen.extend(self.functions.iter().map(|one| one.name.clone()));
-        let term = match self.random.below(9) {
+        match self.random.below(9) {
             0 => self.term(Sort::Bool, &seen, 8),
             1..=3 => self.bit(&seen),
             4..=6 if !self.functions.is_empty() => self.equation(&seen),
             7 => self.operator_values(),
             _ => self.tautology(&seen),
-        };
-        if term.nodes() <= 255 {
-            self.constraints += 1;
-            self.script
-                .extend(joined([words("constraint"), term.words()]));
         }
     }
 

@@ -6,6 +6,7 @@ use super::random::Random;
 use crate::eval::{literal_value, Value};
 use crate::operators::{operator, Sort, OPERATORS};
 use crate::terms::{CARRIED_COMMANDS, OTHER_COMMANDS, OTHER_RESERVED};
+use crate::FIRST_ASSUMPTION;
 use std::collections::BTreeSet;
 use std::ops::Range;
 
@@ -77,7 +78,7 @@ const NEAR_CONSTANTS: [&str; 14] = [
 ];
 
 /// Commands to be put in.
-const COMMANDS: [&str; 14] = [
+const COMMANDS: [&str; 22] = [
     "( set-logic BV )",
     "( set-logic LIA )",
     "( declare-var w Bool )",
@@ -86,6 +87,14 @@ const COMMANDS: [&str; 14] = [
     "( constraint false )",
     "( check-synth )",
     "( assume true )",
+    "( assume false )",
+    "( assume )",
+    "( assume true true )",
+    "( assume #x00 )",
+    "( assume assume )",
+    "( assume ( assume true ) )",
+    "( assume ( let ( ( x true ) ) x ) )",
+    "( oracle-assume ( ) ( ) true n )",
     "( declare-sort S 0 )",
     "( foo )",
     "( synth-fun k ( ) Bool )",
@@ -199,10 +208,14 @@ fn rename_everywhere(random: &mut Random, draft: &mut Draft) {
     rename(&mut draft.response, &from, &to);
 }
 
-/// Negates the constraint of an index.
-pub fn negate(script: &mut Vec<String>, index: usize) {
+/// Negates the constraint or assumption of a number.
+pub fn negate(script: &mut Vec<String>, number: usize) {
+    let (head, index) = match number.checked_sub(FIRST_ASSUMPTION) {
+        None => ("constraint", number),
+        Some(index) => ("assume", index),
+    };
     let mut places = commands(script);
-    places.retain(|command| script[command.start + 1] == "constraint");
+    places.retain(|command| script[command.start + 1] == head);
     let place = &places[index];
     insert(script, place.end - 1, words(")"));
     insert(script, place.start + 2, words("( not"));
@@ -260,9 +273,9 @@ fn mutate_words(random: &mut Random, words: &mut Vec<String>) {
     if words.is_empty() {
         return;
     }
-    match random.below(19) {
+    match random.below(20) {
         0 => mutate_one_word(random, words),
-        1 => mutate_command(random, words),
+        1 | 17 => mutate_command(random, words),
         2 => mutate_sort(random, words),
         3 => mutate_literal(random, words),
         4 => mutate_name(random, words),
@@ -336,7 +349,8 @@ fn commands(words: &[String]) -> Vec<Range<usize>> {
     commands
 }
 
-/// Deletes, doubles, swaps or puts in a command, changes its head, or deletes all commands like it.
+/// Deletes, doubles, swaps or puts in a command, puts in about as many assumptions as there may be, changes a head, makes an
+/// assumption of a constraint or the other way round, or deletes all commands that are alike.
 fn mutate_command(random: &mut Random, list: &mut Vec<String>) {
     let places = commands(list);
     if places.is_empty() {
@@ -344,15 +358,29 @@ fn mutate_command(random: &mut Random, list: &mut Vec<String>) {
     }
     let command = random.pick(&places);
     let other = random.pick(&places);
-    match random.below(8) {
+    match random.below(11) {
         0 => drop(list.drain(command)),
         1 => insert(list, other.end, list[command].to_vec()),
         2 => swap(list, command, other),
         3 => list[command.start + 1] = reserved_word(random),
         4 => drop_alike(list, &list[command.start + 1].clone()),
         5 => insert(list, list.len(), words(random.pick(&COMMANDS))),
+        6 => insert(list, 0, words(random.pick(&COMMANDS))),
+        7 => exchange(&mut list[command.start + 1]),
+        8 => {
+            let assumptions = "( assume true ) ".repeat(random.between(29, 33));
+            insert(list, other.end, words(&assumptions));
+        }
         _ => insert(list, other.end, words(random.pick(&COMMANDS))),
     }
+}
+
+/// Makes `assume` of a head `constraint` and `constraint` of any other one.
+fn exchange(head: &mut String) {
+    *head = match head.as_str() {
+        "constraint" => "assume".to_string(),
+        _ => "constraint".to_string(),
+    };
 }
 
 /// Deletes all commands with a head.
@@ -666,13 +694,13 @@ fn mutate_name(random: &mut Random, words: &mut [String]) {
     };
 }
 
-/// Replaces a part of a constraint's or a body's term.
+/// Replaces a part of a constraint's, an assumption's or a body's term.
 fn mutate_term(random: &mut Random, list: &mut Vec<String>) {
     let mut places = commands(list);
     places.retain(|command| {
         matches!(
             list[command.start + 1].as_str(),
-            "constraint" | "define-fun"
+            "constraint" | "assume" | "define-fun"
         )
     });
     if places.is_empty() {

@@ -19,6 +19,7 @@ struct Counts {
     definitions: usize,
     functions: usize,
     constraints: usize,
+    assumptions: usize,
     definition_arguments: usize,
     function_arguments: usize,
     answer_arguments: usize,
@@ -27,6 +28,7 @@ struct Counts {
     definition_nodes: usize,
     rule_nodes: usize,
     constraint_nodes: usize,
+    assumption_nodes: usize,
     body_nodes: usize,
     constraint_nesting: usize,
     body_nesting: usize,
@@ -50,6 +52,7 @@ const SMALL: Counts = Counts {
     definitions: 1,
     functions: 1,
     constraints: 1,
+    assumptions: 1,
     definition_arguments: 0,
     function_arguments: 1,
     answer_arguments: 0,
@@ -58,6 +61,7 @@ const SMALL: Counts = Counts {
     definition_nodes: 1,
     rule_nodes: 1,
     constraint_nodes: 1,
+    assumption_nodes: 1,
     body_nodes: 1,
     constraint_nesting: 1,
     body_nesting: 2,
@@ -79,11 +83,12 @@ const SMALL: Counts = Counts {
 type Limit = (fn(&mut Counts) -> &mut usize, usize);
 
 /// "Numbers the checker holds to".
-const LIMITS: [Limit; 26] = [
+const LIMITS: [Limit; 28] = [
     (|counts| &mut counts.variables, 16),
     (|counts| &mut counts.definitions, 32),
     (|counts| &mut counts.functions, 8),
     (|counts| &mut counts.constraints, 64),
+    (|counts| &mut counts.assumptions, 32),
     (|counts| &mut counts.definition_arguments, 8),
     (|counts| &mut counts.function_arguments, 8),
     (|counts| &mut counts.answer_arguments, 8),
@@ -92,6 +97,7 @@ const LIMITS: [Limit; 26] = [
     (|counts| &mut counts.definition_nodes, 256),
     (|counts| &mut counts.rule_nodes, 256),
     (|counts| &mut counts.constraint_nodes, 256),
+    (|counts| &mut counts.assumption_nodes, 256),
     (|counts| &mut counts.body_nodes, 256),
     (|counts| &mut counts.constraint_nesting, 64),
     (|counts| &mut counts.body_nesting, 64),
@@ -225,7 +231,10 @@ fn script(counts: &Counts) -> String {
     });
     script += &repeated(counts.definitions, |index| definition(index, counts));
     script += &repeated(counts.functions, |index| function(index, counts));
+    let before = counts.assumptions / 2;
+    script += &repeated(before, |_| assumption(counts));
     script += &repeated(counts.constraints, |_| constraint(counts));
+    script += &repeated(counts.assumptions - before, |_| assumption(counts));
     script += &format!("(define-fun {name} ((x (_ BitVec {width}))) (_ BitVec {width}) x)\n");
     script += &literals(counts);
     script += &filling(counts, count_words(&script));
@@ -263,6 +272,12 @@ fn constraint(counts: &Counts) -> String {
         1 => format!("(constraint {nested})\n"),
         nodes => format!("(constraint {})\n", with_nodes(nodes, counts.wide)),
     }
+}
+
+/// An `assume`.
+fn assumption(counts: &Counts) -> String {
+    let term = with_nodes(counts.assumption_nodes, counts.wide);
+    format!("(assume {term})\n")
 }
 
 /// A `define-fun` with long literals.

@@ -76,7 +76,7 @@ fn unknown_shapes_are_5() {
 #[test]
 fn what_is_not_carried_is_6() {
     for commands in [
-        "(assume true)",
+        "(oracle-assume () () true n)",
         "(declare-sort S 0)",
         "(set-logic LIA)",
         "(synth-fun g () Bool)",

@@ -1,8 +1,10 @@
 //! The random cases: the same for the same seed, sound ones sound, and every answer reached by mutations.
 
+use simple::eval::whole_points;
 use simple::generate::{crowded, mutated, noise, sized, valid, Case};
 use simple::operators::{operator, OPERATORS};
-use simple::{check, replay, words, Answer, AREA_LENGTH};
+use simple::script::Script;
+use simple::{check, replay, script, words, Answer, AREA_LENGTH, FIRST_ASSUMPTION};
 use std::collections::HashSet;
 
 /// The answer of a case, the area being judged as well.
@@ -112,4 +114,97 @@ fn mutations_misuse_operators() {
     }
     let counts = [as_name, as_leaf, with_operands].map(|names| names.len());
     assert!(counts.iter().all(|&count| count > 10), "{counts:?}");
+}
+
+/// The script of a case without fault.
+fn script_of(case: &Case) -> Script {
+    script::read(&case.script).expect("a sound script")
+}
+
+/// Whether an assumption applies a synthesized function.
+fn applies_function(script: &Script) -> bool {
+    let mut words = script.assumptions.iter().flat_map(|one| one.term.words());
+    words.any(|(_, word)| script.synthesized.iter().any(|one| one.name == word))
+}
+
+/// Whether an assumption stands before a constraint, and whether one stands behind one.
+fn order(script: &Script) -> [bool; 2] {
+    let pairs = script.assumptions.iter().flat_map(|one| {
+        let constraints = script.constraints.iter();
+        constraints.map(|other| one.place < other.place)
+    });
+    let before: Vec<bool> = pairs.collect();
+    [before.contains(&true), before.contains(&false)]
+}
+
+#[test]
+fn sound_cases_have_assumptions_of_every_kind() {
+    let mut counts = [0; 10];
+    for seed in 0..1_000 {
+        let case = valid(seed);
+        let (answer, script) = (answer(&case), script_of(&case));
+        let points = whole_points(&case.points, &script.variables).len() as u64;
+        let [before, behind] = order(&script);
+        let assumed = !script.assumptions.is_empty();
+        let held = assumed && answer.number == 0 && points > 0;
+        let ended = assumed && answer.number == 15;
+        let first_assumption = FIRST_ASSUMPTION as u64;
+        let kinds = [
+            !assumed,
+            before,
+            behind,
+            applies_function(&script),
+            held && answer.second == points,
+            held && answer.second == 0,
+            held && answer.second > 0 && answer.second < points,
+            ended && answer.second >= first_assumption,
+            ended && answer.second < first_assumption,
+            assumed && answer.number == 14,
+        ];
+        for (count, kind) in counts.iter_mut().zip(kinds) {
+            *count += u32::from(kind);
+        }
+    }
+    assert!(counts.iter().all(|&count| count > 4), "{counts:?}");
+}
+
+#[test]
+fn cases_about_limits_have_32_assumptions_and_33() {
+    let (mut most, mut past, mut numbers) = (0, 0, HashSet::new());
+    for seed in 0..2_000 {
+        let case = sized(seed);
+        let answer = answer(&case);
+        let at = case.script.get(answer.place as usize..).unwrap_or(&[]);
+        past += u32::from(answer.number == 4 && at.starts_with(b"(assume"));
+        if matches!(answer.number, 0 | 14 | 15) {
+            most += u32::from(script_of(&case).assumptions.len() == 32);
+        }
+        if answer.number == 15 && answer.second >= FIRST_ASSUMPTION as u64 {
+            numbers.insert(answer.second);
+        }
+    }
+    assert!(
+        most > 5 && past > 5 && numbers.len() > 2,
+        "{most} {past} {numbers:?}"
+    );
+}
+
+#[test]
+fn mutations_misuse_assume() {
+    let mut found = HashSet::new();
+    for seed in 0..4_000 {
+        let case = mutated(seed);
+        let (answer, texts) = (answer(&case), [&case.script, &case.response]);
+        let Some(text) = texts.get(usize::from(answer.text)) else {
+            continue;
+        };
+        let place = answer.place as usize;
+        let word = |at: usize| text.get(at..at + simple::word(text, at));
+        if [word(place), word(place + 1)].contains(&Some(b"assume")) {
+            found.insert((answer.text, answer.number));
+        }
+    }
+    for expected in [(0, 4), (0, 5), (0, 6), (0, 7), (1, 5), (1, 12)] {
+        assert!(found.contains(&expected), "{expected:?} of {found:?}");
+    }
 }

@@ -1,6 +1,7 @@
-//! Document 01 run: the readings, the vectors, the bench, constants, signed operators, every limit and every row of the table of answers.
+//! Document 01 run: the readings, the vectors, the bench, constants, signed operators, assumptions, every limit and every row of the table of answers.
 
 mod answers;
+mod assumptions;
 mod bench;
 mod cases;
 mod constants;

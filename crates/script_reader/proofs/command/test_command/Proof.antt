@@ -1,7 +1,8 @@
 use native.Mathlib.Omega.{arith}
+use mathlib.Core.Bool.{true, false}
 use lib.ListN.{length-take}
 use Rattle.script.specs.code.Places.{formsPlace}
-use Rattle.script_reader.proofs.TestedByCode.{constrained, constraining, declared, declaring, defined, defining, others, synthesized, synthesizing}
+use Rattle.script_reader.proofs.TestedByCode.{declared, declaring, defined, defining, others, stated, stating, synthesized, synthesizing}
 use borrow.Author.Needs.{needs}
 use Rattle.script_reader.proofs.command.test_command.Statement.{statement}
 use Rattle.script_reader.proofs.command.test_command.Tie as tie
@@ -32,16 +33,27 @@ part-synth-fun-end c = search needs
 synth-fun-requires : tie.Need-synth-fun-requires
 synth-fun-requires c κs = synthesizing (c .before .before .before .before .before .before .before .before .before .before .before .pre) (c .before .before .before .before .match .keys3)
 
-slice-relend-prefix-constrain : tie.Need-slice-relend-prefix-constrain
-slice-relend-prefix-constrain c = search needs
+slice-relend-prefix-state : tie.Need-slice-relend-prefix-state
+slice-relend-prefix-state c = search needs
 
-slice-aggregate-constrain : tie.Need-slice-aggregate-constrain
-slice-aggregate-constrain c =
+slice-aggregate-state : tie.Need-slice-aggregate-state
+slice-aggregate-state c =
     let s = c .before .before .before .before .before .before .before .before .before .before .before in
     omega (arith, length-take formsPlace (s .args .nodes .now), s .pre .commanded .roomy .nodes-room)
 
-constrain-requires : tie.Need-constrain-requires
-constrain-requires c κs = constraining (c .before .before .before .before .before .before .before .before .before .before .before .pre) (c .before .before .before .before .match .keys4)
+state-requires : tie.Need-state-requires
+state-requires c κs = stating (c .before .before .before .before .before .before .before .before .before .before .before .pre) false (c .before .before .before .before .match .keys4)
+
+slice-relend-prefix-state-2 : tie.Need-slice-relend-prefix-state-2
+slice-relend-prefix-state-2 c = search needs
+
+slice-aggregate-state-2 : tie.Need-slice-aggregate-state-2
+slice-aggregate-state-2 c =
+    let s = c .before .before .before .before .before .before .before .before .before .before .before in
+    omega (arith, length-take formsPlace (s .args .nodes .now), s .pre .commanded .roomy .nodes-room)
+
+state-requires-2 : tie.Need-state-requires-2
+state-requires-2 c κs = stating (c .before .before .before .before .before .before .before .before .before .before .before .pre) true (c .before .before .before .before .match .keys5)
 
 verdict-requires : tie.Need-verdict-requires
 verdict-requires c κs = search needs
@@ -95,11 +107,27 @@ same-length-13 : tie.Need-same-length-13
 same-length-13 c = search needs
 
 returns-4 : tie.Need-returns-4
-returns-4 c = λ s. constrained s (c .before .before .before .before .before .before .before .before .before .before .before .match .keys4) (c .before .before .before .before .before .before .constrain .ensures (constraining s (c .before .before .before .before .before .before .before .before .before .before .before .match .keys4)))
+returns-4 c = λ s. stated s false (c .before .before .before .before .before .before .before .before .before .before .before .match .keys4) (c .before .before .before .before .before .before .state .ensures (stating s false (c .before .before .before .before .before .before .before .before .before .before .before .match .keys4)))
+
+same-length-14 : tie.Need-same-length-14
+same-length-14 c = search needs
+
+same-length-15 : tie.Need-same-length-15
+same-length-15 c = search needs
+
+same-length-16 : tie.Need-same-length-16
+same-length-16 c = search needs
+
+same-length-17 : tie.Need-same-length-17
+same-length-17 c = search needs
 
 returns-5 : tie.Need-returns-5
-returns-5 c =
-    λ s. others s (c .before .match .rest .0 .0 .0 .1) (c .before .match .rest .0 .0 .1) (c .before .match .rest .0 .1) (c .before .match .rest .1) (c .verdict .ensures)
+returns-5 c = λ s. stated s true (c .before .before .before .before .before .before .before .before .before .before .before .match .keys5) (c .before .before .before .before .before .before .state2 .ensures (stating s true (c .before .before .before .before .before .before .before .before .before .before .before .match .keys5)))
+
+returns-6 : tie.Need-returns-6
+returns-6 c =
+    λ s. let n = c .before .match .rest in
+    others s (n .0 .0 .0 .0 .1) (n .0 .0 .0 .1) (n .0 .0 .1) (n .0 .1) (n .1) (c .verdict .ensures)
 
 pub test-command-spec : {M : Type 1} → statement M
 test-command-spec =
@@ -113,9 +141,12 @@ test-command-spec =
     part-synth-fun-start
     part-synth-fun-end
     synth-fun-requires
-    slice-relend-prefix-constrain
-    slice-aggregate-constrain
-    constrain-requires
+    slice-relend-prefix-state
+    slice-aggregate-state
+    state-requires
+    slice-relend-prefix-state-2
+    slice-aggregate-state-2
+    state-requires-2
     verdict-requires
     same-length
     returns
@@ -134,4 +165,9 @@ test-command-spec =
     same-length-12
     same-length-13
     returns-4
-    returns-5)
+    same-length-14
+    same-length-15
+    same-length-16
+    same-length-17
+    returns-5
+    returns-6)

@@ -20,6 +20,9 @@ grown-requires-5 c κs = search needs
 grown-requires-6 : tie.Need-grown-requires-6
 grown-requires-6 c κs = search needs
 
+grown-requires-7 : tie.Need-grown-requires-7
+grown-requires-7 c κs = search needs
+
 returns : tie.Need-returns
 returns c = cc
 
@@ -33,4 +36,5 @@ said-spec =
     grown-requires-4
     grown-requires-5
     grown-requires-6
+    grown-requires-7
     returns)

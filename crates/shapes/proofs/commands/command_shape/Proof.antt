@@ -32,6 +32,9 @@ constraint-shape-requires c κs = search needs
 count-in-requires : tie.Need-count-in-requires
 count-in-requires c κs = search needs
 
+constraint-shape-requires-2 : tie.Need-constraint-shape-requires-2
+constraint-shape-requires-2 c κs = search needs
+
 returns : tie.Need-returns
 returns c = λ here. c .set-logic-shape .ensures here ∙ named-command (c .before .before .code-at .ensures) (c .before .match .keys1) here
 
@@ -55,9 +58,12 @@ returns-6 c =
     (c .before .match .keys6) here
 
 returns-7 : tie.Need-returns-7
-returns-7 c =
-    no-command (c .before .code-at .ensures) (c .match .rest .0 .0 .0 .0 .0 .1) (c .match .rest .0 .0 .0 .0 .1)
-    (c .match .rest .0 .0 .0 .1) (c .match .rest .0 .0 .1) (c .match .rest .0 .1) (c .match .rest .1)
+returns-7 c = λ here. c .constraint-shape2 .ensures here ∙ named-command (c .before .before .code-at .ensures) (c .before .match .keys7) here
+
+returns-8 : tie.Need-returns-8
+returns-8 c =
+    let n = c .match .rest in
+    no-command (c .before .code-at .ensures) (n .0 .0 .0 .0 .0 .0 .1) (n .0 .0 .0 .0 .0 .1) (n .0 .0 .0 .0 .1) (n .0 .0 .0 .1) (n .0 .0 .1) (n .0 .1) (n .1)
 
 pub command-shape-spec : {M : Type 1} → statement M
 command-shape-spec =
@@ -71,10 +77,12 @@ command-shape-spec =
     synth-fun-shape-requires
     constraint-shape-requires
     count-in-requires
+    constraint-shape-requires-2
     returns
     returns-2
     returns-3
     returns-4
     returns-5
     returns-6
-    returns-7)
+    returns-7
+    returns-8)

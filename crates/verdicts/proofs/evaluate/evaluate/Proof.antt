@@ -1,6 +1,6 @@
 use mathlib.Core.Path.{_∙_}
-use borrow.Author.Needs.{needs}
 use Rattle.verdicts.proofs.PointsAnswer.{budget-left, constrained, outcome-by, run-evaluated, sorts-long, sorts-small}
+use borrow.Author.Needs.{needs}
 use Rattle.verdicts.proofs.evaluate.evaluate.Statement.{statement}
 use Rattle.verdicts.proofs.evaluate.evaluate.Tie as tie
 
@@ -22,27 +22,26 @@ enum-known-list c = search needs
 points-answer-requires : tie.Need-points-answer-requires
 points-answer-requires c κs = search needs
 
-enum-known-list-2 : tie.Need-enum-known-list-2
-enum-known-list-2 c = search needs
+enum-told : tie.Need-enum-told
+enum-told c = search needs
 
 array-share-prefix-sorts-2 : tie.Need-array-share-prefix-sorts-2
 array-share-prefix-sorts-2 c = search needs
 
-slice-aggregate-run-constraints : tie.Need-slice-aggregate-run-constraints
-slice-aggregate-run-constraints c = let read = c .before .before .before .before .before .before .variable-sorts .ensures in
-    sorts-long (c .before .before .before .before .before .before .before .before .before .before .before .pre) read
+slice-aggregate-run-stated : tie.Need-slice-aggregate-run-stated
+slice-aggregate-run-stated c = sorts-long (c .before .before .before .before .before .before .before .before .before .before .pre) (c .before .before .before .before .before .variable-sorts .ensures)
 
-run-constraints-requires : tie.Need-run-constraints-requires
-run-constraints-requires c κs = let entry = c .before .before .before .before .before .before .before .before .before .before .before in
-    let read = c .before .before .before .before .before .before .variable-sorts .ensures in
-    constrained (entry .pre) read (entry .args .points .now) (c .before .before .before .before .points-of .ensures) (c .before .before .list2 .given .1)
+run-stated-requires : tie.Need-run-stated-requires
+run-stated-requires c κs =
+    let entry = c .before .before .before .before .before .before .before .before .before .before in
+    constrained (entry .pre) (c .before .before .before .before .before .variable-sorts .ensures) (entry .args .points .now) (c .before .before .before .points-of .ensures) (c .before .enum-told .given .1)
 
 run-outcome-requires : tie.Need-run-outcome-requires
-run-outcome-requires c κs = let entry = c .before .before .before .before .before .before .before .before .before .before .before .before in
-    let read = c .before .before .before .before .before .before .before .variable-sorts .ensures in
-    let tested = c .before .before .before .before .before .points-of .ensures in
-    let good = c .before .before .before .list2 .given .1 in
-    budget-left (entry .pre) read (entry .args .points .now) tested good (entry .args .budget) (c .run-constraints .ensures)
+run-outcome-requires c κs =
+    let entry = c .before .before .before .before .before .before .before .before .before .before .before in
+    let good = c .before .before .enum-told .given .1 in
+    budget-left (entry .pre) (c .before .before .before .before .before .before .variable-sorts .ensures) (entry .args .points .now) (c .before .before .before .before .points-of .ensures) good (entry .args .budget)
+    (c .run-stated .ensures)
 
 returns : tie.Need-returns
 returns c = λ q.
@@ -53,11 +52,11 @@ returns c = λ q.
 
 returns-2 : tie.Need-returns-2
 returns-2 c = λ q.
-    let args = c .before .before .before .before .before .before .before .before .before .before .before .before .before .args in
-    let read = c .before .before .before .before .before .before .before .before .variable-sorts .ensures in
-    let tested = c .before .before .before .before .before .before .points-of .ensures in
-    let good = c .before .before .before .before .list2 .given .1 in
-    run-evaluated q read (args .points .now) tested good (args .budget) (c .before .run-constraints .ensures) (c .run-outcome .ensures)
+    let args = c .before .before .before .before .before .before .before .before .before .before .before .before .args in
+    let read = c .before .before .before .before .before .before .before .variable-sorts .ensures in
+    let tested = c .before .before .before .before .before .points-of .ensures in
+    let good = c .before .before .before .enum-told .given .1 in
+    run-evaluated q read (args .points .now) tested good (args .budget) (c .before .run-stated .ensures) (c .run-outcome .ensures)
 
 pub evaluate-spec : {M : Type 1} → statement M
 evaluate-spec =
@@ -69,10 +68,10 @@ evaluate-spec =
     points-of-requires
     enum-known-list
     points-answer-requires
-    enum-known-list-2
+    enum-told
     array-share-prefix-sorts-2
-    slice-aggregate-run-constraints
-    run-constraints-requires
+    slice-aggregate-run-stated
+    run-stated-requires
     run-outcome-requires
     returns
     returns-2)

@@ -27,17 +27,17 @@ points-answer-requires-2 c κs = search needs
 
 returns : tie.Need-returns
 returns c = let args = c .before .before .before .args in
-    outcome-found (args .count) (args .budget) _ (c .before .before .left-of .ensures) (c .enum-told .given .1)
+    outcome-found (args .budget) (args .run .held) _ (c .before .before .left-of .ensures) (c .enum-told .given .1)
 
 returns-2 : tie.Need-returns-2
 returns-2 c = let args = c .before .before .before .before .before .args in
     let left = c .before .before .before .before .left-of .ensures in
-    c .points-answer .ensures ∙ outcome-found (args .count) (args .budget) _ left (c .before .before .ran .given .1)
+    c .points-answer .ensures ∙ outcome-found (args .budget) (args .run .held) _ left (c .before .before .ran .given .1)
 
 returns-3 : tie.Need-returns-3
 returns-3 c = let args = c .before .before .before .before .before .args in
     let left = c .before .before .before .before .left-of .ensures in
-    c .points-answer2 .ensures ∙ outcome-found (args .count) (args .budget) _ left (c .before .before .ran2 .given .1)
+    c .points-answer2 .ensures ∙ outcome-found (args .budget) (args .run .held) _ left (c .before .before .ran2 .given .1)
 
 pub run-outcome-spec : {M : Type 1} → statement M
 run-outcome-spec =

@@ -1,11 +1,11 @@
--- The constraints of a script and a response that pass can be run over a list that is points.
+-- The constraints and the assumptions of a script and a response that pass can be run over a list that is points.
 use Prim.Native.Nat.{ℕ, _+_, _*_, _≤_, _<_}
 use native.Mathlib.Omega.{arith}
 use mathlib.Core.Path.{_≡_, ap, _∙_}
 use mathlib.Core.List.{List, [], _∷_}
-use lib.ListN.{drop, length, length-map, length-take, take}
-use Rattle.forest.specs.Limits.{mostConstraints, mostVariables}
-use Rattle.forest.proofs.Lists.{drop-next}
+use lib.ListN.{drop, getD, length, length-drop, length-map}
+use lib.Seq.{getD-drop, getD-take, length-take-le}
+use Rattle.forest.specs.Limits.{firstAssumption, mostVariables}
 use Rattle.operators.specs.Sorts.{AllFit}
 use Rattle.terms.specs.Labels.{Terms}
 use Rattle.terms.specs.Sorts.{Definition}
@@ -16,12 +16,14 @@ use Rattle.terms.proofs.Sound.{Fits, one-value, pointScope}
 use Rattle.evaluation.specs.code.Budget.{Priced}
 use Rattle.evaluation.specs.code.Costs.{Pricing}
 use Rattle.evaluation.specs.Points.{pointAt, pointCount}
-use Rattle.evaluation.specs.code.Running.{AllValued, PointsRan, PointsRunnable, SmallTerms, TermsAt}
-use Rattle.evaluation.specs.declared.Ran.{Ran}
+use Rattle.evaluation.specs.code.Running.{AllValued, Placed, PointsRan, PointsRunnable, SmallTerms, TermsFrom}
+use Rattle.evaluation.specs.declared.Run.{Run}
+use Rattle.evaluation.specs.declared.Stated.{Stated as Counts}
 use Rattle.names.specs.Scopes.{Named}
-use Rattle.script.specs.code.Tables.{ConstraintsAt}
-use Rattle.script.specs.code.Places.{bodiesPlace, constraintsOf, constraintsPlace}
-use Rattle.script.specs.Script.{definitionsOf}
+use Rattle.script.specs.code.Tables.{StatedAt}
+use Rattle.script.specs.code.Places.{bodiesPlace, constraintsPlace, statedCount, statedOf}
+use Rattle.term_faults.specs.Faults.{scopeOf}
+use Rattle.script.specs.Script.{constraintView, definitionsOf}
 use Rattle.script.specs.declared.Progress.{Progress}
 use Rattle.outcome.specs.code.Sorted.{AllBool}
 use Rattle.script.specs.Response.{inScriptOrder}
@@ -34,14 +36,15 @@ use Rattle.evaluation.proofs.GoodPoints.{GoodList, good-list, point-fits, whole
 use Rattle.evaluation.proofs.PointRuns.{sorts-by}
 use Rattle.verdicts.proofs.FunctionsHeld.{defined-are, functions-are, tables-hold}
 
--- Constraints stand at the nodes that the part of the table for them has.
-constraints-there : (all : Terms) (places : List ℕ) (m : ℕ) (ts : List Terms) → constraintsPlace + m + length ts ≤ length places → ConstraintsAt all places m ts
-    → TermsAt all (take (length ts) (drop (constraintsPlace + m) places)) ts
-unfolding ConstraintsAt TermsAt
-constraints-there all places m [] room at = tt
-constraints-there all places m (t ∷ more) room at =
-    let next : constraintsPlace + m + 1 ≡ constraintsPlace + (m + 1) = omega arith in
-    rw (drop-next places (constraintsPlace + m) (omega arith), next) (at .0, constraints-there all places (m + 1) more (omega arith) (at .1))
+-- Constraints and assumptions, from number m on, stand at the nodes that the part of the table for them has.
+stated-there : (all : Terms) (places : List ℕ) (m : ℕ) (ts : List Terms) → m + length ts ≤ statedCount → StatedAt all places m ts
+    → TermsFrom all (statedOf places) m ts
+unfolding StatedAt TermsFrom
+stated-there all places m [] few at = tt
+stated-there all places m (t ∷ more) few at =
+    let there : getD (statedOf places) m 0 ≡ getD places (constraintsPlace + m) 0 =
+    getD-take statedCount (drop constraintsPlace places) m 0 (omega arith) ∙ getD-drop constraintsPlace places m 0 in
+    (rw there (at .0), stated-there all places (m + 1) more (omega arith) (at .1))
 
 -- Terms that are Bool have a value each, a Bool, where bodies and the values of the point are of their sorts.
 all-valued : (defs funs : List Definition) → AllSorted defs → FunctionsSorted defs funs → (point : List Value) → Fits point
@@ -65,11 +68,11 @@ module _ {places nodes : List ℕ} {p : Progress} {sorts points : List ℕ} (q :
   pub list-whole : pointCount (length sorts) (length points) * length sorts ≡ length points
   list-whole = whole list-good
 
-  -- The constraints have values at each point.
-  pub constraints-valued : (n : ℕ) → n < pointCount (length sorts) (length points)
-      → AllValued (definitionsOf (q .tables .known .defined)) (functionsWith (q .tables .known) (termsOf (q .tables .bodies))) (pointAt sorts points n)
-      (q .tables .known .constraints)
-  constraints-valued n h =
+  -- Terms that are Bool, where the script's names are seen, have values at each point.
+  pub stated-valued : (ts : List Terms) → AllBool (scopeOf (constraintView (q .tables .known)) .terms) ts → (n : ℕ)
+      → n < pointCount (length sorts) (length points)
+      → AllValued (definitionsOf (q .tables .known .defined)) (functionsWith (q .tables .known) (termsOf (q .tables .bodies))) (pointAt sorts points n) ts
+  stated-valued ts bool n h =
       let k = q .tables .known in
       let held = q .tables .held in
       let bs = q .tables .bodies in
@@ -77,11 +80,7 @@ module _ {places nodes : List ℕ} {p : Progress} {sorts points : List ℕ} (q :
       let by = sorts-by sorts (drop (n * length sorts) points) in
       let scope = terms-point-scope k (bodies-sorted (k .defined) (inScriptOrder (k .functions)) bs (held .response)) point (by ∙ q .sorts-are) in
       all-valued (definitionsOf (k .defined)) (functionsWith k (termsOf bs)) (held .script .sorted .bodies) (functions-sorted k bs (held .response)) point
-      (rw by (values-fit n h)) (k .constraints) (rw scope (held .script .sorted .constraints))
-
-  -- The constraints have at most 256 nodes each.
-  pub constraints-small : SmallTerms (q .tables .known .constraints)
-  constraints-small = q .tables .held .script .few .constraints
+      (rw by (values-fit n h)) ts (rw scope bool)
 
   -- There are not too many variables.
   pub variables-few : length sorts ≤ mostVariables
@@ -101,41 +100,54 @@ module _ {places nodes : List ℕ} {p : Progress} {sorts points : List ℕ} (q :
           functions-are = functions-are (q .tables .held);
         }
 
-    module _ {constraints costs : List ℕ} (constraints-are : constraints ≡ constraintsOf places (p .constraints))
+    module _ {terms costs : List ℕ} (terms-are : terms ≡ statedOf places)
         (priced : Priced costs (definitionsOf (q .tables .known .defined)) (functionsWith (q .tables .known) (termsOf (q .tables .bodies)))) where
-      -- The constraints stand at their nodes.
-      pub constraints-at : TermsAt (q .tables .held .bodies-held .places-hold .all) constraints (q .tables .known .constraints)
-      constraints-at =
-          let placed = q .tables .held .bodies-held .places-hold in
-          let counted = q .tables .held .counted in
-          let ts = q .tables .known .constraints in
-          let room : constraintsPlace + 0 + length ts ≤ length places = omega (arith, placed .long, counted .constraints-are, counted .few-constraints) in
-          rw (constraints-are, counted .constraints-are) (constraints-there (placed .all) places 0 ts room (placed .constraints-at))
+      -- Constraints or assumptions stand at their nodes.
+      pub stated-placed : (m : ℕ) (ts : List Terms) → m + length ts ≤ statedCount → StatedAt (q .tables .held .bodies-held .places-hold .all) places m ts → SmallTerms ts
+          → Placed (q .tables .held .bodies-held .places-hold .all) terms m ts
+      stated-placed m ts few at small =
+          record { at = rw terms-are (stated-there (q .tables .held .bodies-held .places-hold .all) places m ts few at); small = small; within = few }
 
-      -- They are few.
-      pub constraints-few : length constraints ≤ mostConstraints
-      constraints-few =
-          omega (arith, ap length constraints-are, length-take (p .constraints) (drop constraintsPlace places), q .tables .held .counted .few-constraints)
+      pub terms-long : length terms ≡ statedCount
+      terms-long =
+          ap length terms-are
+          ∙ length-take-le statedCount (drop constraintsPlace places)
+          (omega (arith, q .tables .held .bodies-held .places-hold .long, length-drop constraintsPlace places))
+
+      -- How many there are of each.
+      abbrev pub counts : Counts
+      counts = record { constraints = p .constraints; assumptions = p .assumptions }
 
       -- They can be run at every point.
-      abbrev pub runnable : PointsRunnable nodes bodies costs constraints sorts points
+      abbrev pub runnable : PointsRunnable nodes bodies costs terms counts sorts points
       runnable =
+          let k = q .tables .known in
+          let placed = q .tables .held .bodies-held .places-hold in
+          let counted = q .tables .held .counted in
+          let script = q .tables .held .script in
           record {
-            defs = definitionsOf (q .tables .known .defined);
-            funs = functionsWith (q .tables .known) (termsOf (q .tables .bodies));
+            defs = definitionsOf (k .defined);
+            funs = functionsWith k (termsOf (q .tables .bodies));
             holds = tables-hold (q .tables .held) bodies-are;
             priced = priced;
-            few = constraints-few;
             few-variables = variables-few;
-            terms = q .tables .known .constraints;
-            terms-at = constraints-at;
-            small = constraints-small;
+            constraints = k .constraints;
+            assumptions = k .assumptions;
+            constraints-counted = counted .constraints-are;
+            assumptions-counted = counted .assumptions-are;
+            constraints-placed = stated-placed 0 (k .constraints) (omega (arith, counted .constraints-are, counted .few-constraints)) (placed .constraints-at)
+                (script .few .constraints);
+            assumptions-placed = stated-placed firstAssumption (k .assumptions) (omega (arith, counted .assumptions-are, counted .few-assumptions))
+                (placed .assumptions-at) (script .few .assumptions);
+            few-constraints = omega (arith, counted .few-constraints);
+            places-long = terms-long;
             whole = list-whole;
             fits = values-fit;
-            valued = constraints-valued;
+            constraints-valued = stated-valued (k .constraints) (script .sorted .constraints);
+            assumptions-valued = stated-valued (k .assumptions) (script .sorted .assumptions);
           }
 
-      -- Their run is that of the script's constraints.
-      pub constraints-ran : (budget : ℕ) {r : Ran} → PointsRan nodes bodies costs constraints sorts points budget r
+      -- Their run is that of the script.
+      pub stated-ran : (budget : ℕ) {r : Run} → PointsRan nodes bodies costs terms counts sorts points budget r
           → r ≡ ranWith (q .tables .known) (termsOf (q .tables .bodies)) points (q .count) budget
-      constraints-ran budget ran = rw (list-good .counted, ← q .sorts-are) (ran runnable)
+      stated-ran budget ran = rw (list-good .counted, ← q .sorts-are) (ran runnable)

@@ -1,7 +1,7 @@
-use Rattle.verdicts.proofs.ConstraintsRun.{constraints-ran, pricing, runnable}
+use Rattle.verdicts.proofs.StatedRuns.{pricing, runnable, stated-ran}
 use borrow.Author.Needs.{needs}
-use Rattle.verdicts.proofs.evaluate.run_constraints.Statement.{statement}
-use Rattle.verdicts.proofs.evaluate.run_constraints.Tie as tie
+use Rattle.verdicts.proofs.evaluate.run_stated.Statement.{statement}
+use Rattle.verdicts.proofs.evaluate.run_stated.Tie as tie
 
 bodies-of-requires : tie.Need-bodies-of-requires
 bodies-of-requires c κs = search needs
@@ -9,8 +9,8 @@ bodies-of-requires c κs = search needs
 body-costs-requires : tie.Need-body-costs-requires
 body-costs-requires c κs = pricing (c .before .before .before .before .before .pre) (c .bodies-of .ensures)
 
-constraints-of-requires : tie.Need-constraints-of-requires
-constraints-of-requires c κs = search needs
+stated-of-requires : tie.Need-stated-of-requires
+stated-of-requires c κs = search needs
 
 slice-aggregate-run-points : tie.Need-slice-aggregate-run-points
 slice-aggregate-run-points c = search needs
@@ -19,7 +19,7 @@ run-points-requires : tie.Need-run-points-requires
 run-points-requires c κs =
     let q = c .before .before .before .before .before .before .before .before .pre in
     let bodies = c .before .before .before .bodies-of .ensures in
-    runnable q bodies (c .before .constraints-of .ensures) (c .before .before .body-costs .ensures (pricing q bodies))
+    runnable q bodies (c .before .stated-of .ensures) (c .before .before .body-costs .ensures (pricing q bodies))
 
 returns : tie.Need-returns
 returns c =
@@ -27,15 +27,15 @@ returns c =
     let bodies = c .before .before .before .before .bodies-of .ensures in
     let priced = c .before .before .before .body-costs .ensures (pricing q bodies) in
     let entry = c .before .before .before .before .before .before .before .before .before in
-    constraints-ran q bodies (c .before .before .constraints-of .ensures) priced (entry .args .budget) (c .run-points .ensures)
+    stated-ran q bodies (c .before .before .stated-of .ensures) priced (entry .args .budget) (c .run-points .ensures)
 
-pub run-constraints-spec : {M : Type 1} → statement M
-run-constraints-spec =
+pub run-stated-spec : {M : Type 1} → statement M
+run-stated-spec =
     tie.close
     (tie.spec
     bodies-of-requires
     body-costs-requires
-    constraints-of-requires
+    stated-of-requires
     slice-aggregate-run-points
     run-points-requires
     returns)
