@@ -1,4 +1,4 @@
--- The value of each operator on vectors stays below 2 ^ n, at any width n.
+-- What an operator on vectors gives stays below 2 ^ n, at any width n; of signed operators, what theirs is made of.
 use Prim.Native.Nat.{ℕ, _+_, _%_, _^_, _<_}
 use native.Mathlib.Nat.{div-le-self, lt-of-le-of-lt, mod-le, mod-lt}
 use mathlib.Core.Path.{subst⁻¹}
@@ -8,8 +8,8 @@ use lib.Bits.{and-lt, or-lt, xor-lt}
 use lib.Dec.{eqb, ltb, lit<}
 use lib.Pow.{ones-lt, ones-sub-lt, pow-add, pow-pos, shr-le}
 use Rattle.operators.specs.code.Vectors.{Joined, Word, Words}
-use Rattle.operators.specs.Values.{bvandValue, bvashrValue, bvlshrValue, bvnegValue, bvnotValue, bvorValue, bvsdivValue, bvshlValue, bvsmodValue}
-use Rattle.operators.specs.Values.{bvsremValue, bvudivValue, bvuremValue, bvxorValue, bySigns, concatValue, magnitude, negative, truth}
+use Rattle.operators.specs.Values.{bvandValue, bvlshrValue, bvnegValue, bvnotValue, bvorValue, bvshlValue, bvudivValue, bvuremValue, bvxorValue}
+use Rattle.operators.specs.Values.{bySigns, concatValue, magnitude, negative, truth}
 
 -- Of two numbers below a bound either is below it.
 pub pick-below : (t : Bool) {x y m : ℕ} → x < m → y < m → cond t x y < m
@@ -58,7 +58,7 @@ pub concat-below : {n m a b : ℕ} → Joined n m a b → concatValue m a b < 2 
 concat-below {n} {m} {a} {b} w = subst⁻¹ (λ (p : ℕ). concatValue m a b < p) (pow-add 2 n m) (digits-lt (w .high .below) (w .low .below))
 
 -- Of four numbers below a bound the one that the highest bits choose is below it.
-by-signs-below : (n a b : ℕ) {neither first second both m : ℕ} → neither < m → first < m → second < m → both < m
+pub by-signs-below : (n a b : ℕ) {neither first second both m : ℕ} → neither < m → first < m → second < m → both < m
     → bySigns n a b neither first second both < m
 by-signs-below n a b hn hf hs hb = pick-below (negative n a) (pick-below (negative n b) hb hf) (pick-below (negative n b) hs hn)
 
@@ -67,27 +67,9 @@ pub signs-below : (n a b : ℕ) (t : Bool) → bySigns n a b (truth t) 1 0 (trut
 signs-below n a b t = by-signs-below n a b (truth-below t) (lit< tt) (lit< tt) (truth-below t)
 
 -- `bvneg` of a word is a word.
-negated : {n a : ℕ} → Word n a → Word n (bvnegValue n a)
+pub negated : {n a : ℕ} → Word n a → Word n (bvnegValue n a)
 negated {n} w = record { width = w .width; below = mod-below n _ }
 
 -- The magnitude of a word is a word.
 pub magnitude-word : {n a : ℕ} → Word n a → Word n (magnitude n a)
 magnitude-word {n} {a} w = record { width = w .width; below = pick-below (negative n a) (mod-below n _) (w .below) }
-
--- The signed operators on two words of one width.
-module _ {n a b : ℕ} (w : Words n a b) where
-  pub bvsdiv-below : bvsdivValue n a b < 2 ^ n
-  bvsdiv-below =
-      by-signs-below n a b (bvudiv-below w) (mod-below n _) (mod-below n _) (bvudiv-below (record { first = negated (w .first); second = negated (w .second) }))
-
-  pub bvsrem-below : bvsremValue n a b < 2 ^ n
-  bvsrem-below =
-      by-signs-below n a b (bvurem-below w) (mod-below n _) (bvurem-below (record { first = w .first; second = negated (w .second) })) (mod-below n _)
-
-  pub bvsmod-below : bvsmodValue n a b < 2 ^ n
-  bvsmod-below =
-      let rest = bvurem-below (record { first = magnitude-word (w .first); second = magnitude-word (w .second) }) in
-      pick-below (eqb (bvuremValue (magnitude n a) (magnitude n b)) 0) rest (by-signs-below n a b rest (mod-below n _) (mod-below n _) (mod-below n _))
-
-  pub bvashr-below : bvashrValue n a b < 2 ^ n
-  bvashr-below = pick-below (negative n a) (bvnot-below n _) (bvlshr-below n b (w .first .below))

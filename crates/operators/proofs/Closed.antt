@@ -16,9 +16,10 @@ use Rattle.forest.proofs.Bools.{and-right}
 use Rattle.operators.specs.Sorts.{AllFit, Fit, SortRule, choice, cutting, joining, sortBy, width}
 use Rattle.operators.specs.Sorts.AllFit.{no-more, also}
 use Rattle.operators.specs.code.Vectors.{Word, Words}
-use Rattle.operators.specs.Values.{chained, concatValue, differ, extractValue, groupLeft, groupRight, holds, iteValue, pairwise}
-use Rattle.operators.proofs.Below.{bvand-below, bvashr-below, bvlshr-below, bvnot-below, bvor-below, bvsdiv-below, bvshl-below, bvsmod-below}
-use Rattle.operators.proofs.Below.{bvsrem-below, bvudiv-below, bvurem-below, bvxor-below, concat-below, mod-below, signs-below, truth-below}
+use Rattle.operators.specs.Values.{bvashrValue, bvsdivValue, bvsmodValue, bvsremValue, bvuremValue, chained, concatValue, differ, extractValue, groupLeft}
+use Rattle.operators.specs.Values.{groupRight, holds, iteValue, magnitude, negative, pairwise}
+use Rattle.operators.proofs.Below.{bvand-below, bvlshr-below, bvnot-below, bvor-below, bvshl-below, bvudiv-below, bvurem-below, bvxor-below, by-signs-below}
+use Rattle.operators.proofs.Below.{concat-below, magnitude-word, mod-below, negated, pick-below, signs-below, truth-below}
 use Rattle.operators.proofs.Results.{width-sort}
 use Rattle.operators.proofs.Table.{Each, each-at, _and_}
 use Rattle.operators.proofs.RuledOperands.{chosen, cut, givesBool, pair, truths, vectors, word-fits}
@@ -113,6 +114,24 @@ extracted =
           let c = cut (x .i) (x .j) a h in
           rw (← c .result) (word-fits (record { least = omega arith; most = omega (arith, c .most) }) (mod-below _ _));
     }
+
+-- The signed operators on two words of one width.
+module _ {n a b : ℕ} (w : Words n a b) where
+  bvsdiv-below : bvsdivValue n a b < 2 ^ n
+  bvsdiv-below =
+      by-signs-below n a b (bvudiv-below w) (mod-below n _) (mod-below n _) (bvudiv-below (record { first = negated (w .first); second = negated (w .second) }))
+
+  bvsrem-below : bvsremValue n a b < 2 ^ n
+  bvsrem-below =
+      by-signs-below n a b (bvurem-below w) (mod-below n _) (bvurem-below (record { first = w .first; second = negated (w .second) })) (mod-below n _)
+
+  bvsmod-below : bvsmodValue n a b < 2 ^ n
+  bvsmod-below =
+      let rest = bvurem-below (record { first = magnitude-word (w .first); second = magnitude-word (w .second) }) in
+      pick-below (eqb (bvuremValue (magnitude n a) (magnitude n b)) 0) rest (by-signs-below n a b rest (mod-below n _) (mod-below n _) (mod-below n _))
+
+  bvashr-below : bvashrValue n a b < 2 ^ n
+  bvashr-below = pick-below (negative n a) (bvnot-below n _) (bvlshr-below n b (w .first .below))
 
 -- Every row is closed.
 rows-closed : Each Closed operators

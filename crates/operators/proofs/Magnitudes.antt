@@ -9,9 +9,9 @@ use lib.Pow.{pow-lt}
 use borrow.Author.Tests.{eq-eqb, eqb-false, eqb-true, ne-eqb}
 use Rattle.forest.proofs.Bools.{apart}
 use Rattle.operators.specs.code.Vectors.{Width, Word, Words, signsDiffer}
-use Rattle.operators.specs.Values.{bvaddValue, bvlshrValue, bvnegValue, bvnotValue, bvsdivValue, bvsmodValue, bvsremValue, bvudivValue, bvuremValue}
-use Rattle.operators.specs.Values.{bvashrValue, bySigns, magnitude, negative, truth}
-use Rattle.operators.proofs.Below.{bvlshr-below, bvnot-below, bvudiv-below, bvurem-below, magnitude-word}
+use Rattle.operators.specs.Values.{bvaddValue, bvnegValue, bvsdivValue, bvsmodValue, bvsremValue, bvudivValue, bvuremValue}
+use Rattle.operators.specs.Values.{bySigns, magnitude, negative, truth}
+use Rattle.operators.proofs.Below.{bvudiv-below, bvurem-below, magnitude-word}
 use Rattle.operators.proofs.Powers.{neg-zero}
 
 -- The code's test of the highest bit.
@@ -129,15 +129,6 @@ module _ {n a b : ℕ} (w : Words n a b) {u : ℕ} {t : Bool} (eu : u ≡ bvsrem
   -- and where it is not
   pub modulus-kept : not (eqb u 0) && t ≡ false → u ≡ bvsmodValue n a b
   modulus-kept h = sym (by-modulus w ∙ rw (← eu, ← et, h) refl)
-
-module _ {n a : ℕ} (w : Word n a) (b : ℕ) {x y : ℕ} (ex : x ≡ bvnotValue n a) (ey : y ≡ bvlshrValue n x b) where
-  -- The complement of a word, shifted down, is a word.
-  pub shifted-word : Word n y
-  shifted-word = rw (ey, ex) (record { width = w .width; below = bvlshr-below n b (bvnot-below n a) })
-
-  -- `bvashr`, as computed of a negative number.
-  pub shifted-back : {r : ℕ} {t : Bool} → t ≡ negative n a → t ≡ true → r ≡ bvnotValue n y → r ≡ bvashrValue n a b
-  shifted-back et h er = rw (sym et ∙ h) (er ∙ rw (ey, ex) refl)
 
 module _ (n a b : ℕ) (u : Bool) {t : Bool} (et : t ≡ signsDiffer n a b) where
   -- A signed order where the signs differ: whether the first operand is negative.
