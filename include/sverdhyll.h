@@ -2,14 +2,14 @@
 
    Every function may be called with any bytes and any numbers. A text or a list is a pointer and a length; where the length is 0 the pointer is not read.
 
-   A call keeps nothing for the next one, so that several may run at once. It runs on the caller's stack: sverdhyll_check takes up to 1.4 MiB of it, whatever
-   it is given (measured at the limits of all inputs, docs/MEASUREMENTS.md). A thread of 2 MiB suffices; one of 1 MiB does not for every input, and a call that
-   needs more than there is ends the program.
+   A call keeps nothing for the next one, so that several may run at once. It runs on the caller's stack: sverdhyll_answer and sverdhyll_check take up to
+   1.5 MiB of it, whatever they are given (measured at the limits of all inputs, docs/MEASUREMENTS.md). A thread of 2 MiB suffices; one of 1 MiB does not for
+   every input, and a call that needs more than there is ends the program.
 
    Which static library has which function (`rt staticlib NAME` makes target/staticlib/libNAME.a; link one of them):
 
-     libchecker.a   sverdhyll_check, sverdhyll_word
-     libwords.a     sverdhyll_words, sverdhyll_word
+     libchecker.a   sverdhyll_answer, sverdhyll_check, sverdhyll_word, sverdhyll_position
+     libwords.a     sverdhyll_words, sverdhyll_word, sverdhyll_position
 
    ./install DIR puts libchecker.a to DIR/lib/libsverdhyll.a, with a file for pkg-config:
    cc $(pkg-config --cflags sverdhyll) .. $(pkg-config --libs sverdhyll) */
@@ -63,8 +63,22 @@ enum {
     SVERDHYLL_FIRST_ASSUMPTION = 64 /* answer 15 numbers assumptions from here */
 };
 
-/* Checks a response against a script at points within a budget. Returns the answer's number, and puts which text it speaks of, its place, its second number and
-   the units spent where `text`, `place`, `second` and `units` point (none of which may be NULL).
+/* The indexes of the numbers of an answer; the eight behind these are 0 until a later version uses them. */
+enum {
+    SVERDHYLL_NUMBER = 0,
+    SVERDHYLL_TEXT = 1,
+    SVERDHYLL_PLACE = 2,
+    SVERDHYLL_SECOND = 3,
+    SVERDHYLL_UNITS = 4,
+    SVERDHYLL_END = 5,
+    SVERDHYLL_LINE = 6,
+    SVERDHYLL_COLUMN = 7,
+    SVERDHYLL_ANSWER = 16 /* how many numbers an answer has */
+};
+
+/* Checks a response against a script at points within a budget. Returns the answer's number, and puts the sixteen numbers of the answer where `answer` points
+   (which may not be NULL): the number once more, which text it speaks of, its place, its second number and the units spent, and of its place the end, the line
+   and the column.
 
    `points` has one number for each declared variable, point after point; a Bool is 0 or 1. With no variables it is empty, and one empty point is taken.
 
@@ -108,12 +122,26 @@ enum {
 
    `shown` is the area; `shown_len` must be 32,768. After 0, 14 and 15 it shows a derivation of every function's body: the numbers of the rules, leftmost first,
    those of function k from entry 4,096 * k on; every entry that no list uses is 65,535. After any other answer every entry is 65,535. An area of another size
-   is unchanged, whatever the answer. */
+   is unchanged, whatever the answer.
+
+   Answers 2 to 9, 12 and 13 carry the end of the word at their place, which is the offset past it, and the line and the column of the place; in all other
+   answers these three are 0. Lines and columns count from 1, columns in bytes, and a line ends at byte 10 only. Where the place is a bracket, the end is one
+   past it; of a word past its size it is the end of the whole word. Where the place is the text's length, so is the end, and line and column are those after
+   the last byte: column 1 of the next line where that is byte 10, line 1 and column 1 of an empty text. */
+uint8_t sverdhyll_answer(const uint8_t *script, size_t script_len, const uint8_t *response, size_t response_len, const uint64_t *points, size_t points_len,
+                         uint64_t budget, uint16_t *shown, size_t shown_len, uint64_t answer[SVERDHYLL_ANSWER]);
+
+/* The same answer without end, line and column: returns its number, and puts which text it speaks of, its place, its second number and the units spent where
+   `text`, `place`, `second` and `units` point (none of which may be NULL). */
 uint8_t sverdhyll_check(const uint8_t *script, size_t script_len, const uint8_t *response, size_t response_len, const uint64_t *points, size_t points_len,
                         uint64_t budget, uint16_t *shown, size_t shown_len, uint8_t *text, uint64_t *place, uint64_t *second, uint64_t *units);
 
 /* The length of the word that starts at offset `at` of the text; 0 if no word starts there. */
 size_t sverdhyll_word(const uint8_t *text, size_t text_len, size_t at);
+
+/* Puts the line and the column of offset `place` of any text where `line` and `column` point (neither of which may be NULL), counted as those of an answer. A
+   place past the text's end has those of its end. The end of the word there is place + sverdhyll_word(text, text_len, place). */
+void sverdhyll_position(const uint8_t *text, size_t text_len, size_t place, uint64_t *line, uint64_t *column);
 
 /* Numbers of words in the table of `sverdhyll_words`. */
 enum {

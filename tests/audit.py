@@ -18,8 +18,8 @@ ROOT = os.path.join(HERE, "..")
 PAPER = os.path.join(ROOT, "docs", "AUDIT.md")
 
 # The calls that are sold, with those for C in the same files, and how many steps are enough for the reader of words.
-CHECKER = (("checker", "lib", ("check",)), ("checker", "exports", ()))
-READER = (("words", "lib", ("read_words", "word_at")),)
+CHECKER = (("checker", "lib", ("check", "answer")), ("checker", "exports", ()))
+READER = (("words", "lib", ("read_words", "word_at")), ("words", "positions", ("position", "end_of")))
 READER_STEPS = 2
 
 # The module in which the definitions find the types of src/.
@@ -31,7 +31,7 @@ SPECS = re.compile(r"Rattle·(\w+)(?:·specs)?\.specs\.(.+)")
 NAME = re.compile(r"[\w·'′₀-₉!?-]+")
 START = re.compile(r"^(?:abbrev |unfoldable )?pub (?!use |mod )(?:record |data )?([\w·'!-]+)")
 CASE = re.compile(r"^  ([\w'!-]+) :", re.MULTILINE)
-STATEMENT = re.compile(r"^pub (\S+) :.*\n(?: .*\n)*", re.MULTILINE)
+STATEMENT = re.compile(r"^( *)pub (\S+) :.*\n(?:\1 .*\n)*", re.MULTILINE)
 CONTRACT = re.compile(r'^pub (?:extern "C" )?fn (\w+).*\n(?:[^{\n].*\n)*', re.MULTILINE)
 TYPE = re.compile(r"^pub (?:struct|enum) (\w+) \{\n(?: .*\n)*\}", re.MULTILINE)
 RUST_USE = re.compile(r"^use (\w+)::(?:\w+::)*(\w+);", re.MULTILINE)
@@ -138,11 +138,21 @@ def reached(files, types, roots):
     return found
 
 
+def heads_above(text, place, depth):
+    """The heads of the modules around a place of a text that stands so many blanks deep: what is assumed there is part of a statement."""
+    heads = ""
+    for line in reversed(text[:place].split("\n")):
+        blanks = len(line) - len(line.lstrip())
+        if line.strip() and blanks < depth:
+            heads, depth = line + "\n" + heads, blanks
+    return heads
+
+
 def statements(paper):
     """The theorems that docs/AUDIT.md names, each with its statement and what its file imports."""
     for crate, file, names in THEOREMS.findall(paper):
         text = text_of("crates", crate, "proofs", file + ".antt")
-        found = {statement.group(1): statement.group() for statement in STATEMENT.finditer(text)}
+        found = {one.group(2): heads_above(text, one.start(), len(one.group(1))) + one.group() for one in STATEMENT.finditer(text)}
         yield from ((name, found.get(name, ""), imports_of(text)) for name in names.split(", "))
 
 

@@ -5,8 +5,9 @@ A text may have the mark § in it, which is no part of it: it stands at the answ
 """
 from collections import namedtuple
 
-# A script, a response, points, a budget and the size of the area, with the answer: its number, text, place, second number and units.
-Case = namedtuple("Case", "name script response points budget area answer")
+# A script, a response, points, a budget and the size of the area, with the answer: its number, text, place, second number and units; and what it carries, an end,
+# a line and a column, where the case says it.
+Case = namedtuple("Case", "name script response points budget area answer location", defaults=[None])
 
 AREA = 32768
 MOST_BUDGET = 2 ** 64 - 1
@@ -62,7 +63,7 @@ def case(script, response, answer, points=(), budget=100, area=AREA, name=""):
     if answer[2] is None:
         text = 0 if MARK in script else 1
         answer = (answer[0], text, (script, response)[text].index(MARK)) + answer[3:]
-    texts = [unmarked(text).encode("ascii") for text in (script, response)]
+    texts = [unmarked(text).encode("latin-1") for text in (script, response)]
     return Case(name, texts[0], texts[1], tuple(points), budget, area, answer)
 
 

@@ -1,10 +1,11 @@
 #!/usr/bin/env python3
-"""The crate test_decided's tables of decided readings and of limits: tests/decided.py [--check]
+"""The crate test_decided's tables of decided readings, of limits and of places: tests/decided.py [--check]
 
 Writes crates/test_decided/proofs/Readings.antt from tests/readings.jsonl: the readings whose texts have no fault in a word and at most 200 printable bytes each, without
 comments. Writes proofs/Limits.antt from crates/test_vectors: the records at the limits on commands, arguments, non-terminals, rules, nodes, operands, and digits and widths
-of constants, and one past them. Each is proved of the definitions by its answer's number and the index of the word at its place. With --check it says whether these
-files are what it would write.
+of constants, and one past them. Each is proved of the definitions by its answer's number and the index of the word at its place. Writes proofs/Located.antt from the
+readings and the records on places (tests/located.py) whose answers carry an end, a line and a column, of texts of at most 200 bytes, whatever these are. With --check it
+says whether these files are what it would write.
 """
 import glob
 import json
@@ -37,7 +38,7 @@ FAULTY = re.compile(r"[^ ()]{65,}|(?<![^ ()])[0-9]{10,}|#x[0-9a-fA-F]{17,}|#b[01
 UNFOLDED = ("forest", "word_kinds", "words", "operators", "terms", "derivation", "lexemes", "shapes", "term_sorts", "written_sorts", "term_nodes", "names",
             "term_faults", "headers", "grammars", "script")
 UNREACHED = {("terms", "Costs"), ("terms", "Values"), ("words", "Answers"), ("words", "Limits"), ("words", "Reading"), ("derivation", "Derivation"),
-             ("derivation", "Answer"), ("script", "Outcome"), ("forest", "Tables"), ("words", "Table")}
+             ("derivation", "Answer"), ("script", "Outcome"), ("forest", "Tables"), ("words", "Table"), ("words", "Positions")}
 LEFT_OUT = {"sortsOf", "operatorValue", "enquired"}
 
 # Definitions of one name in two files: the kinds of words are imported under another.
@@ -54,6 +55,45 @@ LIMITS_HEAD = """\
 -- "The limit itself passes; one more is refused": texts at the limits on commands, arguments, non-terminals, rules, nodes, operands, and digits and widths of constants
 -- and one past them, computed from the definitions. A place is a word.
 """
+
+LOCATED = """\
+-- Places of decided readings and of other texts, computed from the definitions: the end of the word there, the line and the column, one table under one statement.
+use Prim.Native.Nat.{ℕ}
+use Prim.Native.String.{String}
+use mathlib.Core.List.{List, [], _∷_, map}
+use mathlib.Core.Path.{_≡_, refl}
+use Rattle.forest.specs.Lists.{spelling}
+use Rattle.words.specs.Positions.{columnOf, endOf, inLastLine, lineOf, linesEnded}
+use Rattle.words.specs.Spans.{runEnd, startsFrom, wordEnd, wordStarts}
+use Rattle.words.specs.Words.{bytesAt, enquired}
+
+-- A place of a text, and what is carried of it: an end, a line and a column.
+pub record Place : Type 0 where
+  pub text : String
+  pub place : ℕ
+  pub numbers : List ℕ
+
+-- One row of the table.
+abbrev pub row : (text : String) → (place end line column : ℕ) → Place
+row t p e l c = record { text = t; place = p; numbers = e ∷ l ∷ c ∷ [] }
+
+-- What the definitions say of a place of a text.
+abbrev pub placed : (text : List ℕ) → (place : ℕ) → List ℕ
+placed text place = endOf text place ∷ lineOf text place ∷ columnOf text place ∷ []
+
+-- The places.
+abbrev places : List Place
+places =
+    %s
+
+-- The definitions say so of every one of them.
+pub located : map (λ (p : Place). placed (spelling (p .text)) (p .place)) places ≡ map (λ (p : Place). p .numbers) places
+unfolding bytesAt columnOf endOf enquired inLastLine lineOf linesEnded runEnd startsFrom wordEnd wordStarts
+located = refl
+"""
+
+# How a quoted text writes bytes that are no characters of their own.
+QUOTED = {0: "\\0", 9: "\\t", 10: "\\n", 13: "\\r", 34: "\\\"", 92: "\\\\"}
 
 HEAD = """\
 use Prim.Native.Nat.{ℕ}
@@ -171,17 +211,50 @@ def readings():
     return list({case[:2]: case for case in given if case}.values())
 
 
+# Records
+
+def records():
+    """The name, the script, the response and the answer of each record, the texts in hexadecimal."""
+    with open(os.path.join(RECORDS, "stdin"), encoding="ascii") as given, open(os.path.join(RECORDS, "stdout"), encoding="ascii") as written:
+        for record, line in zip(given, written):
+            yield *record.split()[:3], [int(number) for number in line.split(" answer ")[1].split(" area ")[0].split()]
+
+
 def limits():
     """The cases of the records at the limits, by their kind."""
     found = {}
-    with open(os.path.join(RECORDS, "stdin"), encoding="ascii") as given, open(os.path.join(RECORDS, "stdout"), encoding="ascii") as written:
-        for record, line in zip(given, written):
-            name, script, response = record.split()[:3]
-            kind = AT_LIMIT.fullmatch(name)
-            if kind:
-                answer = [int(number) for number in line.split(" answer ")[1].split()[:3]]
-                found.setdefault(kind.group(1), []).append(case_of(script, response, answer, LONGEST_AT_LIMIT))
+    for name, script, response, answer in records():
+        kind = AT_LIMIT.fullmatch(name)
+        if kind:
+            found.setdefault(kind.group(1), []).append(case_of(script, response, answer, LONGEST_AT_LIMIT))
     return found
+
+
+# Places
+
+def quoted(text):
+    """The bytes of a text as a quoted text has them, in the layout of `rt fmt`: a character is the byte of its number."""
+    return '"%s"' % "".join(QUOTED.get(byte) or (chr(byte) if chr(byte).isprintable() else "\\u{%x}" % byte) for byte in text)
+
+
+def carrying():
+    """The two texts of each reading and of each record on places, with the answer's text and place and what it carries."""
+    with open(READINGS, encoding="utf-8") as lines:
+        for reading in map(json.loads, lines):
+            yield reading["script"], reading["response"], *reading["answer"][1:3], reading["end_line_column"]
+    for name, script, response, answer in records():
+        if name.startswith("located-"):
+            yield script.strip("-"), response.strip("-"), *answer[1:3], answer[5:]
+
+
+def places():
+    """The text, the place, the end, the line and the column of each answer that carries them, each place once."""
+    found = {}
+    for script, response, of, place, numbers in carrying():
+        text = bytes.fromhex((script, response)[of]) if any(numbers) else None
+        if text is not None and len(text) <= LONGEST:
+            found[text, place] = numbers
+    return [(quoted(text), place, *numbers) for (text, place), numbers in found.items()]
 
 
 # The files
@@ -231,7 +304,10 @@ def files():
     decided = table("The readings.", "readings", "decided", readings(), names)
     held = "".join(table("The limit on %s." % kind.replace("-", " "), kind + "-texts", kind + "-held", cases, names) for kind, cases in limits().items())
     own = "use Rattle.test_decided.proofs.Readings.{Reading, bodiesAnswer, bothAnswer, defined, row, textsAnswer}\n"
-    return {"Readings.antt": READINGS_HEAD + HEAD + uses + DEFINITIONS.rstrip("\n") + "\n" + decided, "Limits.antt": LIMITS_HEAD + HEAD + uses + own + held}
+    located = LOCATED % "\n    ∷ ".join(["row %s %d %d %d %d" % place for place in places()] + ["[]"])
+    return {
+        "Readings.antt": READINGS_HEAD + HEAD + uses + DEFINITIONS.rstrip("\n") + "\n" + decided, "Limits.antt": LIMITS_HEAD + HEAD + uses + own + held,
+        "Located.antt": located}
 
 
 def main():

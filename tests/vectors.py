@@ -1,11 +1,12 @@
 #!/usr/bin/env python3
 """The records of the program `test_vectors` and what it must write of them: tests/vectors.py [--check]
 
-It takes the readings of readings.jsonl, texts of its own whose words decide, and the cases of cases.py, operands.py, constants.py, signed.py, assumed.py and
-limits.py, and writes crates/test_vectors/stdin and crates/test_vectors/stdout; with --check it only says whether these two files are what it would write, and
-replays every list of rules in them (derivations.py). What the words of a text are is said by words.py, which is held to each reading whose answer arises from
-words. The checker's answer is that of the reading, or is known from how a text is made; the list shown is the one derivation that there is. The last records are names that
-are nearly known words (nearly.py).
+It takes the readings of readings.jsonl, texts of its own whose words decide, and the cases of cases.py, operands.py, constants.py, signed.py, assumed.py,
+located.py and limits.py, and writes crates/test_vectors/stdin and crates/test_vectors/stdout; with --check it only says whether these two files are what it would
+write, and replays every list of rules in them (derivations.py). What the words of a text are is said by words.py, which is held to each reading whose answer arises
+from words. The checker's answer is that of the reading, or is known from how a text is made; the list shown is the one derivation that there is. The end, the line
+and the column that an answer carries are computed by words.py from its text and its place, and held to what the readings and the cases of located.py say of them.
+The last records are names that are nearly known words (nearly.py).
 """
 import json
 import os
@@ -18,6 +19,7 @@ from assumed import all_assumed
 from cases import AREA, Case, all_cases
 from constants import all_constants
 from limits import all_limits
+from located import all_located
 from nearly import all_nearly
 from operands import all_operands
 from signed import all_signed
@@ -26,11 +28,14 @@ from words import RESPONSE, SCRIPT
 HERE = os.path.dirname(os.path.abspath(__file__))
 CRATE = os.path.join(HERE, "..", "crates", "test_vectors")
 MOST_INPUT = 2800000
-READINGS_FROM_WORDS = 37
+READINGS_FROM_WORDS = 43
 
 # Answers to texts that both pass, and those of them that show derivations.
 JUDGED = (0, 13, 14, 15, 16)
 SHOWING = (0, 14, 15)
+
+# "Answers 2 to 9, 12 and 13 carry the new numbers; .. the other answers carry 0." (E6)
+CARRYING = (2, 3, 4, 5, 6, 7, 8, 9, 12, 13)
 
 # The list that is shown where there are several derivations, by record and function: of two equal rules the first.
 CHOSEN = {("reading-246", 0): [0]}
@@ -207,9 +212,10 @@ def answer_of_words(script, response):
 
 
 def records_of_readings():
-    """The readings, each with its answer."""
+    """The readings, each with its answer and what that carries."""
     for reading, script, response in readings():
-        yield Case("reading-%s" % reading["item"], script, response, tuple(reading["points"]), reading["budget"], reading["area_len"], tuple(reading["answer"]))
+        answer, location = tuple(reading["answer"]), tuple(reading["end_line_column"])
+        yield Case("reading-%s" % reading["item"], script, response, tuple(reading["points"]), reading["budget"], reading["area_len"], answer, location)
 
 
 def records_of_words():
@@ -232,6 +238,7 @@ def records():
     yield from all_constants()
     yield from all_signed()
     yield from all_assumed()
+    yield from all_located()
     yield from all_limits()
     yield from all_nearly()
 
@@ -285,6 +292,15 @@ def area_of(record):
     return "/".join(",".join(map(str, numbers)) for numbers in lists)
 
 
+def location_of(record):
+    """The end, the line and the column that the answer of a record carries; it stops where the record says that they are others."""
+    number, text, place = record.answer[:3]
+    found = words.location((record.script, record.response)[text], place) if number in CARRYING else (0, 0, 0)
+    if record.location not in (None, found):
+        sys.exit("%s: words.py has %s, the record %s" % (record.name, found, record.location))
+    return found
+
+
 def given_line(record):
     """The line of standard input for a record."""
     points = ",".join("%x" % n for n in record.points)
@@ -295,7 +311,7 @@ def given_line(record):
 def wanted_line(record):
     """The line that is to be written of a record."""
     texts = "script %s response %s" % (report(record.script, SCRIPT), report(record.response, RESPONSE))
-    return "%s %s answer %d %d %d %d %d area %s\n" % ((record.name, texts) + record.answer + (area_of(record),))
+    return "%s %s answer %d %d %d %d %d %d %d %d area %s\n" % ((record.name, texts) + record.answer + location_of(record) + (area_of(record),))
 
 
 def files():

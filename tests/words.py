@@ -113,3 +113,12 @@ def word_at(text, place):
         if start == place:
             return text[start:end]
     return b""
+
+
+def location(text, place):
+    """The end of the word that starts at a place, which is the place itself where none does, and the place's line and column.
+
+    "Its line and column, from 1, a line ending at byte 10 only"; "a place at the text's end has the line and column after the last byte" (E6).
+    """
+    lines = text[:place].split(b"\n")
+    return place + len(word_at(text, place)), len(lines), len(lines[-1]) + 1

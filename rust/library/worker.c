@@ -1,8 +1,9 @@
 /* The worker: the proved checker behind two pipes, for machines that cannot run its code themselves (see src/worker.rs).
    A frame is eight bytes with a length, low byte first, then so many bytes. When it is ready it sends the frame "sverdhyll" and one with the digest of the
    library (SHA-256, LIBRARY below, in hexadecimal). Then it reads requests and answers each:
-   "check", script, response, points, budget, area: two bytes with number and text, place, second number, units, and the area, a frame each;
-   "word", text, offset: the length of the word that starts there.
+   "check", script, response, points, budget, area: the sixteen numbers of the answer, and the area, a frame each;
+   "word", text, offset: the length of the word that starts there;
+   "position", text, offset: the offset past the word that starts there, the line and the column, in one frame.
    It ends as soon as nobody can write to standard input any more, also in the middle of a check: however the process that started it ends, it ends too.
    Its machine is x86-64, so numbers in memory have their low byte first, as in the frames. */
 #include <poll.h>
@@ -50,31 +51,58 @@ static int is(const struct frame *frame, const char *word)
 static int check(void)
 {
     static struct frame script, response, points, budget, area;
-    uint8_t head[2];
-    uint64_t place, second, units;
+    uint64_t answer[SVERDHYLL_ANSWER];
 
     if (!receive(&script) || !receive(&response) || !receive(&points) || !receive(&budget) || !receive(&area)) return 0;
     if (budget.length != sizeof(uint64_t)) return 0;
-    head[0] = sverdhyll_check(script.bytes, script.length, response.bytes, response.length, points.bytes, points.length / sizeof(uint64_t),
-                              *(uint64_t *)budget.bytes, area.bytes, area.length / sizeof(uint16_t), &head[1], &place, &second, &units);
-    send(head, sizeof head);
-    send(&place, sizeof place);
-    send(&second, sizeof second);
-    send(&units, sizeof units);
+    sverdhyll_answer(script.bytes, script.length, response.bytes, response.length, points.bytes, points.length / sizeof(uint64_t),
+                     *(uint64_t *)budget.bytes, area.bytes, area.length / sizeof(uint16_t), answer);
+    send(answer, sizeof answer);
     send(area.bytes, area.length);
     return 1;
 }
 
-/* Reads what an enquiry takes, and answers; returns 0 where standard input ends. */
+/* Reads what an enquiry takes; returns 0 where standard input ends. */
+static int enquired(struct frame *text, uint64_t *at)
+{
+    static struct frame offset;
+
+    if (!receive(text) || !receive(&offset) || offset.length != sizeof *at) return 0;
+    *at = *(uint64_t *)offset.bytes;
+    return 1;
+}
+
+/* Answers an enquiry for a word; returns 0 where standard input ends. */
 static int word(void)
 {
-    static struct frame text, at;
-    uint64_t length;
+    static struct frame text;
+    uint64_t at, length;
 
-    if (!receive(&text) || !receive(&at) || at.length != sizeof(uint64_t)) return 0;
-    length = sverdhyll_word(text.bytes, text.length, *(uint64_t *)at.bytes);
+    if (!enquired(&text, &at)) return 0;
+    length = sverdhyll_word(text.bytes, text.length, at);
     send(&length, sizeof length);
     return 1;
+}
+
+/* Answers an enquiry for a place; returns 0 where standard input ends. */
+static int position(void)
+{
+    static struct frame text;
+    uint64_t at, found[3];
+
+    if (!enquired(&text, &at)) return 0;
+    found[0] = at + sverdhyll_word(text.bytes, text.length, at);
+    sverdhyll_position(text.bytes, text.length, at, &found[1], &found[2]);
+    send(found, sizeof found);
+    return 1;
+}
+
+/* Answers a request; returns 0 where it is none, or standard input ends. */
+static int served(const struct frame *request)
+{
+    if (is(request, "check")) return check();
+    if (is(request, "word")) return word();
+    return is(request, "position") && position();
 }
 
 /* Ends the process when standard input has nobody left who can write to it. */
@@ -97,8 +125,7 @@ int main(void)
     send(LIBRARY, strlen(LIBRARY));
     fflush(stdout);
     while (receive(&request)) {
-        if (!(is(&request, "check") ? check() : is(&request, "word") && word())) return 1;
-        if (fflush(stdout)) return 1;
+        if (!served(&request) || fflush(stdout)) return 1;
     }
     return 0;
 }

@@ -9,10 +9,10 @@
 
 #include "sverdhyll.h"
 
-/* An answer: its number, its text, its place, its second number and the units spent. */
+/* An answer: its number, its text, its place, its second number and the units spent; of `sverdhyll_answer` also the end, the line and the column. */
 struct answer {
     uint8_t number, text;
-    uint64_t place, second, units;
+    uint64_t place, second, units, end, line, column;
 };
 
 /* The area of every call, with two entries behind it. */
@@ -22,10 +22,24 @@ static uint16_t area[SVERDHYLL_AREA + 2];
 static inline struct answer check_all(const char *script, size_t script_size, const char *response, size_t response_size, const uint64_t *points, size_t count,
                                       uint64_t budget, uint16_t *shown, size_t size)
 {
-    struct answer a = {99, 99, 99, 99, 99};
+    struct answer a = {99, 99, 99, 99, 99, 0, 0, 0};
     a.number = sverdhyll_check((const uint8_t *)script, script_size, (const uint8_t *)response, response_size, points, count, budget, shown, size, &a.text,
                                &a.place, &a.second, &a.units);
     return a;
+}
+
+/* The same by `sverdhyll_answer`; an answer that is not formed as the header says has the number 99. */
+static inline struct answer answer_all(const char *script, size_t script_size, const char *response, size_t response_size, const uint64_t *points, size_t count,
+                                       uint64_t budget, uint16_t *shown, size_t size)
+{
+    uint64_t n[SVERDHYLL_ANSWER];
+    memset(n, 99, sizeof n);
+    const uint8_t number = sverdhyll_answer((const uint8_t *)script, script_size, (const uint8_t *)response, response_size, points, count, budget, shown,
+                                            size, n);
+    int formed = n[SVERDHYLL_NUMBER] == number && n[SVERDHYLL_TEXT] <= SVERDHYLL_NONE;
+    for (int i = SVERDHYLL_COLUMN + 1; i < SVERDHYLL_ANSWER; i++) formed &= n[i] == 0;
+    return (struct answer){formed ? number : 99, (uint8_t)n[SVERDHYLL_TEXT], n[SVERDHYLL_PLACE], n[SVERDHYLL_SECOND], n[SVERDHYLL_UNITS],
+                           n[SVERDHYLL_END], n[SVERDHYLL_LINE], n[SVERDHYLL_COLUMN]};
 }
 
 /* A call with two texts, no points and the area. */
@@ -34,10 +48,16 @@ static inline struct answer check_texts(const char *script, const char *response
     return check_all(script, strlen(script), response, strlen(response), NULL, 0, budget, area, SVERDHYLL_AREA);
 }
 
-/* Whether an answer is as given. */
+/* Whether an answer is as given, but for the end, the line and the column. */
 static inline int is_answer(struct answer a, uint8_t number, uint8_t text, uint64_t place, uint64_t second, uint64_t units)
 {
     return a.number == number && a.text == text && a.place == place && a.second == second && a.units == units;
+}
+
+/* Whether the end, the line and the column of an answer are as given. */
+static inline int is_at(struct answer a, uint64_t end, uint64_t line, uint64_t column)
+{
+    return a.end == end && a.line == line && a.column == column;
 }
 
 /* How many entries the list of a function has, if all behind it up to the next list are unused; else -1. */

@@ -1,4 +1,4 @@
-/* The checker, called from C: what include/sverdhyll.h says, with a case for each answer. */
+/* The checker, called from C in both ways: what include/sverdhyll.h says, with a case for each answer. */
 #include "calls.h"
 
 #define SCRIPT(commands) "(set-logic BV)" commands "(check-synth)"
@@ -42,12 +42,29 @@ static int behind_stays(void)
     return area[SVERDHYLL_AREA] == 4660 && area[SVERDHYLL_AREA + 1] == 4660;
 }
 
-/* A refusal of either text: the answer, an area that shows nothing, and nothing behind it changed. */
+/* Both calls, with the area or none: they must agree, and leave the same in and behind the area. */
+static struct answer asked(const char *script, size_t script_size, const char *response, size_t response_size, const uint64_t *points, size_t count,
+                           uint64_t budget, uint16_t *shown, size_t size)
+{
+    static uint16_t other[SVERDHYLL_AREA + 2];
+    memcpy(other, area, sizeof other);
+    const struct answer a = answer_all(script, script_size, response, response_size, points, count, budget, shown ? other : NULL, size);
+    const struct answer b = check_all(script, script_size, response, response_size, points, count, budget, shown, size);
+    const int carries = (2 <= a.number && a.number <= 9) || a.number == 12 || a.number == 13;
+    expect("both calls agree", is_answer(b, a.number, a.text, a.place, a.second, a.units) && memcmp(area, other, sizeof other) == 0);
+    expect("which answers carry a line", carries ? a.line > 0 && a.column > 0 : is_at(a, 0, 0, 0));
+    return a;
+}
+
+/* A refusal of either text, which has one line: the answer, an area that shows nothing, and nothing behind it changed. */
 static void refused(const char *what, const char *script, const char *response, uint8_t number, uint8_t text, uint64_t place, uint64_t second)
 {
+    const char *faulty = text == SVERDHYLL_SCRIPT ? script : response;
     fill(4660);
-    const struct answer a = check_texts(script, response, 100);
+    const struct answer a = asked(script, strlen(script), response, strlen(response), NULL, 0, 100, area, SVERDHYLL_AREA);
     expect(what, is_answer(a, number, text, place, second, 0) && is_blank() && behind_stays());
+    if (number == SVERDHYLL_FAIL || number == SVERDHYLL_INFEASIBLE) return;
+    expect(what, is_at(a, place + sverdhyll_word((const uint8_t *)faulty, strlen(faulty), place), 1, place + 1));
 }
 
 /* An answer that shows the derivation 1, 0 of (not x). */
@@ -55,7 +72,7 @@ static void shows(const char *what, const char *script, const uint64_t *points, 
 {
     const char *response = RESPONSE("(not x)");
     fill(4660);
-    const struct answer a = check_all(script, strlen(script), response, strlen(response), points, count, budget, area, SVERDHYLL_AREA);
+    const struct answer a = asked(script, strlen(script), response, strlen(response), points, count, budget, area, SVERDHYLL_AREA);
     expect(what, is_answer(a, wanted.number, wanted.text, wanted.place, wanted.second, wanted.units));
     expect(what, list_size(0) == 2 && area[0] == 1 && area[1] == 0 && list_size(1) == 0 && list_size(7) == 0 && behind_stays());
 }
@@ -96,12 +113,12 @@ static void points(void)
 {
     const char *script = SCRIPT(F V "(constraint (= (f v) (not v)))" "(constraint (not v))");
     const uint64_t good[3] = {0, 0, 0}, late[3] = {0, 0, 1}, bad[3] = {0, 1, 2};
-    shows("three points are accepted", script, good, 3, 100, (struct answer){SVERDHYLL_ACCEPTED, SVERDHYLL_NONE, 0, 3, 27});
-    shows("no points are accepted", script, NULL, 0, 0, (struct answer){SVERDHYLL_ACCEPTED, SVERDHYLL_NONE, 0, 0, 0});
-    shows("a false constraint is 14", script, late, 3, 100, (struct answer){SVERDHYLL_FALSE, SVERDHYLL_POINTS, 2, 1, 27});
-    shows("a budget that ends is 15", script, good, 3, 26, (struct answer){SVERDHYLL_BUDGET_ENDED, SVERDHYLL_POINTS, 2, 1, 25});
+    shows("three points are accepted", script, good, 3, 100, (struct answer){SVERDHYLL_ACCEPTED, SVERDHYLL_NONE, 0, 3, 27, 0, 0, 0});
+    shows("no points are accepted", script, NULL, 0, 0, (struct answer){SVERDHYLL_ACCEPTED, SVERDHYLL_NONE, 0, 0, 0, 0, 0, 0});
+    shows("a false constraint is 14", script, late, 3, 100, (struct answer){SVERDHYLL_FALSE, SVERDHYLL_POINTS, 2, 1, 27, 0, 0, 0});
+    shows("a budget that ends is 15", script, good, 3, 26, (struct answer){SVERDHYLL_BUDGET_ENDED, SVERDHYLL_POINTS, 2, 1, 25, 0, 0, 0});
     fill(4660);
-    const struct answer a = check_all(script, strlen(script), RESPONSE("x"), strlen(RESPONSE("x")), bad, 3, 100, area, SVERDHYLL_AREA);
+    const struct answer a = asked(script, strlen(script), RESPONSE("x"), strlen(RESPONSE("x")), bad, 3, 100, area, SVERDHYLL_AREA);
     expect("a number outside its sort is 16", is_answer(a, SVERDHYLL_BAD_POINTS, SVERDHYLL_POINTS, 2, 0, 0) && is_blank() && behind_stays());
 }
 
@@ -115,17 +132,17 @@ static void sizes(void)
     struct answer a;
     memset(text, ' ', sizeof text);
     fill(4660);
-    a = check_all(text, SVERDHYLL_MOST_SCRIPT + 1, response, most, NULL, 0, 0, area, SVERDHYLL_AREA);
+    a = asked(text, SVERDHYLL_MOST_SCRIPT + 1, response, most, NULL, 0, 0, area, SVERDHYLL_AREA);
     expect("a script too long is 1", is_answer(a, SVERDHYLL_TOO_LONG, SVERDHYLL_SCRIPT, SVERDHYLL_MOST_SCRIPT + 1, 0, 0) && is_blank() && behind_stays());
-    a = check_all(script, size, text, SVERDHYLL_MOST_RESPONSE + 1, NULL, 0, 0, area, SVERDHYLL_AREA);
+    a = asked(script, size, text, SVERDHYLL_MOST_RESPONSE + 1, NULL, 0, 0, area, SVERDHYLL_AREA);
     expect("a response too long is 1", is_answer(a, SVERDHYLL_TOO_LONG, SVERDHYLL_RESPONSE, SVERDHYLL_MOST_RESPONSE + 1, 0, 0));
-    a = check_all(script, size, response, most, numbers, SVERDHYLL_MOST_POINTS + 1, 0, area, SVERDHYLL_AREA);
+    a = asked(script, size, response, most, numbers, SVERDHYLL_MOST_POINTS + 1, 0, area, SVERDHYLL_AREA);
     expect("too many numbers are 1", is_answer(a, SVERDHYLL_TOO_LONG, SVERDHYLL_POINTS, SVERDHYLL_MOST_POINTS + 1, 0, 0));
     for (size_t lent = SVERDHYLL_AREA - 1; lent <= SVERDHYLL_AREA + 1; lent += 2) {
         fill(4660);
-        a = check_all(script, size, response, most, NULL, 0, 100, area, lent);
+        a = asked(script, size, response, most, NULL, 0, 100, area, lent);
         expect("an area of wrong size is 1", is_answer(a, SVERDHYLL_TOO_LONG, SVERDHYLL_NONE, lent, 0, 0));
-        check_all(text, SVERDHYLL_MOST_SCRIPT + 1, response, most, NULL, 0, 0, area, lent);
+        asked(text, SVERDHYLL_MOST_SCRIPT + 1, response, most, NULL, 0, 0, area, lent);
         expect("an area of wrong size is unchanged", all_are(4660));
     }
 }
@@ -133,9 +150,9 @@ static void sizes(void)
 /* Texts, points and areas of no bytes, at no address. */
 static void nothing(void)
 {
-    expect("nothing at all", is_answer(check_all(NULL, 0, NULL, 0, NULL, 0, 0, NULL, 0), SVERDHYLL_TOO_LONG, SVERDHYLL_NONE, 0, 0, 0));
-    expect("no script", is_answer(check_all(NULL, 0, NULL, 0, NULL, 0, 0, area, SVERDHYLL_AREA), SVERDHYLL_UNKNOWN_SHAPE, SVERDHYLL_SCRIPT, 0, 0, 0));
-    const struct answer a = check_all(SCRIPT(F), strlen(SCRIPT(F)), NULL, 0, NULL, 0, 0, area, SVERDHYLL_AREA);
+    expect("nothing at all", is_answer(asked(NULL, 0, NULL, 0, NULL, 0, 0, NULL, 0), SVERDHYLL_TOO_LONG, SVERDHYLL_NONE, 0, 0, 0));
+    expect("no script", is_answer(asked(NULL, 0, NULL, 0, NULL, 0, 0, area, SVERDHYLL_AREA), SVERDHYLL_UNKNOWN_SHAPE, SVERDHYLL_SCRIPT, 0, 0, 0));
+    const struct answer a = asked(SCRIPT(F), strlen(SCRIPT(F)), NULL, 0, NULL, 0, 0, area, SVERDHYLL_AREA);
     expect("no response", is_answer(a, SVERDHYLL_UNKNOWN_SHAPE, SVERDHYLL_RESPONSE, 0, 0, 0) && is_blank());
 }
 

@@ -1,5 +1,5 @@
 /* How much stack a call of the checker needs at document 01's limits: calls on a thread of 2 MiB, each of which must give its answer. Prints for each how much
-   of the stack was touched. */
+   of the stack was touched, by `sverdhyll_check` and by `sverdhyll_answer`. */
 #include <pthread.h>
 
 #include "calls.h"
@@ -11,16 +11,22 @@ static struct text script, response;
 static struct answer given;
 static unsigned char *stack;
 
-/* The call, on the thread. */
-static void *call(void *unused)
+/* The first call, on the thread. */
+static void *check(void *unused)
 {
-    (void)unused;
     given = check_all(script.bytes, script.size, response.bytes, response.size, NULL, 0, UINT64_MAX, area, SVERDHYLL_AREA);
-    return NULL;
+    return unused;
 }
 
-/* Makes the call on a painted stack, prints how much of it was touched, and says whether the answer is this number with so many units. */
-static int measure(const char *what, uint8_t number, uint64_t units)
+/* The second call, on the thread. */
+static void *answer(void *unused)
+{
+    given = answer_all(script.bytes, script.size, response.bytes, response.size, NULL, 0, UINT64_MAX, area, SVERDHYLL_AREA);
+    return unused;
+}
+
+/* Makes a call on a painted stack; returns how much of it was touched. */
+static size_t touched(void *(*call)(void *))
 {
     pthread_t thread;
     pthread_attr_t attributes;
@@ -28,11 +34,20 @@ static int measure(const char *what, uint8_t number, uint64_t units)
     memset(stack, PAINT, STACK);
     pthread_attr_init(&attributes);
     pthread_attr_setstack(&attributes, stack, STACK);
-    if (pthread_create(&thread, &attributes, call, NULL) || pthread_join(thread, NULL)) return 0;
+    if (pthread_create(&thread, &attributes, call, NULL) || pthread_join(thread, NULL)) return STACK;
     while (untouched < STACK && stack[untouched] == PAINT) untouched++;
-    printf("%s (%zu and %zu words): answer %d, units %llu, stack used %zu KiB of %d KiB\n", what, script.words, response.words, given.number,
-           (unsigned long long)given.units, (STACK - untouched) / 1024, STACK / 1024);
-    return untouched > 0 && given.number == number && given.units == units;
+    return STACK - untouched;
+}
+
+/* Makes both calls, prints how much of the stack each touched, and says whether each answer is this number with so many units. */
+static int measure(const char *what, uint8_t number, uint64_t units)
+{
+    const size_t first = touched(check);
+    const int checked = given.number == number && given.units == units;
+    const size_t second = touched(answer);
+    printf("%s (%zu and %zu words): answer %d, units %llu, stack used %zu and %zu KiB of %d KiB\n", what, script.words, response.words, given.number,
+           (unsigned long long)given.units, first / 1024, second / 1024, STACK / 1024);
+    return first < STACK && second < STACK && checked && given.number == number && given.units == units;
 }
 
 /* Begins both texts. */

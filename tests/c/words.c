@@ -19,6 +19,14 @@ static size_t word(const char *text, size_t at)
     return sverdhyll_word((const uint8_t *)text, strlen(text), at);
 }
 
+/* Whether a place of a text has this line and this column. */
+static int stands(const char *text, size_t place, uint64_t line, uint64_t column)
+{
+    uint64_t found[2] = {99, 99};
+    sverdhyll_position((const uint8_t *)text, strlen(text), place, &found[0], &found[1]);
+    return found[0] == line && found[1] == column;
+}
+
 static uint8_t words(const char *text, uint32_t *table, size_t rows, uint64_t *values, size_t *place, size_t *count)
 {
     return sverdhyll_words((const uint8_t *)text, strlen(text), 100, 10, 2, table, SVERDHYLL_ROW * rows, values, rows, place, count);
@@ -36,6 +44,9 @@ int main(void)
     expect("no word starts in a comment", word(";(ab", 1) == 0);
     expect("no word starts past the end", word("ab", 2) == 0 && word("ab", 99) == 0);
     expect("an empty text has no word", sverdhyll_word(NULL, 0, 0) == 0);
+
+    expect("places of a text", stands("(ab\n 12)", 0, 1, 1) && stands("(ab\n 12)", 3, 1, 4) && stands("(ab\n 12)", 5, 2, 2) && stands("(ab\n 12)", 6, 2, 3));
+    expect("the end of a text", stands("ab", 2, 1, 3) && stands("ab\n", 3, 2, 1) && stands("", 0, 1, 1) && stands("ab", 99, 1, 3));
 
     memset(table, 0xff, sizeof table);
     memset(values, 0xff, sizeof values);

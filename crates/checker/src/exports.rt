@@ -1,10 +1,15 @@
 //! The checker for C.
+use crate::answer;
 use crate::check;
+use outcome::Answer;
+use words::positions::position;
 use words::word_at;
 ghost use mathlib.Core.Path.{_≡_};
 ghost use lib.ListN.{length};
 ghost use Rattle.words.specs.Words.{enquired};
+ghost use Rattle.words.specs.Positions.{Positioned};
 ghost use Rattle.outcome.specs.Checked.{Checked};
+ghost use Rattle.outcome.specs.Located.{AnswerForC, answerNumbers};
 
 // `check` for C: returns the answer's number and puts its text, its place, its second number and its units where the caller lends room for them.
 #[no_mangle]
@@ -38,4 +43,58 @@ pub extern "C" fn sverdhyll_word(text: &[u8], at: usize) -> usize
 {
     let word = word_at(text, at);
     word.len()
+}
+
+// Writes an answer in its sixteen numbers.
+fn write_answer(found: Answer, numbers: &mut [u64; 16])
+    ensures { λ r. ⌜ now (numbers .exit) ≡ answerNumbers found ⌝ }
+{
+    let outcome = found.outcome;
+    let location = found.location;
+    *numbers = [
+        outcome.number as u64,
+        outcome.text as u64,
+        outcome.place as u64,
+        outcome.second as u64,
+        outcome.units,
+        location.end as u64,
+        location.line as u64,
+        location.column as u64,
+        0,
+        0,
+        0,
+        0,
+        0,
+        0,
+        0,
+        0,
+    ];
+}
+
+// `answer` for C: returns the answer's number, and puts the sixteen numbers where the caller lends room for them.
+#[no_mangle]
+pub extern "C" fn sverdhyll_answer(
+    script: &[u8],
+    response: &[u8],
+    points: &[u64],
+    budget: u64,
+    shown: &mut [u16],
+    numbers: &mut [u64; 16],
+) -> u8
+    ensures { λ r. ⌜ AnswerForC (now (script .entry)) (now (response .entry)) (now (points .entry)) budget (now (shown .entry)) r
+        (now (numbers .exit)) (now (shown .exit)) ⌝ }
+{
+    let found = answer(script, response, points, budget, shown);
+    write_answer(found, numbers);
+    found.outcome.number as u8
+}
+
+// The line and the column of a place of a text, for C: they are put where the caller says.
+#[no_mangle]
+pub extern "C" fn sverdhyll_position(text: &[u8], place: usize, line: &mut u64, column: &mut u64)
+    ensures { λ r. ⌜ Positioned (now (text .entry)) place (record { line = now (line .exit); column = now (column .exit) }) ⌝ }
+{
+    let found = position(text, place);
+    *line = found.line as u64;
+    *column = found.column as u64;
 }

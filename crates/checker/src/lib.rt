@@ -3,14 +3,18 @@
 pub mod area;
 pub mod exports;
 pub mod judge;
+mod located;
 mod sizes;
 
 use crate::area::blank_area;
 use crate::judge::judge_texts;
+use crate::located::locate;
 use crate::sizes::size_answer;
+use outcome::Answer;
 use outcome::Outcome;
 use script::answers::ACCEPTED;
 ghost use Rattle.outcome.specs.Checked.{Checked};
+ghost use Rattle.outcome.specs.Located.{AnswerGiven};
 
 // The answer for any texts, points and budget; the area shows the derivations after 0, 14 and 15.
 pub fn check(
@@ -28,4 +32,21 @@ pub fn check(
         return size;
     }
     judge_texts(script, response, points, budget, shown)
+}
+
+// The same answer with the end of the word at its place, and the place's line and column; zeros where it carries none.
+pub fn answer(
+    script: &[u8],
+    response: &[u8],
+    points: &[u64],
+    budget: u64,
+    shown: &mut [u16],
+) -> Answer
+    ensures { λ r. ⌜ AnswerGiven (now (script .entry)) (now (response .entry)) (now (points .entry)) budget (now (shown .entry)) r (now (shown .exit)) ⌝ }
+{
+    let outcome = check(script, response, points, budget, shown);
+    Answer {
+        outcome,
+        location: locate(script, response, outcome),
+    }
 }

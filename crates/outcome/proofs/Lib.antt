@@ -17,7 +17,9 @@ pub mod Assumed
 pub mod Runs
 pub mod Units
 pub mod Table
+pub mod Ends
 pub mod Small
+pub mod Located
 pub mod Variables
 pub mod Demands
 pub mod Proper

@@ -5,11 +5,12 @@ use mathlib.Core.Bool.{Bool, true, false, cond}
 use mathlib.Core.List.{List}
 use mathlib.Core.Option.{Option, none as nothing, some}
 use mathlib.Core.Path.{_≡_, refl, subst, subst₂, sym, _∙_}
+use borrow.Author.Tests.{ltb-false}
 use lib.Dec.{eqb, ltb}
 use lib.ListN.{length}
 use Rattle.forest.proofs.Options.{never}
 use Rattle.words.specs.Limits.{responseLimits, scriptLimits}
-use Rattle.forest.specs.Limits.{areaSize, mostNumbers}
+use Rattle.forest.specs.Limits.{areaSize, mostNumbers, responseBytes, scriptBytes}
 use Rattle.evaluation.specs.declared.Ran.{Ran}
 use Rattle.evaluation.specs.declared.Ran.the-variants.{Passed, False, Ended}
 use Rattle.evaluation.specs.declared.Run.{Run}
@@ -71,22 +72,32 @@ pub response-number : (k : Known) (response : List ℕ) {number offset : ℕ} �
 response-number k response e = let h = subst (Numbered inResponse) e (response-numbered k response) in (h .some, h .few)
 
 -- A test that gives no answer has failed, and the next gives none.
-not-answered : (t : Bool) (o : Outcome) {later : Option Outcome} → cond t (some o) later ≡ nothing → later ≡ nothing
+not-answered : (t : Bool) (o : Outcome) {later : Option Outcome} → cond t (some o) later ≡ nothing → (t ≡ false) × (later ≡ nothing)
 not-answered true o e = never (sym e)
-not-answered false o e = e
+not-answered false o e = (refl, e)
 
--- Where all sizes are right, an area that shows nothing is blank.
-pub sized-area : (script response points area : List ℕ) → sizeAnswer script response points area ≡ nothing → unshown area ≡ blankArea
-unfolding sizeAnswer
-sized-area script response points area e =
-    let script-fits = not-answered (ltb (scriptLimits .bytes) (length script)) (refusal longAnswer scriptText (length script)) e in
-    let response-fits = not-answered (ltb (responseLimits .bytes) (length response)) (refusal longAnswer responseText (length response)) script-fits in
-    let points-fit = not-answered (ltb mostNumbers (length points)) (refusal longAnswer pointsText (length points)) response-fits in
-    go (eqb (length area) areaSize) (refusal longAnswer noText (length area)) points-fit
-  where
-    go : (t : Bool) (o : Outcome) → cond t nothing (some o) ≡ nothing → cond t blankArea area ≡ blankArea
-    go true o h = refl
-    go false o h = never (sym h)
+module _ (script response points area : List ℕ) (sized : sizeAnswer script response points area ≡ nothing) where
+  -- Where all sizes are right, the texts have at most their bytes, and that of the area gives no answer.
+  all-sized : (length script ≤ scriptBytes) × (length response ≤ responseBytes)
+      × (cond (eqb (length area) areaSize) nothing (some (refusal longAnswer noText (length area))) ≡ nothing)
+  unfolding sizeAnswer
+  all-sized =
+      let script-fits = not-answered (ltb (scriptLimits .bytes) (length script)) (refusal longAnswer scriptText (length script)) sized in
+      let response-fits = not-answered (ltb (responseLimits .bytes) (length response)) (refusal longAnswer responseText (length response)) (script-fits .1) in
+      let points-fit = not-answered (ltb mostNumbers (length points)) (refusal longAnswer pointsText (length points)) (response-fits .1) in
+      (ltb-false _ _ (script-fits .0), ltb-false _ _ (response-fits .0), points-fit .1)
+
+  -- The texts have at most their bytes.
+  pub sized-texts : (length script ≤ scriptBytes) × (length response ≤ responseBytes)
+  sized-texts = (all-sized .0, all-sized .1)
+
+  -- An area that shows nothing is blank.
+  pub sized-area : unshown area ≡ blankArea
+  sized-area = go (eqb (length area) areaSize) (refusal longAnswer noText (length area)) (all-sized .2)
+    where
+      go : (t : Bool) (o : Outcome) → cond t nothing (some o) ≡ nothing → cond t blankArea area ≡ blankArea
+      go true o h = refl
+      go false o h = never (sym h)
 
 -- A script that is refused says nothing.
 not-said : {A : Type 0} {number offset : ℕ} {k : Known} → ScriptOutcome.faulty number offset ≡ said k → A

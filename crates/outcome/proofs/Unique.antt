@@ -2,7 +2,7 @@
 use Prim.Native.Nat.{ℕ}
 use native.Mathlib.Omega.{arith}
 use mathlib.Core.List.{List}
-use mathlib.Core.Path.{_≡_, ap, subst, sym, _∙_}
+use mathlib.Core.Path.{_≡_, ap, ap₂, subst, sym, _∙_}
 use Rattle.evaluation.specs.declared.PointList.the-variants.{Good, Bad}
 use Rattle.script.specs.Script.{Known}
 use Rattle.script.specs.Response.{Body}
@@ -10,6 +10,9 @@ use Rattle.outcome.specs.Checked.{Checked, Judgement, evaluated, judged,
 use Rattle.outcome.specs.Demands.{Alike, AreaStated, both-show, shows, shows-none, the-same}
 use Rattle.outcome.specs.Derived.{termsOf}
 use Rattle.outcome.specs.Evaluated.{ranWith, runOutcome}
+use Rattle.outcome.specs.Located.{AnswerGiven, AnswerForC, answerNumbers, located}
+use Rattle.outcome.specs.declared.Answer.{Answer}
+use Rattle.outcome.specs.declared.Location.{Location}
 use Rattle.outcome.specs.declared.Outcome.{Outcome}
 use Rattle.outcome.proofs.Deriving.{first-only, not-derived, shown-derived}
 use Rattle.outcome.proofs.Elsewhere.{lists-of, same-elsewhere}
@@ -59,3 +62,23 @@ pub unique : {script response points : List ℕ} {budget : ℕ} {area : List ℕ
 unique {script} {response} {points} {area = area} {b = b} c d =
     let same = one-answer c d in
     (same, alike (shown-derives c) (subst (λ (x : Outcome). AreaStated script response points area x b) (sym same) (shown-derives d)))
+
+module _ {script response points : List ℕ} {budget : ℕ} {area a b : List ℕ} where
+  -- The same of the answer with what it carries.
+  pub answered : {answer other : Answer} → AnswerGiven script response points budget area answer a → AnswerGiven script response points budget area other b
+      → (answer ≡ other) × Alike script response points area (answer .outcome) a b
+  answered c d =
+      let same = unique (c .checked) (d .checked) in
+      let location = c .carried ∙ ap (located script response) (same .0) ∙ sym (d .carried) in
+      (ap₂ {C = Answer} (λ (o : Outcome) (l : Location). record { outcome = o; location = l }) (same .0) location, same .1)
+
+  -- The same of what C is given.
+  pub answered-for-c : {number numberOther : ℕ} {numbers numbersOther : List ℕ} (c : AnswerForC script response points budget area number numbers a)
+      → AnswerForC script response points budget area numberOther numbersOther b
+      → (number ≡ numberOther) × (numbers ≡ numbersOther) × Alike script response points area (c .answer .outcome) a b
+  answered-for-c c d =
+      let same = answered (c .answered) (d .answered) in (
+        c .number-is ∙ ap (λ (x : Answer). x .outcome .number) (same .0) ∙ sym (d .number-is),
+        c .numbers-are ∙ ap answerNumbers (same .0) ∙ sym (d .numbers-are),
+        same .1,
+      )

@@ -2,6 +2,7 @@ pub mod Sorted
 pub mod Derived
 pub mod Evaluated
 pub mod Checked
+pub mod Located
 pub mod Units
 pub mod Demands
 pub mod Table

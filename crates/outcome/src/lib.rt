@@ -27,6 +27,19 @@ pub struct Outcome {
     pub units: u64,
 }
 
+// What an answer carries of its place: the end of the word there, the line and the column; zeros where it carries nothing.
+pub struct Location {
+    pub end: usize,
+    pub line: usize,
+    pub column: usize,
+}
+
+// An answer with what it carries.
+pub struct Answer {
+    pub outcome: Outcome,
+    pub location: Location,
+}
+
 // An answer that names a text and a place.
 pub fn refusal(number: usize, text: usize, place: usize) -> Outcome
     ensures { λ r. ⌜ r ≡ refusal number text place ⌝ }

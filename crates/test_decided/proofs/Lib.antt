@@ -2,3 +2,4 @@ pub mod Limits
 pub mod Readings
 pub mod Bench
 pub mod Counts
+pub mod Located

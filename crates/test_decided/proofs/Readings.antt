@@ -469,6 +469,10 @@ readings =
     ∷ row "(set-logic BV)(synth-fun f () Bool ((A Bool)) ((A Bool (true))))(check-synth)" "((assume true))" (5 ∷ 1 ∷ [])
     ∷ row "(set-logic BV)(declare-var x (_ BitVec 8))(synth-fun f () Bool ((A Bool)) ((A Bool (true))))(assume (= x #x01))(constraint (= x #x02))(check-synth)" "((define-fun f () Bool true))" []
     ∷ row "(set-logic BV)(declare-var x (_ BitVec 8))(synth-fun f () Bool ((A Bool)) ((A Bool (true))))(assume (= x #x01))(constraint false)(check-synth)" "((define-fun f () Bool true))" []
+    ∷ row "(set-logic BV)" "" (5 ∷ 4 ∷ [])
+    ∷ row "(set-logic BV)(foo)" "" (5 ∷ 4 ∷ [])
+    ∷ row "(set-logic BV)(synth-fun f () Bool ((A Bool)) ((A Bool (true))))(check-synth)" "fail" (10 ∷ 0 ∷ [])
+    ∷ row "(set-logic BV)(synth-fun f () Bool ((A Bool)) ((A Bool (true))))(check-synth)" "( (define-fun f () Bool (not true)))" []
     ∷ []
 
 -- The definitions answer every one of them so.

@@ -1,1 +1,2 @@
-//! Decided readings of document 01, and its rows that are marked P, proved of the definitions: proofs/Readings.antt, proofs/Bench.antt.
+//! Decided readings of document 01 and of the requests, the rows that document 01 marks P, and places of texts, proved of the definitions: proofs/Readings.antt,
+//! proofs/Bench.antt, proofs/Located.antt.

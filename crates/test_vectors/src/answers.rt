@@ -1,5 +1,6 @@
 //! What is written of the checker's answer.
-use checker::check;
+use checker::answer;
+use outcome::Location;
 use outcome::Outcome;
 use test_report::area::area_room;
 use test_report::area::report_area;
@@ -31,18 +32,28 @@ fn area_size(digits: &[u8], room: &[u16]) -> usize
 }
 
 // Writes an answer: its number, its text, its place, its second number and its units.
-fn write_answer(answer: Outcome) {
-    write_number(b" answer ", answer.number as u64);
-    write_number(b" ", answer.text as u64);
-    write_number(b" ", answer.place as u64);
-    write_number(b" ", answer.second as u64);
-    write_number(b" ", answer.units);
+fn write_outcome(outcome: Outcome) {
+    write_number(b" answer ", outcome.number as u64);
+    write_number(b" ", outcome.text as u64);
+    write_number(b" ", outcome.place as u64);
+    write_number(b" ", outcome.second as u64);
+    write_number(b" ", outcome.units);
 }
 
-// Writes the answer, and what stands in the area afterwards.
+// Writes what an answer carries: the end of the word at its place, the line and the column.
+fn write_location(location: Location) {
+    write_number(b" ", location.end as u64);
+    write_number(b" ", location.line as u64);
+    write_number(b" ", location.column as u64);
+}
+
+// Writes the answer with what it carries, and what stands in the area afterwards.
 fn report_check(script: &[u8], response: &[u8], points: &[u64], budget: u64, area: &mut [u16]) {
-    let answer = check(script, response, points, budget, area);
-    write_answer(answer);
+    let found = answer(script, response, points, budget, area);
+    let outcome = found.outcome;
+    let location = found.location;
+    write_outcome(outcome);
+    write_location(location);
     report_area(area);
 }
 

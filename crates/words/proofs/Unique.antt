@@ -1,14 +1,16 @@
 -- The public calls of the reader of words have one outcome: no second one satisfies their contracts.
 use Prim.Native.Nat.{ℕ}
 use mathlib.Core.List.{List}
-use mathlib.Core.Path.{_≡_, sym, ap, _∙_}
+use mathlib.Core.Path.{_≡_, sym, ap, ap₂, _∙_}
 use lib.ListN.{length}
 use Rattle.forest.specs.Tables.{over}
 use Rattle.words.specs.Answers.{numberOf, passed, placeOf}
+use Rattle.words.specs.Positions.{Positioned, endOf}
 use Rattle.words.specs.Reading.{ReadWords, WordsForC, wordsRead}
 use Rattle.words.specs.Words.{enquired}
 use Rattle.words.specs.Table.{wordTable, wordValues}
 use Rattle.words.specs.declared.Limits.{Limits}
+use Rattle.words.specs.declared.Position.{Position}
 use Rattle.words.specs.declared.Reading.{Reading}
 
 -- `read_words`: what is found, and what stands in the two lent areas afterwards.
@@ -42,3 +44,14 @@ word-at text at e h = e ∙ sym h
 -- `sverdhyll_word`: the length of the part.
 pub word-for-c : (text : List ℕ) (at : ℕ) {n m : ℕ} → n ≡ length (enquired text at) → m ≡ length (enquired text at) → n ≡ m
 word-for-c text at e h = e ∙ sym h
+
+-- `position`, and `sverdhyll_position` too: the line and the column.
+pub position : {text : List ℕ} {place : ℕ} {p q : Position} → Positioned text place p → Positioned text place q → p ≡ q
+position one other =
+    let line = one .line-is ∙ sym (other .line-is) in
+    let column = one .column-is ∙ sym (other .column-is) in
+    ap₂ {C = Position} (λ (l c : ℕ). record { line = l; column = c }) line column
+
+-- `end_of`: the offset past the word.
+pub end-of : (text : List ℕ) (place : ℕ) {n m : ℕ} → n ≡ endOf text place → m ≡ endOf text place → n ≡ m
+end-of text place e h = e ∙ sym h

@@ -2,6 +2,7 @@ pub mod Limits
 pub mod Answers
 pub mod Spans
 pub mod Words
+pub mod Positions
 pub mod Reading
 pub mod Trees
 pub mod code

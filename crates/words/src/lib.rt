@@ -3,6 +3,7 @@
 //! The words of a text: where they start and end, what is wrong with them, and the rows of the word table.
 pub mod answers;
 pub mod links;
+pub mod positions;
 mod rows;
 pub mod scan;
 pub mod spans;
@@ -12,6 +13,7 @@ use crate::answers::number_of;
 use crate::answers::passed_of;
 use crate::answers::place_of;
 use crate::links::link;
+use crate::positions::position;
 use crate::scan::scan_text;
 use crate::spans::first_start;
 use crate::spans::word_end;
@@ -26,6 +28,7 @@ use word_kinds::Fault;
 ghost use mathlib.Core.Path.{_≡_};
 ghost use lib.ListN.{length};
 ghost use Rattle.words.specs.Limits.{responseLimits, scriptLimits};
+ghost use Rattle.words.specs.Positions.{Positioned};
 ghost use Rattle.words.specs.Reading.{ReadWords, WordsForC, roomFor};
 ghost use Rattle.words.specs.Words.{enquired};
 
@@ -40,6 +43,12 @@ pub struct Limits {
 pub enum Reading {
     Whole(usize),
     Refused(Fault, usize, usize),
+}
+
+// Where a place of a text stands: its line and its column, both from 1.
+pub struct Position {
+    pub line: usize,
+    pub column: usize,
 }
 
 // The limits of a script.
@@ -112,6 +121,16 @@ pub extern "C" fn sverdhyll_word(text: &[u8], at: usize) -> usize
 {
     let word = word_at(text, at);
     word.len()
+}
+
+// The line and the column of a place of the text, for C: they are put where the caller says.
+#[no_mangle]
+pub extern "C" fn sverdhyll_position(text: &[u8], place: usize, line: &mut u64, column: &mut u64)
+    ensures { λ r. ⌜ Positioned (now (text .entry)) place (record { line = now (line .exit); column = now (column .exit) }) ⌝ }
+{
+    let found = position(text, place);
+    *line = found.line as u64;
+    *column = found.column as u64;
 }
 
 // Reads the words of a text for C: returns the answer's number, 0 where the whole text was read, and puts its place and how many words were passed where

@@ -214,7 +214,8 @@ fn accepted(facts: &Facts) -> String {
 fn evaluated(facts: &Facts) -> String {
     let script = &facts.given.read;
     let assumed = !script.assumptions.is_empty();
-    let never = facts.guards.iter().filter(|guard| guard.held == 0).count();
+    let guards = facts.guards.iter();
+    let never = guards.filter(|(guard, _)| guard.held == 0).count();
     let never = match never {
         0 => String::new(),
         count => format!("; {} of => never held", counted(count as u64, "left side")),
@@ -306,7 +307,7 @@ fn of_points_done(facts: &Facts) -> String {
 /// Whether some constraint was evaluated, and the left side of each `=>` held at some point.
 pub fn thorough(facts: &Facts) -> bool {
     let evaluated = facts.answer.second > 0 && !facts.given.read.constraints.is_empty();
-    evaluated && facts.guards.iter().all(|guard| guard.held > 0)
+    evaluated && facts.guards.iter().all(|(guard, _)| guard.held > 0)
 }
 
 /// The exit status of the command.

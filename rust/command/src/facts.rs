@@ -4,9 +4,8 @@ use crate::derivation::{steps, Step};
 use crate::evaluation::{differing, is_signed};
 use crate::failure::Failure;
 use crate::guards::Guard;
-use crate::notes::{cause, Cause};
+use crate::notes::{cause, Cause, Hint};
 use crate::place::{place, Place};
-use crate::points::Points;
 use crate::refute::Claim;
 use crate::run::{Given, Run};
 use crate::source::Text;
@@ -14,12 +13,22 @@ use crate::stated::Stated;
 use simple::eval::Value;
 use simple::grammar::Sorted;
 use std::ops::Range;
-use sverdhyll::{Answer, Library, LIST_LENGTH, UNUSED};
+use sverdhyll::{Answer, Library, Position, LIST_LENGTH, UNUSED};
 
 /// A place with the name of its text.
 pub struct Located {
     pub file: String,
     pub place: Place,
+}
+
+impl Located {
+    /// The place of some bytes of a text, which stands there.
+    fn new(text: &Text, at: Range<usize>, position: Position) -> Located {
+        Located {
+            file: text.name.clone(),
+            place: place(&text.bytes, at, position),
+        }
+    }
 }
 
 /// A sentence that helps to find the fault, with the place that it speaks of.
@@ -39,8 +48,8 @@ pub struct Derived {
 /// A constraint that is false, or a constraint or assumption that was not begun, and the point.
 pub struct Judged {
     pub stated: Stated,
-    /// Its command in the script.
-    pub located: Located,
+    /// Where its command stands in the script.
+    pub position: Position,
     pub text: String,
     /// The variables with their values.
     pub point: Vec<(String, Value)>,
@@ -68,8 +77,8 @@ pub struct Facts {
     pub derived: Vec<Derived>,
     /// After 14 and 15.
     pub judged: Option<Judged>,
-    /// After 0: how often the left side of each `=>` held.
-    pub guards: Vec<Guard>,
+    /// After 0: how often the left side of each `=>` held, and where it stands in the script.
+    pub guards: Vec<(Guard, Position)>,
     /// What a solver that was asked says.
     pub claim: Option<Claim>,
     pub strict: bool,
@@ -90,12 +99,12 @@ pub fn gather(
     Ok(Facts {
         located: located(library, &given, answer)?,
         cause: cause.sentence.take(),
-        notes: notes(&given, answer, cause),
+        notes: notes(library, &given, answer, cause)?,
         function: function_of(&given, answer),
         derived: derived(&given, answer, &run.area)?,
-        judged: judged(&given, answer, &run.point),
+        judged: judged(library, &given, answer, &run.point)?,
         done: run.done,
-        guards: run.guards,
+        guards: guards(library, &given, run.guards)?,
         claim: run.claim,
         strict,
         answer,
@@ -112,36 +121,35 @@ fn whole_length(given: &Given, answer: Answer) -> u64 {
     }
 }
 
-/// The place of a word in a text.
-fn located_word(text: &Text, at: usize, length: usize) -> Located {
-    Located {
-        file: text.name.clone(),
-        place: place(&text.bytes, at, length),
-    }
+/// The place of some bytes of a text, which stands where the checker's enquiry says.
+fn located_at(library: &mut Library, text: &Text, at: Range<usize>) -> Result<Located, Failure> {
+    let position = library.position(&text.bytes, at.start)?;
+    Ok(Located::new(text, at, position))
 }
 
-/// The place that answers 2 to 9, 12, 13 and 16 name, with its word by the checker's own enquiry.
+/// The place that answers 2 to 9, 12, 13 and 16 name, which stands where the answer itself says; for a point number, by the enquiry.
 fn located(
     library: &mut Library,
     given: &Given,
     answer: Answer,
 ) -> Result<Option<Located>, Failure> {
     let at = answer.place as usize;
-    let text = match (answer.number, answer.text) {
-        (2..=9 | 12 | 13, 0) => &given.script,
-        (2..=9 | 12 | 13, 1) => &given.response,
-        (16, _) => return Ok(located_number(&given.points, at)),
-        _ => return Ok(None),
-    };
-    let length = library.word(&text.bytes, at)?;
-    Ok(Some(located_word(text, at, length)))
+    if answer.number == 16 {
+        let number = given.points.written(at);
+        let located = number.map(|(text, at)| located_at(library, text, at));
+        return located.transpose();
+    }
+    let text = spoken_of(given, answer);
+    let position = answer.position();
+    Ok(position.map(|position| Located::new(text, at..position.end as usize, position)))
 }
 
-/// The place of a point number, where the points were read from a text.
-fn located_number(points: &Points, index: usize) -> Option<Located> {
-    let (text, spans) = points.text.as_ref()?;
-    let (at, length) = *spans.get(index)?;
-    Some(located_word(text, at, length))
+/// The text that an answer speaks of, of the two.
+fn spoken_of(given: &Given, answer: Answer) -> &Text {
+    match answer.text {
+        0 => &given.script,
+        _ => &given.response,
+    }
 }
 
 /// The name of the function that answer 13 names.
@@ -152,21 +160,42 @@ fn function_of(given: &Given, answer: Answer) -> Option<String> {
         .map(|one| one.name.clone())
 }
 
-/// The notes of a cause, with their places in the text that the answer speaks of; what goes on in the next line is left out.
-fn notes(given: &Given, answer: Answer, cause: Cause) -> Vec<Note> {
-    let text = match answer.text {
-        0 => &given.script,
-        _ => &given.response,
+/// The notes of a cause, with their places in the text that the answer speaks of.
+fn notes(
+    library: &mut Library,
+    given: &Given,
+    answer: Answer,
+    cause: Cause,
+) -> Result<Vec<Note>, Failure> {
+    let text = spoken_of(given, answer);
+    let note = |hint: Hint| {
+        let at = hint.at.map(|at| first_line(&text.bytes, at));
+        let located = at.map(|at| located_at(library, text, at)).transpose()?;
+        Ok(Note {
+            message: hint.message,
+            located,
+        })
     };
-    let first_line = |at: Range<usize>| {
-        let mut lines = text.bytes[at.clone()].split(|&byte| matches!(byte, b'\r' | b'\n'));
-        located_word(text, at.start, lines.next().map_or(0, <[u8]>::len))
-    };
-    let note = cause.hints.into_iter().map(|hint| Note {
-        located: hint.at.map(first_line),
-        message: hint.message,
+    cause.hints.into_iter().map(note).collect()
+}
+
+/// What of a part of a text stands in its first line.
+fn first_line(text: &[u8], at: Range<usize>) -> Range<usize> {
+    let mut lines = text[at.clone()].split(|&byte| matches!(byte, b'\r' | b'\n'));
+    at.start..at.start + lines.next().map_or(0, <[u8]>::len)
+}
+
+/// The left sides of `=>`, each with where it stands in the script.
+fn guards(
+    library: &mut Library,
+    given: &Given,
+    guards: Vec<Guard>,
+) -> Result<Vec<(Guard, Position)>, Failure> {
+    let placed = guards.into_iter().map(|guard| {
+        let position = library.position(&given.script.bytes, guard.place)?;
+        Ok((guard, position))
     });
-    note.collect()
+    placed.collect()
 }
 
 /// The derivation of each function, as the area shows it.
@@ -199,19 +228,27 @@ fn derived(given: &Given, answer: Answer, area: &[u16]) -> Result<Vec<Derived>, 
 }
 
 /// The constraint or assumption and the point that answers 14 and 15 name.
-fn judged(given: &Given, answer: Answer, numbers: &[u64]) -> Option<Judged> {
-    let stated = Stated::named(answer)?;
-    let found = stated.within(&given.read)?;
+fn judged(
+    library: &mut Library,
+    given: &Given,
+    answer: Answer,
+    numbers: &[u64],
+) -> Result<Option<Judged>, Failure> {
+    let stated = Stated::named(answer);
+    let found = stated.and_then(|stated| Some((stated, stated.within(&given.read)?)));
+    let Some((stated, found)) = found else {
+        return Ok(None);
+    };
     let sides = differing(&given.read, &given.bodies, &found.term, numbers);
     let sides = sides.filter(|_| answer.number == 14);
-    Some(Judged {
+    Ok(Some(Judged {
         stated,
-        located: located_word(&given.script, found.place, 1),
+        position: library.position(&given.script.bytes, found.place)?,
         text: found.term.to_string(),
         point: point(&given.read.variables, numbers),
         sides: sides.map(|sides| sides.map(|(side, value)| (side.to_string(), value))),
         signed: is_signed(&found.term),
-    })
+    }))
 }
 
 /// The variables with their values at a point.

@@ -6,18 +6,18 @@ use crate::evaluation::whole;
 use crate::facts::{Derived, Facts, Judged, Located, Note};
 use crate::failure::{Failure, FAILED};
 use crate::guards::Guard;
-use crate::place::place;
 use crate::refute::Claim;
 use crate::source::Text;
 use simple::eval::Value;
 use simple::grammar::Sorted;
 use std::fmt;
 use sverdhyll::digest::sha256;
+use sverdhyll::Position;
 
 /// The name of the format, and its version: a later one keeps the keys of an earlier one.
 const FORMAT: [(&str, Json); 2] = [
     ("format", Json::Word("sverdhyll")),
-    ("version", Json::Number(4)),
+    ("version", Json::Number(5)),
 ];
 
 /// A JSON value.
@@ -79,10 +79,7 @@ pub fn object(facts: &Facts, library: &str) -> String {
         ("note", or_null(placed(facts), note)),
         ("notes", List(facts.notes.iter().map(note).collect())),
         ("constraint", or_null(facts.judged.as_ref(), constraint)),
-        (
-            "guards",
-            List(facts.guards.iter().map(|one| guard(facts, one)).collect()),
-        ),
+        ("guards", List(facts.guards.iter().map(guard).collect())),
         ("refute", or_null(facts.claim.as_ref(), claim)),
         (
             "functions",
@@ -135,8 +132,9 @@ fn location(located: &Located) -> Json {
     let place = &located.place;
     Object(vec![
         ("file", text(&located.file)),
-        ("line", Number(place.line as u64)),
-        ("column", Number(place.column as u64)),
+        ("line", Number(place.position.line)),
+        ("column", Number(place.position.column)),
+        ("end", Number(place.position.end)),
         ("word", text(&place.word)),
         ("source", text(&place.source)),
     ])
@@ -173,8 +171,8 @@ fn constraint(judged: &Judged) -> Json {
     Object(vec![
         ("kind", text(judged.stated.kind())),
         ("number", Number(judged.stated.number())),
-        ("line", Number(judged.located.place.line as u64)),
-        ("column", Number(judged.located.place.column as u64)),
+        ("line", Number(judged.position.line)),
+        ("column", Number(judged.position.column)),
         ("term", text(&judged.text)),
         ("point", List(point.collect())),
         ("left", side(0)),
@@ -182,13 +180,12 @@ fn constraint(judged: &Judged) -> Json {
     ])
 }
 
-/// The left side of a `=>`, and how often it held.
-fn guard(facts: &Facts, guard: &Guard) -> Json {
-    let place = place(&facts.given.script.bytes, guard.place, 0);
+/// The left side of a `=>`, where it stands, and how often it held.
+fn guard((guard, position): &(Guard, Position)) -> Json {
     Object(vec![
         ("constraint", Number(guard.constraint as u64)),
-        ("line", Number(place.line as u64)),
-        ("column", Number(place.column as u64)),
+        ("line", Number(position.line)),
+        ("column", Number(position.column)),
         ("term", text(&guard.term)),
         ("held", Number(guard.held)),
     ])

@@ -121,9 +121,9 @@ fn version() -> String {
 /// Checks and says the outcome, after an opening.
 fn check(request: &Request, opening: &str) -> Result<u8, Failure> {
     let mut given = read(&request.script, &request.response)?;
-    given.points = request.points.given()?;
-    given.budget = request.budget;
     let mut library = open()?;
+    given.points = request.points.given(&mut library)?;
+    given.budget = request.budget;
     let mut run = run::run(&mut library, &mut given, &request.points)?;
     if let Some(solver) = &request.refute {
         run.refute(&mut library, &given, solver)?;

@@ -1,6 +1,8 @@
-//! Lines, columns, and the line of a text with carets under a word.
+//! The line of a text that a place stands in, with carets under a word; where it stands is the checker's word.
 
 use simple::words::cut;
+use std::ops::Range;
+use sverdhyll::Position;
 
 /// At most so many columns of a line are shown.
 const MOST_COLUMNS: usize = 100;
@@ -12,11 +14,8 @@ const CUT: &str = "...";
 /// A place in a text.
 #[derive(Clone, Debug, PartialEq, Eq)]
 pub struct Place {
-    /// From 1; a line ends at byte 10 only.
-    pub line: usize,
-    /// From 1, in bytes.
-    pub column: usize,
-    /// The word that starts there, or nothing.
+    pub position: Position,
+    /// The word that starts there, or nothing; of a note all that it speaks of.
     pub word: String,
     /// The line, or the part of it around the word.
     pub source: String,
@@ -42,14 +41,11 @@ impl Place {
     }
 }
 
-/// The place at an offset of a text where a word of this length starts.
-pub fn place(text: &[u8], at: usize, length: usize) -> Place {
-    let at = at.min(text.len());
-    let end = at.saturating_add(length).min(text.len());
-    let start = text[..at]
-        .iter()
-        .rposition(|&byte| byte == b'\n')
-        .map_or(0, |found| found + 1);
+/// A place of a text, with carets under these bytes.
+pub fn place(text: &[u8], marked: Range<usize>, position: Position) -> Place {
+    let at = marked.start.min(text.len());
+    let end = marked.end.clamp(at, text.len());
+    let start = (at + 1).saturating_sub(position.column as usize);
     let stop = text[end..]
         .iter()
         .position(|&byte| byte == b'\n')
@@ -64,8 +60,7 @@ pub fn place(text: &[u8], at: usize, length: usize) -> Place {
         MOST_COLUMNS,
     );
     Place {
-        line: 1 + text[..at].iter().filter(|&&byte| byte == b'\n').count(),
-        column: 1 + at - start,
+        position,
         word,
         source,
         carets,
@@ -126,29 +121,30 @@ fn with_carets(before: String, word: &str, after: String) -> (String, String) {
 mod tests {
     use super::*;
 
+    /// The place of a word of this length in a column of a text.
+    fn marked(text: &[u8], at: usize, length: usize, column: u64) -> Place {
+        let position = Position {
+            column,
+            ..Position::default()
+        };
+        place(text, at..at + length, position)
+    }
+
     /// The line and the carets at a place.
-    fn lines(text: &[u8], at: usize, length: usize) -> (String, String) {
-        let place = place(text, at, length);
+    fn lines(text: &[u8], at: usize, length: usize, column: u64) -> (String, String) {
+        let place = marked(text, at, length, column);
         (place.source, place.carets)
     }
 
     #[test]
-    fn lines_and_columns_count_from_1() {
+    fn the_line_is_that_of_the_column() {
         let text = b"ab\ncd e\r\n";
-        for (at, line, column) in [
-            (0, 1, 1),
-            (2, 1, 3),
-            (3, 2, 1),
-            (6, 2, 4),
-            (8, 2, 6),
-            (9, 3, 1),
-        ] {
-            let place = place(text, at, 0);
-            assert_eq!((place.line, place.column), (line, column), "at {at}");
-        }
-        assert_eq!(lines(text, 6, 1), ("cd e".to_string(), "   ^".to_string()));
-        assert_eq!(lines(text, 9, 0), (String::new(), "^".to_string()));
-        assert_eq!(lines(b"", 0, 0), (String::new(), "^".to_string()));
+        let shown = |line: &str, carets: &str| (line.to_string(), carets.to_string());
+        assert_eq!(lines(text, 0, 2, 1), shown("ab", "^^"));
+        assert_eq!(lines(text, 2, 0, 3), shown("ab", "  ^"));
+        assert_eq!(lines(text, 6, 1, 4), shown("cd e", "   ^"));
+        assert_eq!(lines(text, 9, 0, 1), shown("", "^"));
+        assert_eq!(lines(b"", 0, 0, 1), shown("", "^"));
     }
 
     #[test]
@@ -160,7 +156,7 @@ mod tests {
     #[test]
     fn tabs_and_other_bytes_keep_the_carets_under_the_word() {
         let text = b"\ta\xc3\xa9\x1b(wrong\xff )";
-        let (source, carets) = lines(text, 6, 6);
+        let (source, carets) = lines(text, 6, 6, 7);
         assert_eq!(source, "    a\\xc3\\xa9\\x1b(wrong\\xff )");
         assert_eq!(carets, format!("{}^^^^^^^^^", " ".repeat(18)));
         assert_eq!(&source[18..27], "wrong\\xff");
@@ -169,12 +165,12 @@ mod tests {
     #[test]
     fn long_lines_are_cut_around_the_word() {
         let text = format!("{} word {}", "a".repeat(200), "b".repeat(200));
-        let (source, carets) = lines(text.as_bytes(), 201, 4);
+        let (source, carets) = lines(text.as_bytes(), 201, 4, 202);
         assert!(source.starts_with("...aa") && source.ends_with("bb..."));
         assert!(source.len() <= MOST_COLUMNS + CUT.len());
         let at = source.find("word").expect("the word is shown");
         assert_eq!(carets, " ".repeat(at) + "^^^^");
-        let (source, carets) = lines(&[b'c'; 30_000], 0, 30_000);
+        let (source, carets) = lines(&[b'c'; 30_000], 0, 30_000, 1);
         assert_eq!((source.len(), carets.len()), (MOST_COLUMNS, MOST_COLUMNS));
     }
 
@@ -182,7 +178,7 @@ mod tests {
     fn a_narrow_terminal_has_the_word_and_its_carets() {
         let text = format!("{} word {}", "a".repeat(200), "b".repeat(200));
         for (at, length) in [(201, 4), (0, 0), (0, 200), (206, 200), (406, 0)] {
-            let place = place(text.as_bytes(), at, length);
+            let place = marked(text.as_bytes(), at, length, at as u64 + 1);
             assert_eq!(
                 place.within(usize::MAX),
                 (place.source.clone(), place.carets.clone())

@@ -2,7 +2,7 @@
 
 use crate::edges::{edges, literals};
 use crate::failure::Failure;
-use crate::place::{place, shown};
+use crate::place::shown;
 use crate::program::{program, Program};
 use crate::random::Random;
 use crate::search::search;
@@ -14,6 +14,8 @@ use simple::script::Script;
 use simple::tree::Tree;
 use std::collections::HashSet;
 use std::fmt;
+use std::ops::Range;
+use sverdhyll::{Library, Position};
 
 /// "1,024 point numbers": what one call of the checker takes.
 pub const MOST_NUMBERS: usize = 1_024;
@@ -103,8 +105,8 @@ pub struct Points {
     pub origin: Origin,
     /// The numbers of a text, or of the points that were chosen, with which the list begins.
     pub listed: Vec<u64>,
-    /// The text that the list was read from, with the offset and the length of each number.
-    pub text: Option<(Text, Vec<(usize, usize)>)>,
+    /// The text that the list was read from, with where each number stands in it.
+    pub text: Option<(Text, Vec<Range<usize>>)>,
     /// The edge values of each variable.
     edges: Vec<Vec<u64>>,
 }
@@ -128,6 +130,12 @@ impl Points {
         }
     }
 
+    /// The text that a number was read from, and where it stands in it.
+    pub fn written(&self, index: usize) -> Option<(&Text, Range<usize>)> {
+        let (text, spans) = self.text.as_ref()?;
+        Some((text, spans.get(index)?.clone()))
+    }
+
     /// How many different points a list of points of so many numbers has.
     pub fn distinct(&self, numbers: usize) -> u64 {
         let points = self.listed.chunks(numbers.max(1));
@@ -147,9 +155,9 @@ impl Points {
 
 impl Wanted {
     /// The points of a text; none where they are made for the script.
-    pub fn given(&self) -> Result<Points, Failure> {
+    pub fn given(&self, library: &mut Library) -> Result<Points, Failure> {
         match self {
-            Wanted::Read(source) => read(source.read(MOST_BYTES)?),
+            Wanted::Read(source) => read(library, source.read(MOST_BYTES)?),
             _ => Ok(Points::none()),
         }
     }
@@ -421,7 +429,7 @@ fn nth_point(variables: &[Sorted], index: u64) -> Vec<u64> {
 }
 
 /// The numbers of a text, separated by white space, with comments from `;` to the end of a line.
-fn read(text: Text) -> Result<Points, Failure> {
+fn read(library: &mut Library, text: Text) -> Result<Points, Failure> {
     if text.bytes.len() > MOST_BYTES {
         return Err(Failure(format!(
             "{} has more than {MOST_BYTES} bytes of points",
@@ -429,12 +437,12 @@ fn read(text: Text) -> Result<Points, Failure> {
         )));
     }
     let mut numbers = Vec::new();
-    let mut spans = Vec::new();
-    for (at, length) in spans_of(&text.bytes) {
-        let word = &text.bytes[at..at + length];
-        let number = number(word).ok_or_else(|| no_number(&text, at, word))?;
-        numbers.push(number);
-        spans.push((at, length));
+    let spans = spans_of(&text.bytes);
+    for at in &spans {
+        match number(&text.bytes[at.clone()]) {
+            Some(number) => numbers.push(number),
+            None => return Err(no_number(library, &text, at.clone())),
+        }
     }
     Ok(Points {
         origin: Origin::File(text.name.clone()),
@@ -445,23 +453,27 @@ fn read(text: Text) -> Result<Points, Failure> {
 }
 
 /// The message for a word that is no point number.
-fn no_number(text: &Text, at: usize, word: &[u8]) -> Failure {
-    let found = place(&text.bytes, at, 0);
+fn no_number(library: &mut Library, text: &Text, at: Range<usize>) -> Failure {
+    let Position { line, column, .. } = match library.position(&text.bytes, at.start) {
+        Ok(position) => position,
+        Err(error) => return error.into(),
+    };
+    let word = &text.bytes[at];
     let word = shown(&word[..word.len().min(80)]);
     Failure(format!(
-        "{}:{}:{}: {word} is no number from 0 to 2^64 - 1 (decimal, 0x.., #x.. or #b..)",
-        text.name, found.line, found.column
+        "{}:{line}:{column}: {word} is no number from 0 to 2^64 - 1 (decimal, 0x.., #x.. or #b..)",
+        text.name
     ))
 }
 
-/// The offsets and lengths of the words of a text of points.
-fn spans_of(text: &[u8]) -> Vec<(usize, usize)> {
+/// Where the words of a text of points stand.
+fn spans_of(text: &[u8]) -> Vec<Range<usize>> {
     let mut spans = Vec::new();
     let mut start = None;
     let mut in_comment = false;
     for (at, &byte) in text.iter().chain(b"\n").enumerate() {
         if in_comment || byte.is_ascii_whitespace() || byte == b';' {
-            spans.extend(start.take().map(|start| (start, at - start)));
+            spans.extend(start.take().map(|start| start..at));
             in_comment = (in_comment || byte == b';') && byte != b'\n' && byte != b'\r';
         } else if start.is_none() {
             start = Some(at);
@@ -525,20 +537,23 @@ mod tests {
     }
 
     /// The points of a shipped text.
-    fn numbers(text: &'static str) -> Result<Vec<u64>, Failure> {
+    fn numbers(library: &mut Library, text: &'static str) -> Result<Vec<u64>, Failure> {
         let wanted = Wanted::Read(Source::Shipped("p", text));
-        wanted.given().map(|points| points.listed)
+        wanted.given(library).map(|points| points.listed)
     }
 
     #[test]
     fn numbers_in_every_form() {
         let text = "10 0x1F;0x1 2\n#xfF\t#b101 ; last\r 18446744073709551615 007";
-        assert_eq!(numbers(text), Ok(vec![10, 31, 255, 5, u64::MAX, 7]));
-        assert_eq!(numbers(" ; none"), Ok(Vec::new()));
+        let mut library = Library::open().expect("the checker");
+        let all = vec![10, 31, 255, 5, u64::MAX, 7];
+        assert_eq!(numbers(&mut library, text), Ok(all));
+        assert_eq!(numbers(&mut library, " ; none"), Ok(Vec::new()));
     }
 
     #[test]
     fn words_that_are_no_numbers() {
+        let mut library = Library::open().expect("the checker");
         for text in [
             "ten",
             "-1",
@@ -554,10 +569,11 @@ mod tests {
             "0b1",
             "\u{e9}",
         ] {
-            assert!(numbers(text).is_err(), "{text}");
+            assert!(numbers(&mut library, text).is_err(), "{text}");
         }
         let message = "p:2:3: 12a is no number from 0 to 2^64 - 1 (decimal, 0x.., #x.. or #b..)";
-        assert_eq!(numbers("1\n  12a"), Err(Failure(message.to_string())));
+        let found = numbers(&mut library, "1\n  12a");
+        assert_eq!(found, Err(Failure(message.to_string())));
     }
 
     #[test]

@@ -4,10 +4,10 @@ use crate::answers::{counted, file, grouped, sentence, verdict};
 use crate::derivation::Step;
 use crate::evaluation::shown;
 use crate::facts::{Derived, Facts, Judged, Located, Note};
-use crate::place::place;
 use crate::refute::Claim;
 use std::env;
 use std::io::{self, IsTerminal, Write};
+use sverdhyll::Position;
 
 /// How many columns a line has room for: those of the terminal, where standard output is one and the variable COLUMNS says how many; else any number.
 pub fn columns() -> usize {
@@ -22,7 +22,7 @@ pub fn columns() -> usize {
 pub fn write_line(facts: &Facts, to: &mut impl Write) -> io::Result<()> {
     let answer = facts.answer;
     match &facts.located {
-        Some(located) => write!(to, "{}: ", position(located))?,
+        Some(located) => write!(to, "{}: ", placed(located))?,
         None => write!(to, "{}: ", file(facts))?,
     }
     let verdict = verdict(answer.number).word();
@@ -67,9 +67,8 @@ pub fn write(facts: &Facts, columns: usize, to: &mut impl Write) -> io::Result<(
 /// Writes how often the left side of each `=>` held, with a warning where it never did.
 fn write_guards(facts: &Facts, to: &mut impl Write) -> io::Result<()> {
     let script = &facts.given.script;
-    for guard in &facts.guards {
-        let place = place(&script.bytes, guard.place, 0);
-        write!(to, "{}:{}:{}: ", script.name, place.line, place.column)?;
+    for (guard, position) in &facts.guards {
+        write!(to, "{}: ", at(&script.name, *position))?;
         match guard.held {
             0 => writeln!(
                 to,
@@ -113,21 +112,23 @@ fn write_note(note: &Note, columns: usize, to: &mut impl Write) -> io::Result<()
     let Some(located) = &note.located else {
         return writeln!(to, "note: {}", note.message);
     };
-    writeln!(to, "{}: note: {}", position(located), note.message)?;
+    writeln!(to, "{}: note: {}", placed(located), note.message)?;
     write_source(located, columns, to)
 }
 
+/// A position in a file as `file:line:column`.
+fn at(file: &str, position: Position) -> String {
+    format!("{file}:{}:{}", position.line, position.column)
+}
+
 /// A place as `file:line:column`.
-fn position(located: &Located) -> String {
-    format!(
-        "{}:{}:{}",
-        located.file, located.place.line, located.place.column
-    )
+fn placed(located: &Located) -> String {
+    at(&located.file, located.place.position)
 }
 
 /// Writes the line of a place, and carets under its word.
 fn write_source(located: &Located, columns: usize, to: &mut impl Write) -> io::Result<()> {
-    let line = format!("{:>5} | ", located.place.line);
+    let line = format!("{:>5} | ", located.place.position.line);
     let (source, carets) = located.place.within(columns.saturating_sub(line.len()));
     writeln!(to, "{line}{source}")?;
     writeln!(to, "{:>1$}{carets}", "| ", line.len())
@@ -139,7 +140,7 @@ fn write_judged(facts: &Facts, judged: &Judged, to: &mut impl Write) -> io::Resu
     writeln!(
         to,
         "{}: {}, counted from 0:",
-        position(&judged.located),
+        at(&facts.given.script.name, judged.position),
         judged.stated
     )?;
     writeln!(to, "  {}", judged.text)?;

@@ -1,17 +1,17 @@
 //! Asks both checkers and holds their answers and areas against each other.
 
+use crate::enquiries;
+use crate::kinds::{kinds, KINDS};
 use crate::trial::Trial;
-use simple::eval::whole_points;
-use simple::generate::Case;
-use simple::{replay, script, AREA_LENGTH};
+use simple::{replay, AREA_LENGTH};
 use std::{fmt, io};
 use sverdhyll::{Answer, Library};
 
 /// What both checkers say of a case.
 pub struct Agreed {
     pub answer: Answer,
-    /// Whether it is accepted with points at which an assumption is false.
-    pub points_skipped: bool,
+    /// Of which kinds it is that must come out.
+    pub kinds: [bool; KINDS],
     /// Whether the areas differ, which only several derivations of a body allow.
     pub shown_otherwise: bool,
 }
@@ -20,7 +20,7 @@ pub struct Agreed {
 pub struct Disagreement {
     pub proved: Answer,
     pub simple: Answer,
-    /// What is wrong: with the area or the enquiry where the answers are the same.
+    /// What is wrong: with the area or an enquiry where the answers are the same.
     pub fault: String,
 }
 
@@ -63,6 +63,9 @@ fn simple_answer(trial: &Trial) -> (Answer, Vec<u16>) {
         place: answer.place,
         second: answer.second,
         units: answer.units,
+        end: answer.end,
+        line: answer.line,
+        column: answer.column,
     };
     (answer, area)
 }
@@ -83,12 +86,12 @@ pub fn judged(library: &mut Library, trial: &Trial) -> io::Result<Result<Agreed,
         false => Some("the answers differ".to_string()),
         true => match area_fault(trial, &proved, &area) {
             Some(fault) => Some(fault),
-            None => enquiry_fault(library, trial, &proved)?,
+            None => enquiries::fault(library, trial, &proved)?,
         },
     };
     Ok(match fault {
         None => Ok(Agreed {
-            points_skipped: points_skipped(case, &proved),
+            kinds: kinds(case, &proved),
             answer: proved,
             shown_otherwise: area != simple_area,
         }),
@@ -98,16 +101,6 @@ pub fn judged(library: &mut Library, trial: &Trial) -> io::Result<Result<Agreed,
             fault,
         }),
     })
-}
-
-/// Whether fewer points are counted than there are: "Answer 0's second number now counts the points whose assumptions all held."
-fn points_skipped(case: &Case, answer: &Answer) -> bool {
-    if answer.number != 0 {
-        return false;
-    }
-    let script = script::read(&case.script).expect("a sound script after 0");
-    let points = whole_points(&case.points, &script.variables);
-    answer.second < points.len() as u64
 }
 
 /// What is wrong with the proved checker's area: "after any other answer each entry is 65,535, except that an area of
@@ -123,29 +116,4 @@ fn area_fault(trial: &Trial, answer: &Answer, area: &[u16]) -> Option<String> {
         answer.number,
         area,
     )
-}
-
-/// What is wrong with the proved enquiry for words: at the place of the answer, and at a place of the case's own.
-fn enquiry_fault(
-    library: &mut Library,
-    trial: &Trial,
-    answer: &Answer,
-) -> io::Result<Option<String>> {
-    let case = &trial.case;
-    let spoken_of = match answer.text {
-        1 => &case.response,
-        _ => &case.script,
-    };
-    for (text, at) in [
-        (&case.script, trial.enquiry),
-        (spoken_of, answer.place as usize),
-    ] {
-        let (proved, simple) = (library.word(text, at)?, simple::word(text, at));
-        if proved != simple {
-            return Ok(Some(format!(
-                "the word at {at}: {proved} bytes, not {simple}"
-            )));
-        }
-    }
-    Ok(None)
 }

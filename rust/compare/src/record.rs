@@ -28,11 +28,11 @@ fn numbers(trial: &Trial) -> String {
     let (case, area) = (&trial.case, &trial.area);
     let lent = area.first().map_or(0, |&entry| entry);
     format!(
-        "points {:?}\nbudget {}\narea of {} entries, each {lent}\nenquiry at {}\n",
+        "points {:?}\nbudget {}\narea of {} entries, each {lent}\nenquiries at {:?}\n",
         case.points,
         case.budget,
         area.len(),
-        trial.enquiry
+        trial.enquiries
     )
 }
 

@@ -1,7 +1,7 @@
 //! How often each answer came out.
 
 use crate::judge::Agreed;
-use simple::FIRST_ASSUMPTION;
+use crate::kinds::{KINDS, NAMES};
 use std::fmt;
 
 /// The texts that an answer may speak of.
@@ -27,13 +27,12 @@ const SPOKEN_OF: [&[u8]; 17] = [
     &[2],
 ];
 
-/// How often each answer came out of each text, 0 with points skipped and 15 before an assumption, and how often the two checkers
-/// showed different derivations.
+/// How often each answer came out of each text, how often each kind did, and how often the two checkers showed different
+/// derivations.
 #[derive(Default)]
 pub struct Tally {
     answers: [[u64; 4]; 17],
-    points_skipped: u64,
-    before_assumption: u64,
+    kinds: [u64; KINDS],
     shown_otherwise: u64,
 }
 
@@ -42,43 +41,32 @@ impl Tally {
     pub fn count(&mut self, agreed: &Agreed) {
         let answer = &agreed.answer;
         self.answers[usize::from(answer.number)][usize::from(answer.text)] += 1;
-        let before_assumption = answer.number == 15 && answer.second >= FIRST_ASSUMPTION as u64;
-        self.before_assumption += u64::from(before_assumption);
-        self.points_skipped += u64::from(agreed.points_skipped);
+        for (count, &is_one) in self.kinds.iter_mut().zip(&agreed.kinds) {
+            *count += u64::from(is_one);
+        }
         self.shown_otherwise += u64::from(agreed.shown_otherwise);
     }
 
     /// Adds another tally.
     pub fn add(&mut self, other: &Tally) {
-        for (row, others) in self.answers.iter_mut().zip(&other.answers) {
-            for (count, others) in row.iter_mut().zip(others) {
-                *count += others;
-            }
+        let counts = self.answers.iter_mut().flatten().chain(&mut self.kinds);
+        let others = other.answers.iter().flatten().chain(&other.kinds);
+        for (count, others) in counts.zip(others) {
+            *count += others;
         }
-        self.points_skipped += other.points_skipped;
-        self.before_assumption += other.before_assumption;
         self.shown_otherwise += other.shown_otherwise;
     }
 
-    /// The answers, with the texts they may speak of, that did not come out, and what assumptions did not bring.
+    /// The answers, with the texts they may speak of, and the kinds that did not come out.
     pub fn missing(&self) -> Vec<String> {
         let rows = SPOKEN_OF.iter().enumerate();
         let all = rows.flat_map(|(number, texts)| texts.iter().map(move |&text| (number, text)));
         let none = all.filter(|&(number, text)| self.answers[number][usize::from(text)] == 0);
         let name = |(number, text)| format!("answer {number} about {}", TEXTS[usize::from(text)]);
-        let mut missing: Vec<String> = none.map(name).collect();
-        let by_assumptions = self.by_assumptions().into_iter();
-        let none = by_assumptions.filter(|&(_, count)| count == 0);
-        missing.extend(none.map(|(name, _)| name.to_string()));
-        missing
-    }
-
-    /// What only assumptions bring, and how often it came out.
-    fn by_assumptions(&self) -> [(&'static str, u64); 2] {
-        [
-            ("answer 0 with points skipped", self.points_skipped),
-            ("answer 15 before an assumption", self.before_assumption),
-        ]
+        let kinds = NAMES.iter().zip(self.kinds);
+        let kinds = kinds.filter(|&(_, count)| count == 0);
+        let kinds = kinds.map(|(name, _)| name.to_string());
+        none.map(name).chain(kinds).collect()
     }
 }
 
@@ -89,7 +77,7 @@ impl fmt::Display for Tally {
         for (number, [script, response, points, none]) in self.answers.iter().enumerate() {
             writeln!(to, "{number:6} {script:9} {response:9} {points:9} {none:9}")?;
         }
-        for (name, count) in self.by_assumptions() {
+        for (name, count) in NAMES.iter().zip(self.kinds) {
             writeln!(to, "{name}: {count} cases")?;
         }
         writeln!(

@@ -9,8 +9,8 @@ use simple::AREA_LENGTH;
 pub struct Trial {
     pub case: Case,
     pub area: Vec<u16>,
-    /// Where the enquiry for a word is made, in both texts.
-    pub enquiry: usize,
+    /// A place of the script and one of the response where enquiries are made.
+    pub enquiries: [usize; 2],
 }
 
 /// Makes a case from a seed.
@@ -48,11 +48,11 @@ pub fn trial(seed: u64, number: u64) -> Trial {
     };
     let any = random.number() as u16;
     let lent = random.pick(&[0, 7, 65_535, any]);
-    let enquiry = random.below(case.script.len() + 2);
+    let enquiries = [&case.script, &case.response].map(|text| random.below(text.len() + 2));
     Trial {
         case,
         area: vec![lent; length],
-        enquiry,
+        enquiries,
     }
 }
 

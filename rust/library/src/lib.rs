@@ -1,7 +1,8 @@
 //! The proved checker between a synthesis solver and the controller that its answer goes into, for Rust.
 //!
 //! [`Library::check`] takes a SyGuS script, the response that a solver printed, points and a budget, and gives one [`Answer`]; [`Answer::outcome`] says what it
-//! means as an enum, whose documentation is the table of answers.
+//! means as an enum, whose documentation is the table of answers. [`Library::word`] and [`Library::position`] say of any place of a text which word starts there,
+//! and in which line and column it stands.
 //!
 //! ```no_run
 //! use sverdhyll::{Library, Outcome, AREA_LENGTH};
@@ -25,7 +26,7 @@
 //! sverdhyll = { path = "SVERDHYLL/rust/library" }
 //! ```
 //!
-//! The static library is x86-64 code. There it is linked and called, on the caller's stack, of which a call takes up to 1.4 MiB: a thread of 2 MiB, Rust's
+//! The static library is x86-64 code. There it is linked and called, on the caller's stack, of which a call takes up to 1.5 MiB: a thread of 2 MiB, Rust's
 //! default, suffices. On another machine one worker process for each [`Library`] holds it under an emulator, and this crate speaks with that process over
 //! pipes. The worker ends with the process that started it, however that ends.
 
@@ -54,6 +55,8 @@ pub const LIST_LENGTH: usize = 4_096;
 pub const UNUSED: u16 = 65_535;
 /// "Answer 15 numbers assumptions from 64".
 pub const FIRST_ASSUMPTION: u64 = 64;
+/// So many numbers make an answer, those that are 0 in this version included.
+const NUMBERS: usize = 16;
 
 /// An answer in numbers, as the library gives it; [`Answer::outcome`] says what they mean.
 #[derive(Clone, Copy, Debug, Default, PartialEq, Eq, Hash)]
@@ -68,9 +71,49 @@ pub struct Answer {
     pub second: u64,
     /// The units spent.
     pub units: u64,
+    /// The offset past the word at its place, after answers 2 to 9, 12 and 13; else 0, as the next two.
+    pub end: u64,
+    /// The line of its place.
+    pub line: u64,
+    /// The column of its place.
+    pub column: u64,
+}
+
+/// Where a place of a text stands.
+#[derive(Clone, Copy, Debug, Default, PartialEq, Eq, Hash)]
+pub struct Position {
+    /// The offset past the word that starts there; the place itself where none does.
+    pub end: u64,
+    /// From 1; a line ends at byte 10 only.
+    pub line: u64,
+    /// From 1, in bytes.
+    pub column: u64,
 }
 
 impl Answer {
+    /// The answer in the numbers that the library gives.
+    fn of(numbers: [u64; NUMBERS]) -> Answer {
+        let [number, text, place, second, units, end, line, column, ..] = numbers;
+        Answer {
+            number: number as u8,
+            text: text as u8,
+            place,
+            second,
+            units,
+            end,
+            line,
+            column,
+        }
+    }
+
+    /// Where its place stands in its text, after answers 2 to 9, 12 and 13.
+    pub fn position(self) -> Option<Position> {
+        let Answer {
+            end, line, column, ..
+        } = self;
+        (line > 0).then_some(Position { end, line, column })
+    }
+
     /// What the answer says.
     pub fn outcome(self) -> Outcome {
         self.into()
@@ -116,6 +159,11 @@ impl Library {
     /// The length of the word that starts at an offset of a text, 0 if none does. Fails only where the worker has gone.
     pub fn word(&mut self, text: &[u8], at: usize) -> io::Result<usize> {
         self.held.word(text, at)
+    }
+
+    /// Where a place of any text stands; one past its end has the line and the column of the end. Fails only where the worker has gone.
+    pub fn position(&mut self, text: &[u8], place: usize) -> io::Result<Position> {
+        self.held.position(text, place)
     }
 
     /// The SHA-256 of the static library that answers, in hexadecimal.

@@ -1,6 +1,6 @@
 //! What an answer says, as an enum.
 
-use crate::{Answer, FIRST_ASSUMPTION};
+use crate::{Answer, Position, FIRST_ASSUMPTION};
 use std::fmt;
 
 /// A text that an answer can speak of.
@@ -24,10 +24,16 @@ impl fmt::Display for Text {
     }
 }
 
+impl fmt::Display for Position {
+    fn fmt(&self, to: &mut fmt::Formatter) -> fmt::Result {
+        write!(to, "line {}, column {}", self.line, self.column)
+    }
+}
+
 /// What the checker answers: the table of answers, each with what its numbers stand for.
 ///
-/// `at` is an offset in bytes in the text; functions, points, constraints and assumptions are numbered from 0; `units` is the summed cost of the evaluations done,
-/// that of a false assumption or constraint included.
+/// `at` is an offset in bytes in the text, `position` the line and the column there and the end of the word; functions, points, constraints and assumptions are
+/// numbered from 0; `units` is the summed cost of the evaluations done, that of a false assumption or constraint included.
 ///
 /// | No. | Variant | Meaning | What comes with it |
 /// |---|---|---|---|
@@ -56,29 +62,61 @@ pub enum Outcome {
     /// 1: too long, or an area that is not of its size.
     TooLong { text: Text, length: u64 },
     /// 2: a bad word.
-    BadWord { text: Text, at: u64 },
+    BadWord {
+        text: Text,
+        at: u64,
+        position: Position,
+    },
     /// 3: a bracket closed too often or never closed.
-    Bracket { text: Text, at: u64 },
+    Bracket {
+        text: Text,
+        at: u64,
+        position: Position,
+    },
     /// 4: past a limit.
-    PastLimit { text: Text, at: u64 },
+    PastLimit {
+        text: Text,
+        at: u64,
+        position: Position,
+    },
     /// 5: shape unknown.
-    UnknownShape { text: Text, at: u64 },
+    UnknownShape {
+        text: Text,
+        at: u64,
+        position: Position,
+    },
     /// 6: not carried.
-    NotCarried { text: Text, at: u64 },
+    NotCarried {
+        text: Text,
+        at: u64,
+        position: Position,
+    },
     /// 7: a name unknown, taken or reserved.
-    Name { text: Text, at: u64 },
+    Name {
+        text: Text,
+        at: u64,
+        position: Position,
+    },
     /// 8: a sort fault.
-    Sort { text: Text, at: u64 },
+    Sort {
+        text: Text,
+        at: u64,
+        position: Position,
+    },
     /// 9: a grammar fault.
-    Grammar { at: u64 },
+    Grammar { at: u64, position: Position },
     /// 10: the response is `fail`.
     Fail,
     /// 11: the response is `infeasible`.
     Infeasible,
     /// 12: the response's header differs.
-    Header { at: u64 },
+    Header { at: u64, position: Position },
     /// 13: no derivation.
-    NoDerivation { at: u64, function: u64 },
+    NoDerivation {
+        at: u64,
+        position: Position,
+        function: u64,
+    },
     /// 14: a constraint is false.
     ConstraintFalse {
         point: u64,
@@ -113,6 +151,7 @@ impl From<Answer> for Outcome {
             _ => Text::Area,
         };
         let (at, point, constraint) = (place, place, second);
+        let position = answer.position().unwrap_or_default();
         match answer.number {
             0 => Outcome::Accepted {
                 points: second,
@@ -122,19 +161,20 @@ impl From<Answer> for Outcome {
                 text,
                 length: place,
             },
-            2 => Outcome::BadWord { text, at },
-            3 => Outcome::Bracket { text, at },
-            4 => Outcome::PastLimit { text, at },
-            5 => Outcome::UnknownShape { text, at },
-            6 => Outcome::NotCarried { text, at },
-            7 => Outcome::Name { text, at },
-            8 => Outcome::Sort { text, at },
-            9 => Outcome::Grammar { at },
+            2 => Outcome::BadWord { text, at, position },
+            3 => Outcome::Bracket { text, at, position },
+            4 => Outcome::PastLimit { text, at, position },
+            5 => Outcome::UnknownShape { text, at, position },
+            6 => Outcome::NotCarried { text, at, position },
+            7 => Outcome::Name { text, at, position },
+            8 => Outcome::Sort { text, at, position },
+            9 => Outcome::Grammar { at, position },
             10 => Outcome::Fail,
             11 => Outcome::Infeasible,
-            12 => Outcome::Header { at },
+            12 => Outcome::Header { at, position },
             13 => Outcome::NoDerivation {
                 at,
+                position,
                 function: second,
             },
             14 => Outcome::ConstraintFalse {
@@ -160,18 +200,18 @@ impl fmt::Display for Outcome {
             Outcome::Accepted { points, units } => write!(to, "accepted: derived, and no constraint is false; points whose assumptions hold: {points}, units spent: {units}"),
             Outcome::TooLong { text: Text::Area, length } => write!(to, "the area has {length} entries, not {}", crate::AREA_LENGTH),
             Outcome::TooLong { text, length } => write!(to, "the {text} is too long: {length}"),
-            Outcome::BadWord { text, at } => write!(to, "{text}, byte {at}: no word of the language"),
-            Outcome::Bracket { text, at } => write!(to, "{text}, byte {at}: a bracket is closed too often or never closed"),
-            Outcome::PastLimit { text, at } => write!(to, "{text}, byte {at}: past a limit"),
-            Outcome::UnknownShape { text, at } => write!(to, "{text}, byte {at}: of no shape that is known"),
-            Outcome::NotCarried { text, at } => write!(to, "{text}, byte {at}: not carried"),
-            Outcome::Name { text, at } => write!(to, "{text}, byte {at}: a name unknown, taken or reserved"),
-            Outcome::Sort { text, at } => write!(to, "{text}, byte {at}: a sort fault"),
-            Outcome::Grammar { at } => write!(to, "script, byte {at}: a grammar fault"),
+            Outcome::BadWord { text, position, .. } => write!(to, "{text}, {position}: no word of the language"),
+            Outcome::Bracket { text, position, .. } => write!(to, "{text}, {position}: a bracket is closed too often or never closed"),
+            Outcome::PastLimit { text, position, .. } => write!(to, "{text}, {position}: past a limit"),
+            Outcome::UnknownShape { text, position, .. } => write!(to, "{text}, {position}: of no shape that is known"),
+            Outcome::NotCarried { text, position, .. } => write!(to, "{text}, {position}: not carried"),
+            Outcome::Name { text, position, .. } => write!(to, "{text}, {position}: a name unknown, taken or reserved"),
+            Outcome::Sort { text, position, .. } => write!(to, "{text}, {position}: a sort fault"),
+            Outcome::Grammar { position, .. } => write!(to, "script, {position}: a grammar fault"),
             Outcome::Fail => to.write_str("the response is fail"),
             Outcome::Infeasible => to.write_str("the response is infeasible"),
-            Outcome::Header { at } => write!(to, "response, byte {at}: differs from the functions of the script"),
-            Outcome::NoDerivation { at, function } => write!(to, "response, byte {at}: the grammar of function {function} does not derive this body"),
+            Outcome::Header { position, .. } => write!(to, "response, {position}: differs from the functions of the script"),
+            Outcome::NoDerivation { position, function, .. } => write!(to, "response, {position}: the grammar of function {function} does not derive this body"),
             Outcome::ConstraintFalse { point, constraint, units } => {
                 write!(to, "constraint {constraint} is false at point {point}; units spent: {units}")
             }
@@ -200,6 +240,9 @@ mod tests {
             place: 4,
             second: 5,
             units: 6,
+            end: 7,
+            line: 8,
+            column: 9,
         }
     }
 
@@ -224,7 +267,7 @@ mod tests {
         let said = |number, text| Outcome::from(answer(number, text)).to_string();
         assert_eq!(
             said(7, 1),
-            "response, byte 4: a name unknown, taken or reserved"
+            "response, line 8, column 9: a name unknown, taken or reserved"
         );
         assert_eq!(
             said(14, 2),

@@ -1,7 +1,7 @@
 //! The static library in a worker process. Both sides send frames: eight bytes with a length, low byte first, then so many bytes. All numbers have their
 //! low byte first.
 
-use crate::Answer;
+use crate::{Answer, Position};
 use std::env;
 use std::io::{self, Read, Write};
 use std::path::PathBuf;
@@ -21,6 +21,10 @@ const MOST_SAID: u64 = 4_096;
 const CHECK: &[u8] = b"check";
 /// The frame that begins an enquiry for a word.
 const WORD: &[u8] = b"word";
+/// The frame that begins an enquiry for a place.
+const POSITION: &[u8] = b"position";
+/// How many bytes a number has.
+const BYTES: usize = 8;
 
 /// A running worker and the pipes to it.
 pub struct Held {
@@ -82,7 +86,7 @@ impl Held {
         &self.digest
     }
 
-    /// Asks the worker for `sverdhyll_check`.
+    /// Asks the worker for `sverdhyll_answer`.
     pub fn check(
         &mut self,
         script: &[u8],
@@ -95,32 +99,26 @@ impl Held {
         let mut area: Vec<u8> = shown.iter().flat_map(|one| one.to_le_bytes()).collect();
         let budget = budget.to_le_bytes();
         self.send(&[CHECK, script, response, &points, &budget, &area])?;
-        let mut head = [0; 2];
-        let mut numbers = [[0; 8]; 3];
-        self.receive(&mut head)?;
-        for number in &mut numbers {
-            self.receive(number)?;
-        }
+        let numbers = self.receive_numbers()?;
         self.receive(&mut area)?;
         for (entry, bytes) in shown.iter_mut().zip(area.chunks_exact(2)) {
             *entry = u16::from_le_bytes([bytes[0], bytes[1]]);
         }
-        let [place, second, units] = numbers.map(u64::from_le_bytes);
-        Ok(Answer {
-            number: head[0],
-            text: head[1],
-            place,
-            second,
-            units,
-        })
+        Ok(Answer::of(numbers))
     }
 
     /// Asks the worker for `sverdhyll_word`.
     pub fn word(&mut self, text: &[u8], at: usize) -> io::Result<usize> {
         self.send(&[WORD, text, &(at as u64).to_le_bytes()])?;
-        let mut length = [0; 8];
-        self.receive(&mut length)?;
-        Ok(u64::from_le_bytes(length) as usize)
+        let [length] = self.receive_numbers()?;
+        Ok(length as usize)
+    }
+
+    /// Asks the worker for `sverdhyll_position`, and `sverdhyll_word` for the end.
+    pub fn position(&mut self, text: &[u8], place: usize) -> io::Result<Position> {
+        self.send(&[POSITION, text, &(place as u64).to_le_bytes()])?;
+        let [end, line, column] = self.receive_numbers()?;
+        Ok(Position { end, line, column })
     }
 
     /// Sends frames.
@@ -149,6 +147,17 @@ impl Held {
             "" => io::Error::other("the checker's worker has gone"),
             said => io::Error::other(format!("the checker's worker has gone: {said}")),
         }
+    }
+
+    /// Receives a frame of so many numbers.
+    fn receive_numbers<const COUNT: usize>(&mut self) -> io::Result<[u64; COUNT]> {
+        let mut frame = vec![0; BYTES * COUNT];
+        self.receive(&mut frame)?;
+        let mut numbers = [0; COUNT];
+        for (number, bytes) in numbers.iter_mut().zip(frame.chunks_exact(BYTES)) {
+            *number = u64::from_le_bytes(bytes.try_into().expect("the bytes of a number"));
+        }
+        Ok(numbers)
     }
 
     /// Receives a frame whose length is known.

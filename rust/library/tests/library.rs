@@ -1,20 +1,20 @@
-//! The library through its Rust interface: the swap case, refusals, the enquiry, its digest, and many checks by one process.
+//! The library through its Rust interface: the swap case, refusals, places, the enquiries, its digest, and many checks by one process.
 
-use sverdhyll::{Answer, Library, AREA_LENGTH, UNUSED};
+use sverdhyll::{Answer, Library, Position, AREA_LENGTH, UNUSED};
 
 /// The script of the shipped example.
 const SCRIPT: &[u8] = include_bytes!("../../../examples/swap.sy");
 /// The response of the shipped example.
 const RESPONSE: &[u8] = include_bytes!("../../../examples/swap.response");
 
-/// An answer without units.
+/// An answer without units and without a position.
 fn answer(number: u8, text: u8, place: u64, second: u64) -> Answer {
     Answer {
         number,
         text,
         place,
         second,
-        units: 0,
+        ..Answer::default()
     }
 }
 
@@ -63,6 +63,54 @@ fn enquiry() {
         let found = library.word(b"; \nab( ", at);
         assert_eq!(found.expect("an answer"), length, "at {at}");
     }
+}
+
+#[test]
+fn positions() {
+    let mut library = Library::open().expect("a library");
+    let text = b"\tab\r(\n\xe9c ";
+    for (place, end, line, column) in [
+        (0, 0, 1, 1),
+        (1, 3, 1, 2),
+        (2, 2, 1, 3),
+        (4, 5, 1, 5),
+        (5, 5, 1, 6),
+        (6, 8, 2, 1),
+        (8, 8, 2, 3),
+        (9, 9, 2, 4),
+        (900, 900, 2, 4),
+    ] {
+        let found = library.position(text, place).expect("an answer");
+        let expected = Position { end, line, column };
+        assert_eq!(found, expected, "at {place}");
+    }
+    for (text, line, column) in [(&b""[..], 1, 1), (b"a", 1, 2), (b"a\n", 2, 1)] {
+        let found = library.position(text, text.len()).expect("an answer");
+        let end = text.len() as u64;
+        assert_eq!(found, Position { end, line, column });
+    }
+}
+
+#[test]
+fn answers_with_a_position() {
+    let mut library = Library::open().expect("a library");
+    let (refused, _) = checked(&mut library, b"(set-logic BV)\n (foo bar)", 0);
+    let position = Position {
+        end: 17,
+        line: 2,
+        column: 2,
+    };
+    let expected = Answer {
+        end: 17,
+        line: 2,
+        column: 2,
+        ..answer(5, 0, 16, 0)
+    };
+    assert_eq!((refused, refused.position()), (expected, Some(position)));
+    let said = "script, line 2, column 2: of no shape that is known";
+    assert_eq!(refused.to_string(), said);
+    let (accepted, _) = checked(&mut library, SCRIPT, 24);
+    assert_eq!(accepted.position(), None);
 }
 
 #[test]

@@ -5,6 +5,7 @@ mod mutate;
 mod noise;
 pub mod random;
 mod sized;
+mod spaces;
 
 use crate::eval::{assumption_costs, constraint_costs, false_numbers, Functions};
 use crate::{
@@ -154,24 +155,22 @@ fn rendered(random: &mut Random, draft: Draft) -> Case {
     }
 }
 
-/// The words with white space and comments between them.
+/// The words with white space and comments between them and behind the last one.
 fn text(random: &mut Random, words: &[String]) -> Vec<u8> {
     let spaced = random.percent(50);
     let mut text = Vec::new();
     let mut apart = true;
     for word in words {
         let bracket = word == "(" || word == ")";
-        if spaced && random.percent(2) {
-            text.extend(b"; ) \"a comment\" |( \xff ");
-            text.push(random.pick(b"\n\r"));
-        } else if spaced && random.percent(10) {
-            text.extend(random.pick(&["\n", "\t", "\r\n", "  "]).as_bytes());
+        if spaced && random.percent(12) {
+            text.extend(spaces::gap(random));
         } else if !apart && !bracket {
             text.push(b' ');
         }
         text.extend(word.as_bytes());
         apart = bracket;
     }
+    text.extend(spaces::ending(random));
     text
 }
 

@@ -1,8 +1,8 @@
 //! A simple reference checker, written straight from document 01 and the requests that change it. Each function names the sentence that it follows.
 //!
-//! `check` is the whole of it. Its parts are there for other programs that read the same texts: the words of a text (`words`), trees of words (`tree`), sorts
-//! (`operators`), the forms of commands, terms and constants (`commands`, `terms`, `constants`), what a script and a response say (`script`, `response`, `grammar`), and
-//! values and costs of terms (`eval`).
+//! `check` is the whole of it. Its parts are there for other programs that read the same texts: the words of a text (`words`), their ends with lines and columns
+//! (`places`), trees of words (`tree`), sorts (`operators`), the forms of commands, terms and constants (`commands`, `terms`, `constants`), what a script and a response
+//! say (`script`, `response`, `grammar`), and values and costs of terms (`eval`).
 
 pub mod commands;
 pub mod constants;
@@ -10,6 +10,7 @@ pub mod eval;
 pub mod generate;
 pub mod grammar;
 pub mod operators;
+pub mod places;
 pub mod replay;
 pub mod response;
 pub mod script;
@@ -19,6 +20,7 @@ pub mod tree;
 pub mod words;
 
 use eval::Outcome;
+pub use places::{position, Position};
 pub use terms::operands;
 pub use words::word;
 
@@ -47,14 +49,17 @@ const POINTS: u8 = 2;
 /// The text "none or the area" of an answer.
 const NONE: u8 = 3;
 
-/// An answer by document 01's table.
-#[derive(Clone, Copy, Debug, PartialEq, Eq)]
+/// An answer by document 01's table, and where the word at its place ends, with the place's line and column.
+#[derive(Clone, Copy, Debug, Default, PartialEq, Eq)]
 pub struct Answer {
     pub number: u8,
     pub text: u8,
     pub place: u64,
     pub second: u64,
     pub units: u64,
+    pub end: u64,
+    pub line: u64,
+    pub column: u64,
 }
 
 /// The number and place of a fault in a text.
@@ -70,14 +75,13 @@ impl Fault {
         Fault { number, place }
     }
 
-    /// The answer for a fault in a text; its second number and its units are 0.
+    /// The answer for a fault in a text; its second number and its units are 0, and its place is still to be located.
     fn in_text(self, text: u8) -> Answer {
         Answer {
             number: self.number,
             text,
             place: self.place as u64,
-            second: 0,
-            units: 0,
+            ..Answer::default()
         }
     }
 }
@@ -95,7 +99,23 @@ pub fn check(
     }
     match checked(script, response, points, budget, area) {
         Ok(answer) => answer,
-        Err(refusal) => refusal,
+        Err(refusal) => located(refusal, script, response),
+    }
+}
+
+/// "Answers 2 to 9, 12 and 13 carry the new numbers; ... the other answers carry 0."
+fn located(answer: Answer, script: &[u8], response: &[u8]) -> Answer {
+    let text = match (answer.number, answer.text) {
+        (2..=9 | 12 | 13, SCRIPT) => script,
+        (2..=9 | 12 | 13, RESPONSE) => response,
+        _ => return answer,
+    };
+    let Position { end, line, column } = position(text, answer.place as usize);
+    Answer {
+        end,
+        line,
+        column,
+        ..answer
     }
 }
 
@@ -170,5 +190,6 @@ fn last_answer(outcome: Outcome, units: u64) -> Answer {
         place: place as u64,
         second: second as u64,
         units,
+        ..Answer::default()
     }
 }

@@ -52,7 +52,7 @@ fn word_end(text: &[u8], start: usize) -> usize {
     length.map_or(text.len(), |length| start + length)
 }
 
-/// All words of a text, sound or not, in order.
+/// All words of a text, sound or not, in order, each from its start to its end.
 pub fn cut(text: &[u8]) -> Vec<Range<usize>> {
     let mut words = Vec::new();
     let mut at = 0;

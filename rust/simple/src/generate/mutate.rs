@@ -186,8 +186,18 @@ pub fn mutate(random: &mut Random, draft: &mut Draft) {
         13 | 14 => regroup(random, &mut draft.response),
         15 | 16 => mutate_literal(random, &mut draft.script),
         17..=20 => mutate_operands(random, &mut draft.script),
+        21 => cut_off(random, draft),
         _ => mutate_words(random, &mut draft.script),
     }
+}
+
+/// Ends the script or the response early.
+fn cut_off(random: &mut Random, draft: &mut Draft) {
+    let text = match random.percent(50) {
+        true => &mut draft.script,
+        false => &mut draft.response,
+    };
+    text.truncate(random.below(text.len() + 1));
 }
 
 /// Replaces a name of the response by one of the script.

@@ -2,6 +2,7 @@
 
 use super::mutate::odd_word;
 use super::random::Random;
+use super::spaces;
 
 /// What begins a script that is read up to its noise.
 const BEGIN: &str = "(set-logic BV)(declare-var y Bool)(define-fun d ((x Bool)) Bool x)";
@@ -37,10 +38,22 @@ pub fn noise(random: &mut Random) -> Vec<u8> {
         }
         2 => {
             let words = (0..length).map(|_| odd_word(random) + " ");
-            words.collect::<String>().into_bytes()
+            let words = words.collect();
+            respaced(random, words)
         }
-        _ => trees(random, 0).into_bytes(),
+        _ => {
+            let trees = trees(random, 0);
+            respaced(random, trees)
+        }
     }
+}
+
+/// A text with other white space here and there, ended in some way.
+fn respaced(random: &mut Random, text: String) -> Vec<u8> {
+    let mut text = text.into_bytes();
+    spaces::respace(random, &mut text);
+    text.extend(spaces::ending(random));
+    text
 }
 
 /// A script whose first commands are sound and whose others, if any, are trees at random.
@@ -53,7 +66,7 @@ pub fn framed(random: &mut Random) -> Vec<u8> {
         script += &trees(random, 0);
     }
     script += random.pick(&["(check-synth)", "(check-synth)", "", "(check-synth) x"]);
-    script.into_bytes()
+    respaced(random, script)
 }
 
 /// Some trees side by side, fewer the deeper they stand.

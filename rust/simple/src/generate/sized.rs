@@ -3,6 +3,7 @@
 use super::draft::words;
 use super::mutate::odd_word;
 use super::random::Random;
+use super::spaces;
 
 /// A text of a script and one of a response, and the points.
 pub struct Sized {
@@ -319,13 +320,22 @@ fn response(counts: &Counts) -> String {
     format!("({})", repeated(counts.functions, function))
 }
 
-/// The text, brought to a number of bytes by white space or a comment where it is shorter.
+/// The text, brought to a number of bytes by white space before or behind it or by a comment where it is shorter, or ended in
+/// some way where no number is given.
 fn padded(random: &mut Random, text: String, bytes: usize) -> Vec<u8> {
     let missing = bytes.saturating_sub(text.len());
-    let padding = match random.below(3) {
-        0 => " ".repeat(missing),
-        1 => "\n".repeat(missing),
-        _ => format!("{:;<missing$}", ""),
+    let mut text = text.into_bytes();
+    spaces::respace(random, &mut text);
+    let padding = match random.below(5) {
+        _ if bytes == 0 => return [text, spaces::ending(random)].concat(),
+        0 => vec![b' '; missing],
+        1 => vec![b'\n'; missing],
+        2 => spaces::blank(random, missing),
+        3 => return [text, vec![b';'; missing]].concat(),
+        _ => return [text, spaces::filled(random, missing)].concat(),
     };
-    (text + &padding).into_bytes()
+    match random.percent(50) {
+        true => [padding, text].concat(),
+        false => [text, padding].concat(),
+    }
 }

@@ -1,5 +1,6 @@
 //! A stored case with its answer, and what the checker does otherwise.
 
+use crate::places::assert_located;
 use simple::{check, replay, Answer, AREA_LENGTH};
 
 /// What is given, under a name, and its answer.
@@ -10,7 +11,8 @@ pub struct Case {
     pub points: Vec<u64>,
     pub budget: u64,
     pub area_length: usize,
-    pub answer: Answer,
+    /// The numbers that are stored of its answer: the first five, or all eight.
+    pub answer: Vec<u64>,
 }
 
 /// The bytes that hex digits write.
@@ -22,15 +24,18 @@ pub fn bytes(digits: &str) -> Vec<u8> {
     digits.as_bytes().chunks(2).map(byte).collect()
 }
 
-/// The answer of five numbers.
-pub fn answer_of(numbers: &[u64]) -> Answer {
-    Answer {
-        number: numbers[0] as u8,
-        text: numbers[1] as u8,
-        place: numbers[2],
-        second: numbers[3],
-        units: numbers[4],
-    }
+/// The numbers of an answer.
+fn numbers(answer: &Answer) -> [u64; 8] {
+    [
+        answer.number.into(),
+        answer.text.into(),
+        answer.place,
+        answer.second,
+        answer.units,
+        answer.end,
+        answer.line,
+        answer.column,
+    ]
 }
 
 impl Case {
@@ -39,7 +44,10 @@ impl Case {
         let mut area = vec![4_660; self.area_length];
         let (script, response) = (&self.script, &self.response);
         let answer = check(script, response, &self.points, self.budget, &mut area);
-        if answer != self.answer {
+        assert_located(&answer, script, response);
+        let stored = self.answer.len();
+        assert!(stored == 5 || stored == 8, "{}: {stored}", self.name);
+        if numbers(&answer)[..stored] != self.answer {
             return Err(format!("{}: {answer:?}, not {:?}", self.name, self.answer));
         }
         let fault = if self.area_length == AREA_LENGTH {

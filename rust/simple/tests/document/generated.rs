@@ -1,5 +1,6 @@
 //! The random cases: the same for the same seed, sound ones sound, and every answer reached by mutations.
 
+use crate::places::assert_located;
 use simple::eval::whole_points;
 use simple::generate::{crowded, mutated, noise, sized, valid, Case};
 use simple::operators::{operator, OPERATORS};
@@ -7,13 +8,14 @@ use simple::script::Script;
 use simple::{check, replay, script, words, Answer, AREA_LENGTH, FIRST_ASSUMPTION};
 use std::collections::HashSet;
 
-/// The answer of a case, the area being judged as well.
+/// The answer of a case, the area and what the answer carries of its place being judged as well.
 fn answer(case: &Case) -> Answer {
     let mut area = vec![7; AREA_LENGTH];
     let (script, response) = (&case.script, &case.response);
     let answer = check(script, response, &case.points, case.budget, &mut area);
     let fault = replay::area_fault(script, response, answer.number, &area);
     assert_eq!(fault, None);
+    assert_located(&answer, script, response);
     answer
 }
 
@@ -171,7 +173,7 @@ fn sound_cases_have_assumptions_of_every_kind() {
 #[test]
 fn cases_about_limits_have_32_assumptions_and_33() {
     let (mut most, mut past, mut numbers) = (0, 0, HashSet::new());
-    for seed in 0..2_000 {
+    for seed in 0..3_000 {
         let case = sized(seed);
         let answer = answer(&case);
         let at = case.script.get(answer.place as usize..).unwrap_or(&[]);
@@ -206,5 +208,57 @@ fn mutations_misuse_assume() {
     }
     for expected in [(0, 4), (0, 5), (0, 6), (0, 7), (1, 5), (1, 12)] {
         assert!(found.contains(&expected), "{expected:?} of {found:?}");
+    }
+}
+
+/// Of which kinds a place of a text is, so that a wrong line, column or end of it shows.
+fn place_kinds(text: &[u8], place: usize) -> [bool; 7] {
+    let before = &text[..place];
+    let mut lines = before.rsplit(|&byte| byte == b'\n');
+    let line = lines.next().expect("a line");
+    let ended = place == text.len();
+    [
+        lines.next().is_some(),
+        line.contains(&b'\r'),
+        line.contains(&b'\t'),
+        line.iter().any(|&byte| byte > 127),
+        ended && text.ends_with(b"\n"),
+        ended && !text.ends_with(b"\n"),
+        !ended && place + simple::word(text, place) == text.len(),
+    ]
+}
+
+#[test]
+fn faults_are_at_places_of_every_kind() {
+    let mut counts = [[0; 7]; 2];
+    for seed in 0..1_000 {
+        for make in [mutated, crowded, sized, noise] {
+            let case = make(seed);
+            let (answer, texts) = (answer(&case), [&case.script, &case.response]);
+            if answer.line == 0 {
+                continue;
+            }
+            let text = usize::from(answer.text);
+            let kinds = place_kinds(texts[text], answer.place as usize);
+            for (count, kind) in counts[text].iter_mut().zip(kinds) {
+                *count += u32::from(kind);
+            }
+        }
+    }
+    assert!(
+        counts.iter().flatten().all(|&count| count > 5),
+        "{counts:?}"
+    );
+}
+
+#[test]
+fn texts_end_with_and_without_the_end_of_a_line() {
+    for make in [valid, mutated, crowded, sized, noise] {
+        let cases: Vec<Case> = (0..100).map(make).collect();
+        let texts: [fn(&Case) -> &Vec<u8>; 2] = [|case| &case.script, |case| &case.response];
+        for text in texts {
+            let ended = cases.iter().filter(|case| text(case).ends_with(b"\n"));
+            assert!((15..=85).contains(&ended.count()));
+        }
     }
 }

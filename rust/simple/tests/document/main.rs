@@ -1,4 +1,5 @@
-//! Document 01 run: the readings, the vectors, the bench, constants, signed operators, assumptions, every limit and every row of the table of answers.
+//! Document 01 run: the readings, the vectors, the bench, constants, signed operators, assumptions, ends, lines and columns, every limit and every row of the table of
+//! answers.
 
 mod answers;
 mod assumptions;
@@ -8,6 +9,7 @@ mod constants;
 mod generated;
 mod judge;
 mod limits;
+mod places;
 mod readings;
 mod reserved;
 mod signed;
@@ -19,13 +21,14 @@ use simple::{check, replay, AREA_LENGTH, LIST_LENGTH, UNUSED};
 /// Answer number, text, place, second number and units.
 type Five = (u8, u8, u64, u64, u64);
 
-/// The answer for an area of the right size, which is judged as well, and the area.
+/// The answer for an area of the right size, which is judged as well as what the answer carries of its place, and the area.
 fn answer_and_area(script: &str, response: &str, points: &[u64], budget: u64) -> (Five, Vec<u16>) {
     let mut area = vec![7; AREA_LENGTH];
     let (script, response) = (script.as_bytes(), response.as_bytes());
     let answer = check(script, response, points, budget, &mut area);
     let fault = replay::area_fault(script, response, answer.number, &area);
     assert_eq!(fault, None);
+    places::assert_located(&answer, script, response);
     let five = (
         answer.number,
         answer.text,

@@ -1,6 +1,6 @@
-//! All decided readings: the five numbers of each answer, and the area after it.
+//! All decided readings: the numbers of each answer, and the area after it.
 
-use crate::cases::{answer_of, bytes, Case};
+use crate::cases::{bytes, Case};
 
 /// The text that follows `"name": ` in a line up to the end of its value; the values hold no brackets within brackets.
 fn field<'a>(line: &'a str, name: &str) -> &'a str {
@@ -33,8 +33,17 @@ fn case(line: &str) -> Case {
         points: numbers(field(line, "points")),
         budget: number("budget"),
         area_length: number("area_len") as usize,
-        answer: answer_of(&numbers(field(line, "answer"))),
+        answer: answer(line),
     }
+}
+
+/// The numbers of the answer, with end, line and column where the line has them.
+fn answer(line: &str) -> Vec<u64> {
+    let mut answer = numbers(field(line, "answer"));
+    if line.contains("\"end_line_column\": ") {
+        answer.extend(numbers(field(line, "end_line_column")));
+    }
+    answer
 }
 
 #[test]
@@ -44,6 +53,6 @@ fn all_readings_agree() {
     let cases: Vec<Case> = lines.lines().map(case).collect();
     let faults = cases.iter().filter_map(|case| case.area().err());
     let faults: Vec<String> = faults.collect();
-    assert_eq!(cases.len(), 479);
+    assert_eq!(cases.len(), 491);
     assert!(faults.is_empty(), "{}", faults.join("\n"));
 }

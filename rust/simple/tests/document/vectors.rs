@@ -1,6 +1,6 @@
-//! All records of the program `test_vectors`: the five numbers of each answer, and the lists shown after it.
+//! All records of the program `test_vectors`: the numbers of each answer, and the lists shown after it.
 
-use crate::cases::{answer_of, bytes, Case};
+use crate::cases::{bytes, Case};
 use crate::shown;
 use simple::AREA_LENGTH;
 
@@ -39,7 +39,7 @@ fn record(given: &str, stored: &str) -> (Case, String) {
         points: points.map(number).collect(),
         budget: number(given[4]),
         area_length: number(given[5]) as usize,
-        answer: answer_of(&numbers.expect("numbers")),
+        answer: numbers.expect("numbers"),
     };
     (case, area.to_string())
 }

@@ -1,0 +1,65 @@
+//! What the cases must bring besides every answer, so that a wrong checker is told apart.
+
+use simple::eval::whole_points;
+use simple::generate::Case;
+use simple::{script, FIRST_ASSUMPTION};
+use sverdhyll::Answer;
+
+/// How many kinds there are.
+pub const KINDS: usize = 7;
+
+/// The names of the kinds.
+pub const NAMES: [&str; KINDS] = [
+    "answer 0 with points skipped",
+    "answer 15 before an assumption",
+    "a place behind the first line",
+    "a place behind byte 13 in its line",
+    "a place behind a byte above 127 in its line",
+    "a place at a text's end behind byte 10",
+    "a place at a text's end behind another byte",
+];
+
+/// Of which kinds a case with its answer is.
+pub fn kinds(case: &Case, answer: &Answer) -> [bool; KINDS] {
+    let before_assumption = answer.number == 15 && answer.second >= FIRST_ASSUMPTION as u64;
+    let [later, behind_13, behind_above_127, line_ended, ended] = place_kinds(case, answer);
+    [
+        points_skipped(case, answer),
+        before_assumption,
+        later,
+        behind_13,
+        behind_above_127,
+        line_ended,
+        ended,
+    ]
+}
+
+/// Whether fewer points are counted than there are: "Answer 0's second number now counts the points whose assumptions all held."
+fn points_skipped(case: &Case, answer: &Answer) -> bool {
+    if answer.number != 0 {
+        return false;
+    }
+    let script = script::read(&case.script).expect("a sound script after 0");
+    let points = whole_points(&case.points, &script.variables);
+    answer.second < points.len() as u64
+}
+
+/// Of which kinds the place of an answer is that carries a line and a column.
+fn place_kinds(case: &Case, answer: &Answer) -> [bool; 5] {
+    let text = match (answer.line, answer.text) {
+        (0, _) => return [false; 5],
+        (_, 0) => &case.script,
+        _ => &case.response,
+    };
+    let before = &text[..answer.place as usize];
+    let line_start = before.iter().rposition(|&byte| byte == b'\n');
+    let line = &before[line_start.map_or(0, |at| at + 1)..];
+    let at_end = before.len() == text.len();
+    [
+        line_start.is_some(),
+        line.contains(&b'\r'),
+        line.iter().any(|&byte| byte > 127),
+        at_end && line_start.is_some() && line.is_empty(),
+        at_end && !line.is_empty(),
+    ]
+}
