@@ -3,18 +3,16 @@ use Prim.Native.Nat.{ℕ, _+_, _*_, _≤_}
 use native.Mathlib.Omega.{arith}
 use mathlib.Core.Path.{_≡_, refl, sym, ap, subst, _∙_}
 use mathlib.Core.List.{List}
-use lib.ListN.{drop, getD-replicate, length, length-replicate, replicate, take}
-use lib.Seq.{length-take-le}
-use Rattle.forest.specs.Limits.{scriptWords}
+use lib.ListN.{getD-replicate, length, length-replicate, replicate}
+use Rattle.forest.specs.Limits.{responseWords, scriptWords}
+use Rattle.terms.specs.code.Nodes.{rowWidth as nodeWidth}
 use Rattle.term_nodes.specs.code.Table.{rowWidth as rawWidth}
 use Rattle.names.specs.code.Lookup.{Names}
 use Rattle.names.specs.code.Table.{rowCount, rowWidth as nameWidth}
 use Rattle.script.specs.Script.{Known}
-use Rattle.script.specs.code.Places.{formsPlace, nodesLength}
 use Rattle.script.specs.declared.Progress.{Progress}
 use Rattle.script.specs.declared.Verdict.{Verdict}
 use Rattle.script_reader.specs.declared.Step.{Step}
-use Rattle.script_reader.proofs.NodeTableParts.{Parts}
 use Rattle.script.specs.Outcome.{ResponseOutcome, ScriptOutcome, given, responseOutcome, said, scriptOutcome}
 use Rattle.texts.specs.code.Responses.{Ready, ResponseRead, ResponseTold}
 use Rattle.texts.specs.code.Scripts.{ScriptRead, ScriptTold}
@@ -24,7 +22,8 @@ use Rattle.checker.proofs.BothTables.{held}
 use Rattle.outcome.proofs.Script.{script-assured}
 use Rattle.outcome.specs.Checked.{Checked, Passing, judged, refusal}
 use Rattle.outcome.specs.declared.Outcome.{Outcome}
-use Rattle.checker.specs.code.Judge.{BodiesDerived, BothHeld, Deriving, Judging, PointsJudged, TextsRead}
+use Rattle.verdicts.specs.code.Derive.{Derivable}
+use Rattle.checker.specs.code.Judge.{BodiesDerived, BothHeld, Judging, PointsJudged, TextsRead}
 use Rattle.checker.specs.declared.judge.Told.{Told}
 use Rattle.checker.proofs.Judgements.{all-derive, none-derives}
 
@@ -36,24 +35,14 @@ blank-names =
       short = λ r h. rw (getD-replicate {A = ℕ} (nameWidth * rowCount) (nameWidth * r + 1) 0 0 (omega arith)) (omega arith);
     }
 
--- there is room for the terms in front of the forms
-pub forms-room : (nodes : List ℕ) → length nodes ≡ nodesLength → formsPlace ≤ length nodes
-forms-room nodes long = omega arith
-
--- what is read into the terms stands in the table of nodes
-pub terms-read : {response names raw places nodes placesAfter nodesAfter terms forms : List ℕ} {p : Progress} {v : Verdict} → Parts nodes nodesAfter terms forms
-    → ((q : Ready names raw places (take formsPlace nodes) p) → ResponseRead q response placesAfter terms v)
-    → (q : Ready names raw places (take formsPlace nodes) p) → ResponseRead q response placesAfter (take formsPlace nodesAfter) v
-terms-read parts answers q = rw (parts .terms-are) (answers q)
-
-module _ {script names places nodes : List ℕ} {s : Step} (read : ScriptRead script names places nodes s) where
+module _ {script names places nodes forms : List ℕ} {s : Step} (read : ScriptRead script names places nodes forms s) where
   -- a script that is refused
   pub script-declined : {response : List ℕ} {o : Outcome} {p : Progress} → o ≡ refusal (s .number) scriptText (s .place) → (s .number ≡ 0 → ⊥)
-      → TextsRead script response names places nodes (record { outcome = o; progress = p })
+      → TextsRead script response names places nodes forms (record { outcome = o; progress = p })
   script-declined {response} {o} {p} e some = go (scriptOutcome script) refl (read .told)
     where
-      go : (t : ScriptOutcome) → scriptOutcome script ≡ t → ScriptTold t names places nodes s
-          → TextsRead script response names places nodes (record { outcome = o; progress = p })
+      go : (t : ScriptOutcome) → scriptOutcome script ≡ t → ScriptTold t names places nodes forms s
+          → TextsRead script response names places nodes forms (record { outcome = o; progress = p })
       go (ScriptOutcome.faulty number offset) is (n, at) =
           record {
             both! = λ zero. absurd (some (sym (ap (λ (x : Outcome). x .number) e) ∙ zero));
@@ -66,42 +55,41 @@ module _ {script names places nodes : List ℕ} {s : Step} (read : ScriptRead sc
     pub record Passed : Type 0 where
       pub known : Known
       pub is : scriptOutcome script ≡ said known
-      pub told : ScriptTold (said known) names places nodes s
+      pub told : ScriptTold (said known) names places nodes forms s
 
     -- a script without a number passes
     abbrev pub script-passed : Passed
     script-passed = go (scriptOutcome script) refl (read .told)
       where
-        go : (o : ScriptOutcome) → scriptOutcome script ≡ o → ScriptTold o names places nodes s → Passed
+        go : (o : ScriptOutcome) → scriptOutcome script ≡ o → ScriptTold o names places nodes forms s → Passed
         go (ScriptOutcome.faulty number offset) e (f, g) =
             let h : Numbered inScript (ScriptOutcome.faulty number offset) = rw e at (script-numbered script) in
             absurd (omega (arith, h .some))
         go (said k) e told = record { known = k; is = e; told = told }
 
-    module _ {raw : List ℕ} (raw-room : length raw ≡ rawWidth * scriptWords) (nodes-room : length nodes ≡ nodesLength) where
+    module _ {raw : List ℕ} (raw-room : rawWidth * responseWords ≤ length raw) (nodes-room : nodeWidth * (scriptWords + responseWords) ≤ length nodes) where
       -- the tables are ready for a response
-      abbrev pub ready : Ready names raw places (take formsPlace nodes) (s .progress)
+      abbrev pub ready : Ready names raw places nodes (s .progress)
       ready =
           record {
             known = script-passed .known;
-            forms = drop formsPlace nodes;
+            forms = forms;
             tables = script-passed .told .1;
-            few = script-passed .told .2;
             raw-room = raw-room;
-            nodes-room = length-take-le formsPlace nodes (forms-room nodes nodes-room);
+            nodes-room = omega (arith, script-passed .told .2);
           }
 
       -- a response to a script that passes
       pub response-read : {response placesAfter nodesAfter : List ℕ} {v : Verdict} {o : Outcome}
-          → ((q : Ready names raw places (take formsPlace nodes) (s .progress)) → ResponseRead q response placesAfter (take formsPlace nodesAfter) v)
-          → drop formsPlace nodesAfter ≡ drop formsPlace nodes → length nodesAfter ≡ length nodes → o ≡ refusal (v .number) responseText (v .place)
-          → TextsRead script response names placesAfter nodesAfter (record { outcome = o; progress = s .progress })
-      response-read {response} {placesAfter} {nodesAfter} {v} {o} answers behind long e =
+          → ((q : Ready names raw places nodes (s .progress)) → ResponseRead q response placesAfter nodesAfter v)
+          → o ≡ refusal (v .number) responseText (v .place)
+          → TextsRead script response names placesAfter nodesAfter forms (record { outcome = o; progress = s .progress })
+      response-read {response} {placesAfter} {nodesAfter} {v} {o} answers e =
           go (responseOutcome (script-passed .known) response) refl (answers ready .told)
         where
           go : (t : ResponseOutcome) → responseOutcome (script-passed .known) response ≡ t
-              → ResponseTold t (script-passed .known) response placesAfter (take formsPlace nodesAfter) (drop formsPlace nodes) (s .progress) v
-              → TextsRead script response names placesAfter nodesAfter (record { outcome = o; progress = s .progress })
+              → ResponseTold t (script-passed .known) response placesAfter nodesAfter forms (s .progress) v
+              → TextsRead script response names placesAfter nodesAfter forms (record { outcome = o; progress = s .progress })
           go (ResponseOutcome.faulty number offset) is (n, at) =
               let h : Numbered inResponse (ResponseOutcome.faulty number offset) = rw is at (response-numbered (script-passed .known) response) in
               record {
@@ -116,38 +104,33 @@ module _ {script names places nodes : List ℕ} {s : Step} (read : ScriptRead sc
                       bodies = bs;
                       says = script-passed .is;
                       gives = is;
-                      held = rw behind (held response v (script-assured script (script-passed .is)) (script-passed .told .1) is told);
-                      room = forms-room nodesAfter (long ∙ nodes-room);
+                      held = held response v (script-assured script (script-passed .is)) (script-passed .told .1) is told;
                     };
                 one! = λ other. absurd (other (ap (λ (x : Outcome). x .number) e ∙ told .0));
               }
 
-module _ {script response points area : List ℕ} (sizes : Judging script response points area) {names places nodes : List ℕ} where
+module _ {script response points area : List ℕ} (sizes : Judging script response points area) {names places nodes forms : List ℕ} where
   -- a text that is refused
-  pub text-declined : {budget : ℕ} {r : Told} → TextsRead script response names places nodes r → (r .outcome .number ≡ 0 → ⊥)
+  pub text-declined : {budget : ℕ} {r : Told} → TextsRead script response names places nodes forms r → (r .outcome .number ≡ 0 → ⊥)
       → Checked script response points budget area (r .outcome) area
   text-declined {budget} {r} read other =
       subst (λ (after : List ℕ). Checked script response points budget area (r .outcome) after) (sym (sizes .blank)) (read .one! other (sizes .sized))
 
-  module _ {p : Progress} (both : BothHeld script response names places nodes p) where
+  module _ {p : Progress} (both : BothHeld script response names places nodes forms p) where
     -- what the search for derivations asks
-    abbrev pub to-derive : Deriving places nodes p area
-    to-derive =
-        record {
-          tables = record { text = response; names = names; known = both .known; bodies = both .bodies; held = both .held; blank = sizes .blank };
-          room = both .room;
-        }
+    abbrev pub to-derive : Derivable places nodes forms p area
+    to-derive = record { text = response; names = names; known = both .known; bodies = both .bodies; held = both .held; blank = sizes .blank }
 
     -- both texts pass
     passing : Passing script response points area (both .known) (both .bodies)
     passing = record { sized = sizes .sized; says = both .says; gives = both .gives }
 
-    module _ {budget : ℕ} {o : Outcome} {between : List ℕ} (sought : BodiesDerived places nodes p area o between) where
+    module _ {budget : ℕ} {o : Outcome} {between : List ℕ} (sought : BodiesDerived places nodes forms p area o between) where
       -- a body without a derivation
       pub body-declined : (o .number ≡ 0 → ⊥) → Checked script response points budget area o between
       body-declined other = judged passing (none-derives to-derive sought other)
 
       -- the points, where every body is derived
       pub points-answered : {r : Outcome} {after : List ℕ} → o .number ≡ 0 → length between ≡ length area
-          → PointsJudged names places (take formsPlace nodes) p points budget between r after → Checked script response points budget area r after
+          → PointsJudged names places nodes p points budget between r after → Checked script response points budget area r after
       points-answered all long answer = judged passing (all-derive to-derive sought all long answer)

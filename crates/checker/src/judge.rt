@@ -1,15 +1,13 @@
 //! The two texts, the derivations and the points, in their order.
 use crate::area::blank_area;
+use forest::limits::RESPONSE_WORDS;
 use forest::limits::SCRIPT_WORDS;
 use names::table;
 use outcome::Outcome;
 use outcome::RESPONSE;
 use outcome::SCRIPT;
 use outcome::refusal;
-use script::FORMS;
-use script::NODES;
 use script::Progress;
-use script::Verdict;
 use script::answers::ACCEPTED;
 use script::answers::NO_DERIVATION;
 use script::answers::POINTS;
@@ -20,17 +18,17 @@ use texts::scripts::read_script_text;
 use verdicts::derive::derive_all;
 use verdicts::evaluate::evaluate;
 ghost use mathlib.Core.Path.{_≡_};
-ghost use lib.ListN.{drop, length, take};
-ghost use Prim.Native.Nat.{_*_, _≤_};
-ghost use Rattle.forest.specs.Limits.{scriptWords};
-ghost use Rattle.script.specs.code.Places.{formsPlace, nodesLength, placesLength};
-ghost use Rattle.term_nodes.specs.code.Table.{rowWidth};
+ghost use lib.ListN.{length};
+ghost use Prim.Native.Nat.{_+_, _*_};
+ghost use Rattle.forest.specs.Limits.{responseWords, scriptWords};
+ghost use Rattle.script.specs.code.Places.{placesLength};
+ghost use Rattle.terms.specs.code.Nodes.{rowWidth as nodeWidth};
+ghost use Rattle.term_nodes.specs.code.Table.{rowWidth as rawWidth};
 ghost use Rattle.names.specs.code.Lookup.{Names};
-ghost use Rattle.texts.specs.code.Responses.{ReadsResponse, Ready};
 ghost use Rattle.outcome.specs.Checked.{Checked};
-ghost use Rattle.verdicts.specs.code.Derive.{Derivable, Judged};
+ghost use Rattle.verdicts.specs.code.Derive.{Derivable};
 ghost use Rattle.verdicts.specs.code.Evaluate.{Evaluable};
-ghost use Rattle.checker.specs.code.Judge.{Judging, TextsRead, Deriving, BodiesDerived, PointsJudged};
+ghost use Rattle.checker.specs.code.Judge.{Judging, Lent, TextsRead, BodiesDerived, PointsJudged};
 
 // The answer on two texts, whose number is 0 where both pass; and what the script has said.
 struct Told {
@@ -54,34 +52,23 @@ fn no_places() -> [u64; PLACES]
 
 // A row for each word of a script.
 fn word_room() -> [u64; term_nodes::ROW * SCRIPT_WORDS]
-    ensures { λ r. ⌜ length r ≡ rowWidth * scriptWords ⌝ }
+    ensures { λ r. ⌜ length r ≡ rawWidth * scriptWords ⌝ }
 {
     [0; term_nodes::ROW * SCRIPT_WORDS]
 }
 
-// A row for each word of a script and of a response among the terms, and one for each word of a script among the forms.
-fn node_room() -> [u64; NODES]
-    ensures { λ r. ⌜ length r ≡ nodesLength ⌝ }
+// A row of nodes for each word of a script and of a response.
+fn node_room() -> [u64; terms::ROW * (SCRIPT_WORDS + RESPONSE_WORDS)]
+    ensures { λ r. ⌜ length r ≡ nodeWidth * (scriptWords + responseWords) ⌝ }
 {
-    [0; NODES]
+    [0; terms::ROW * (SCRIPT_WORDS + RESPONSE_WORDS)]
 }
 
-// Reads a response to a script whose tables are given, in one table of nodes the terms in front of the forms.
-fn read_bodies(
-    response: &[u8],
-    names: &[u8],
-    raw: &mut [u64],
-    places: &mut [u64],
-    nodes: &mut [u64],
-    progress: Progress,
-) -> Verdict
-    requires { ⌜ Ready (now names) (now raw) (now places) (take formsPlace (now nodes)) progress ⌝ }
-    requires { ⌜ formsPlace ≤ length (now nodes) ⌝ }
-    ensures { λ r. ⌜ ReadsResponse (now (response .entry)) (now (names .entry)) (now (raw .entry)) (now (places .entry))
-        (take formsPlace (now (nodes .entry))) progress (now (places .exit)) (take formsPlace (now (nodes .exit))) r ⌝ }
-    ensures { λ r. ⌜ drop formsPlace (now (nodes .exit)) ≡ drop formsPlace (now (nodes .entry)) ⌝ }
+// A row of forms for each word of a script.
+fn form_room() -> [u64; terms::ROW * SCRIPT_WORDS]
+    ensures { λ r. ⌜ length r ≡ nodeWidth * scriptWords ⌝ }
 {
-    read_response_text(response, names, raw, places, &mut nodes[..FORMS], progress)
+    [0; terms::ROW * SCRIPT_WORDS]
 }
 
 // Reads a script and a response to it: the tables hold both, or one is refused at an offset.
@@ -91,14 +78,14 @@ fn read_texts(
     names: &mut [u8],
     places: &mut [u64],
     nodes: &mut [u64],
+    forms: &mut [u64],
 ) -> Told
-    requires { ⌜ Names (now names) ⌝ }
-    requires { ⌜ length (now places) ≡ placesLength ⌝ }
-    requires { ⌜ length (now nodes) ≡ nodesLength ⌝ }
-    ensures { λ r. ⌜ TextsRead (now (script .entry)) (now (response .entry)) (now (names .exit)) (now (places .exit)) (now (nodes .exit)) r ⌝ }
+    requires { ⌜ Lent (now names) (now places) (now nodes) (now forms) ⌝ }
+    ensures { λ r. ⌜ TextsRead (now (script .entry)) (now (response .entry)) (now (names .exit)) (now (places .exit)) (now (nodes .exit))
+        (now (forms .exit)) r ⌝ }
 {
     let mut raw = word_room();
-    let step = read_script_text(script, names, &mut raw, places, nodes);
+    let step = read_script_text(script, names, &mut raw, places, nodes, forms);
     let progress = step.progress;
     if step.number != ACCEPTED {
         return Told {
@@ -106,30 +93,26 @@ fn read_texts(
             progress,
         };
     }
-    let verdict = read_bodies(response, names, &mut raw, places, nodes, progress);
+    let verdict = read_response_text(response, names, &mut raw, places, nodes, progress);
     Told {
         outcome: refusal(verdict.number, RESPONSE, verdict.place),
         progress,
     }
 }
 
-// Searches for derivations of all bodies, in one table of nodes the terms in front of the forms.
-fn derive_tables(places: &[u64], nodes: &[u64], progress: Progress, shown: &mut [u16]) -> usize
-    requires { ⌜ Derivable (now places) (take formsPlace (now nodes)) (drop formsPlace (now nodes)) progress (now shown) ⌝ }
-    requires { ⌜ formsPlace ≤ length (now nodes) ⌝ }
-    ensures { λ r. ⌜ ((q : Derivable (now (places .entry)) (take formsPlace (now (nodes .entry))) (drop formsPlace (now (nodes .entry)))
-        progress (now (shown .entry))) → Judged q (now (shown .exit)) r) ⌝ }
-{
-    derive_all(places, &nodes[..FORMS], &nodes[FORMS..], progress, shown)
-}
-
 // The answer on the bodies of texts that pass: 13 at the first word of the first body that its grammar does not derive, after which the area shows nothing; or
 // 0, after which it shows a derivation of each.
-fn derive_bodies(places: &[u64], nodes: &[u64], progress: Progress, shown: &mut [u16]) -> Outcome
-    requires { ⌜ Deriving (now places) (now nodes) progress (now shown) ⌝ }
-    ensures { λ r. ⌜ BodiesDerived (now (places .entry)) (now (nodes .entry)) progress (now (shown .entry)) r (now (shown .exit)) ⌝ }
+fn derive_bodies(
+    places: &[u64],
+    nodes: &[u64],
+    forms: &[u64],
+    progress: Progress,
+    shown: &mut [u16],
+) -> Outcome
+    requires { ⌜ Derivable (now places) (now nodes) (now forms) progress (now shown) ⌝ }
+    ensures { λ r. ⌜ BodiesDerived (now (places .entry)) (now (nodes .entry)) (now (forms .entry)) progress (now (shown .entry)) r (now (shown .exit)) ⌝ }
 {
-    let function = derive_tables(places, nodes, progress, shown);
+    let function = derive_all(places, nodes, forms, progress, shown);
     if function == progress.functions {
         return Outcome {
             number: ACCEPTED,
@@ -159,12 +142,11 @@ fn judge_points(
     budget: u64,
     shown: &mut [u16],
 ) -> Outcome
-    requires { ⌜ Evaluable (now names) (now places) (take formsPlace (now nodes)) progress ⌝ }
-    requires { ⌜ formsPlace ≤ length (now nodes) ⌝ }
-    ensures { λ r. ⌜ PointsJudged (now (names .entry)) (now (places .entry)) (take formsPlace (now (nodes .entry))) progress
-        (now (points .entry)) budget (now (shown .entry)) r (now (shown .exit)) ⌝ }
+    requires { ⌜ Evaluable (now names) (now places) (now nodes) progress ⌝ }
+    ensures { λ r. ⌜ PointsJudged (now (names .entry)) (now (places .entry)) (now (nodes .entry)) progress (now (points .entry)) budget
+        (now (shown .entry)) r (now (shown .exit)) ⌝ }
 {
-    let answer = evaluate(names, places, &nodes[..FORMS], progress, points, budget);
+    let answer = evaluate(names, places, nodes, progress, points, budget);
     if answer.number == POINTS {
         blank_area(shown);
     }
@@ -185,12 +167,20 @@ pub fn judge_texts(
     let mut names = no_names();
     let mut places = no_places();
     let mut nodes = node_room();
-    let told = read_texts(script, response, &mut names, &mut places, &mut nodes);
+    let mut forms = form_room();
+    let told = read_texts(
+        script,
+        response,
+        &mut names,
+        &mut places,
+        &mut nodes,
+        &mut forms,
+    );
     if told.outcome.number != ACCEPTED {
         return told.outcome;
     }
     let said = told.progress;
-    let derived = derive_bodies(&places, &nodes, said, shown);
+    let derived = derive_bodies(&places, &nodes, &forms, said, shown);
     if derived.number != ACCEPTED {
         return derived;
     }

@@ -5,16 +5,6 @@ pub mod answers;
 pub mod places;
 pub mod signatures;
 
-use forest::limits::RESPONSE_WORDS;
-use forest::limits::SCRIPT_WORDS;
-use terms::ROW;
-
-// Where the forms of rules begin in the table of nodes, behind the terms of a script's and a response's words.
-pub const FORMS: usize = ROW * (SCRIPT_WORDS + RESPONSE_WORDS);
-
-// How many numbers the table of nodes has: the forms take a row for each word of a script.
-pub const NODES: usize = FORMS + ROW * SCRIPT_WORDS;
-
 // What the commands before have said: whether the logic was set and `check-synth` was met, how many there are of each kind, and how many rows of nodes and of
 // forms are taken.
 pub struct Progress {

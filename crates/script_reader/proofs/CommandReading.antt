@@ -12,34 +12,33 @@ use Rattle.shapes.specs.Carried.{notCarried}
 use Rattle.shapes.specs.Shapes.{commandShape}
 use Rattle.forest.specs.Limits.{allowed, scriptWords}
 use Rattle.script.specs.Script.{Read, judged, knownAfter, outOfPlace, refused}
-use Rattle.script.specs.code.Tables.{KnownHeld}
+use Rattle.script.specs.code.Tables.{TablesHold}
 use Rattle.script.specs.declared.Progress.{Progress}
 use Rattle.script.specs.declared.Verdict.{Verdict}
 use Rattle.script.specs.code.Answers.{shapeAnswer, uncarriedAnswer}
 use Rattle.script_reader.specs.code.Commands.{Reads, saidBy}
 use Rattle.script_reader.specs.code.Progress.{Few, Stepped, outOfPlaceBy}
-use Rattle.script_reader.specs.code.Command.{CommandRead, CommandTested, Commanded, Shaped}
+use Rattle.script_reader.specs.code.Command.{CommandRead, CommandTested, Commanded, Shaped, saidAt}
 use Rattle.script_reader.specs.declared.Step.{Step}
 use Rattle.script_reader.proofs.CommandWords.{ends-in, listed, tests, word-fits}
 use Rattle.script_reader.proofs.KnownAfter.{out-by}
 use Rattle.script_reader.proofs.JudgedInOrder.{judged-misplaced, judged-placed, judged-uncarried, reads-by}
 
-module _ {text lexemes names raw places nodes : List ℕ} {p : Progress} {i nowhere : ℕ} where
+module _ {text lexemes names raw places nodes forms : List ℕ} {p : Progress} {i nowhere : ℕ} where
   -- The word of the command has a number.
-  pub word-near : Commanded text lexemes names raw places nodes p i nowhere → i + 1 < scriptWords
+  pub word-near : Commanded text lexemes names raw places nodes forms p i nowhere → i + 1 < scriptWords
   word-near c = word-fits (c .here)
 
   -- A refusal of the command itself.
-  refusal : (c : Commanded text lexemes names raw places nodes p i nowhere) {s : Step} (number : ℕ) → 0 < number
+  refusal : (c : Commanded text lexemes names raw places nodes forms p i nowhere) {s : Step} (number : ℕ) → 0 < number
       → s ≡ record { number = number; place = i; progress = p }
       → judged allowed nowhere (c .known) i (c .here .command) (knownAfter (c .known) (c .here .command)) ≡ refused number i
-      → CommandRead c names raw places nodes s
+      → CommandRead c names places nodes forms s
   refusal c {s} number some e is =
       let number-is : s .number ≡ number = ap (λ (t : Step). t .number) e in
       let place-is : s .place ≡ i = ap (λ (t : Step). t .place) e in
       record {
-        reads = subst⁻¹ (λ (r : Read). Reads r names places nodes s) is (number-is, place-is);
-        roomy = c .roomy;
+        reads = subst⁻¹ (λ (r : Read). Reads r names places nodes forms s) is (number-is, place-is);
         nodes-within = λ z. absurd (omega arith);
         forms-within = λ z. absurd (omega arith);
       }
@@ -47,7 +46,7 @@ module _ {text lexemes names raw places nodes : List ℕ} {p : Progress} {i nowh
   module _ {uncarried : Bool} (found : (x : ListAt lexemes i) → uncarried ≡ notCarried (x .operands)) where
     -- 6.
     pub read-uncarried : uncarried ≡ true → {s : Step} → s ≡ record { number = uncarriedAnswer; place = i; progress = p }
-        → (c : Commanded text lexemes names raw places nodes p i nowhere) → CommandRead c names raw places nodes s
+        → (c : Commanded text lexemes names raw places nodes forms p i nowhere) → CommandRead c names places nodes forms s
     read-uncarried taken e c =
         refusal c uncarriedAnswer (omega arith) e
         (judged-uncarried allowed nowhere (c .known) i (c .here .command) _ (sym (found (listed (c .here))) ∙ taken))
@@ -55,41 +54,40 @@ module _ {text lexemes names raw places nodes : List ℕ} {p : Progress} {i nowh
     module _ (left : uncarried ≡ false) {code : ℕ} (coded : code ≡ codeAt lexemes (i + 1)) {shape : Bool}
         (shapes : (x : ListAt lexemes i) → shape ≡ commandShape (x .operands)) {out : Bool} (placed : out ≡ outOfPlaceBy p code) where
       -- The command is carried.
-      carried : (c : Commanded text lexemes names raw places nodes p i nowhere) → notCarried (c .here .command) ≡ false
+      carried : (c : Commanded text lexemes names raw places nodes forms p i nowhere) → notCarried (c .here .command) ≡ false
       carried c = sym (found (listed (c .here))) ∙ left
 
       -- The second test is that of its shape and its place.
-      test-is : (c : Commanded text lexemes names raw places nodes p i nowhere)
+      test-is : (c : Commanded text lexemes names raw places nodes forms p i nowhere)
           → not shape || out ≡ not (commandShape (c .here .command)) || outOfPlace (c .known) (c .here .command)
       test-is c = ap₂ (λ (a b : Bool). not a || b) (shapes (listed (c .here))) (placed ∙ out-by (c .tables .counted) (tests (c .here) coded))
 
       -- 5.
       pub read-misplaced : not shape || out ≡ true → {s : Step} → s ≡ record { number = shapeAnswer; place = i; progress = p }
-          → (c : Commanded text lexemes names raw places nodes p i nowhere) → CommandRead c names raw places nodes s
+          → (c : Commanded text lexemes names raw places nodes forms p i nowhere) → CommandRead c names places nodes forms s
       read-misplaced taken e c =
           refusal c shapeAnswer (omega arith) e
           (judged-misplaced allowed nowhere (c .known) i (c .here .command) _ (carried c) (sym (test-is c) ∙ taken))
 
       module _ (right : not shape || out ≡ false) where
         -- The command is of its shape and in its place.
-        abbrev pub in-shape : Commanded text lexemes names raw places nodes p i nowhere
-            → Shaped text lexemes names raw places nodes p code i nowhere
+        abbrev pub in-shape : Commanded text lexemes names raw places nodes forms p i nowhere
+            → Shaped text lexemes names raw places nodes forms p i nowhere
         in-shape c = record {
           commanded = c;
           shaped = sym (shapes (listed (c .here))) ∙ not-false shape (or-left (not shape) out right);
-          coded = coded;
         }
 
-        module _ {namesAfter rawAfter placesAfter nodesAfter : List ℕ} {v : Verdict}
-            (tested : (c : Shaped text lexemes names raw places nodes p code i nowhere)
-            → CommandTested c namesAfter rawAfter placesAfter nodesAfter v) where
+        module _ {namesAfter placesAfter nodesAfter formsAfter : List ℕ} {v : Verdict}
+            (tested : (c : Shaped text lexemes names raw places nodes forms p i nowhere)
+            → CommandTested c namesAfter placesAfter nodesAfter formsAfter v) where
           -- The numbers after it are within their bounds.
-          pub few-after : Commanded text lexemes names raw places nodes p i nowhere → v .number ≡ 0 → Few (saidBy p code (v .rows))
+          pub few-after : Commanded text lexemes names raw places nodes forms p i nowhere → v .number ≡ 0 → Few (saidBy p code (v .rows))
           few-after c z =
               let t = tested (in-shape c) in
               let n = t .tables z .counted in
               let ends = ends-in (c .here) in
-              record {
+              subst⁻¹ (λ (m : ℕ). Few (saidBy p m (v .rows))) coded (record {
                 variables = n .few-variables;
                 defined = n .few-defined;
                 functions = n .few-functions;
@@ -97,23 +95,24 @@ module _ {text lexemes names raw places nodes : List ℕ} {p : Progress} {i nowh
                 assumptions = n .few-assumptions;
                 nodes = omega (arith, t .nodes-within z, c .here .few);
                 forms = omega (arith, t .forms-within z, c .here .few);
-              }
+              })
 
           -- The command is read by its own tests.
-          pub read-tested : {s : Step} → Stepped p code v s → (c : Commanded text lexemes names raw places nodes p i nowhere)
-              → CommandRead c namesAfter rawAfter placesAfter nodesAfter s
+          pub read-tested : {s : Step} → Stepped p code v s → (c : Commanded text lexemes names raw places nodes forms p i nowhere)
+              → CommandRead c namesAfter placesAfter nodesAfter formsAfter s
           read-tested {s} step c =
               let t = tested (in-shape c) in
               let said = knownAfter (c .known) (c .here .command) in
               let placed-is = judged-placed allowed nowhere (c .known) i (c .here .command) said (carried c) (sym (test-is c) ∙ right) in
               let zero : s .number ≡ 0 → v .number ≡ 0 = λ z. sym (step .number-is) ∙ z in
-              let tables : v .number ≡ 0 → KnownHeld namesAfter placesAfter nodesAfter (s .progress) said
-              = λ z. subst⁻¹ (λ (q : Progress). KnownHeld namesAfter placesAfter nodesAfter q said) (step .progress-is z) (t .tables z) in
+              let progress : v .number ≡ 0 → s .progress ≡ saidAt lexemes p i (v .rows)
+              = λ z. step .progress-is z ∙ ap (λ (m : ℕ). saidBy p m (v .rows)) coded in
+              let tables : v .number ≡ 0 → TablesHold namesAfter placesAfter nodesAfter formsAfter (s .progress) said
+              = λ z. subst⁻¹ (λ (q : Progress). TablesHold namesAfter placesAfter nodesAfter formsAfter q said) (progress z) (t .tables z) in
               record {
-                reads = subst⁻¹ (λ (r : Read). Reads r namesAfter placesAfter nodesAfter s) placed-is
-                    (reads-by allowed nowhere (c .known) i (c .here .command) said v s namesAfter placesAfter nodesAfter
+                reads = subst⁻¹ (λ (r : Read). Reads r namesAfter placesAfter nodesAfter formsAfter s) placed-is
+                    (reads-by allowed nowhere (c .known) i (c .here .command) said v s namesAfter placesAfter nodesAfter formsAfter
                     (t .verdict-is) (step .number-is) (step .place-is) tables);
-                roomy = t .roomy;
-                nodes-within = λ z. rw (step .progress-is (zero z)) (t .nodes-within (zero z));
-                forms-within = λ z. rw (step .progress-is (zero z)) (t .forms-within (zero z));
+                nodes-within = λ z. rw (progress (zero z)) (t .nodes-within (zero z));
+                forms-within = λ z. rw (progress (zero z)) (t .forms-within (zero z));
               }

@@ -14,7 +14,7 @@ use Rattle.shapes.specs.Shapes.{commandShape}
 use Rattle.forest.specs.Limits.{Counts}
 use Rattle.script.specs.Limits.{commandPast}
 use Rattle.script.specs.Script.{Known, Read, grammarPlace, judged, limitPlace, namePlace, outOfPlace, passed, refused, sortingPlace, tested}
-use Rattle.script.specs.code.Tables.{KnownHeld, Says}
+use Rattle.script.specs.code.Tables.{Says, TablesHold}
 use Rattle.script.specs.declared.Verdict.{Verdict}
 use Rattle.script.specs.code.Answers.{limitAnswer, shapeAnswer, uncarriedAnswer, nameAnswer, sortAnswer, grammarAnswer}
 use Rattle.script_reader.specs.code.Commands.{Reads}
@@ -80,11 +80,11 @@ module _ (counts : Counts) (nowhere : ℕ) (k : Known) (at : ℕ) (c : Items) (s
       go false place more e s = ltb-false place nowhere e
 
   -- A step that goes by the verdict of the tests reads what they say.
-  pub reads-by : (v : Verdict) (s : Step) (names places nodes : List ℕ) → Says v (tested counts nowhere k at c said)
-      → s .number ≡ v .number → s .place ≡ v .place → (v .number ≡ 0 → KnownHeld names places nodes (s .progress) said)
-      → Reads (tested counts nowhere k at c said) names places nodes s
+  pub reads-by : (v : Verdict) (s : Step) (names places nodes forms : List ℕ) → Says v (tested counts nowhere k at c said)
+      → s .number ≡ v .number → s .place ≡ v .place → (v .number ≡ 0 → TablesHold names places nodes forms (s .progress) said)
+      → Reads (tested counts nowhere k at c said) names places nodes forms s
   unfolding tested
-  reads-by v s names places nodes says number place tables =
+  reads-by v s names places nodes forms says number place tables =
       go
       (ltb (limitPlace counts nowhere k at c) nowhere)
       (ltb (namePlace nowhere k c) nowhere)
@@ -97,8 +97,9 @@ module _ (counts : Counts) (nowhere : ℕ) (k : Known) (at : ℕ) (c : Items) (s
       says
     where
       go : (w x y z : Bool) (l n m g : ℕ)
-          → Says v (cond w (refused limitAnswer l) (cond x (refused nameAnswer n) (cond y (refused sortAnswer m) (cond z (refused grammarAnswer g) (passed said)))))
-          → Reads (cond w (refused limitAnswer l) (cond x (refused nameAnswer n) (cond y (refused sortAnswer m) (cond z (refused grammarAnswer g) (passed said))))) names places nodes s
+          → let fit = cond y (refused sortAnswer m) (cond z (refused grammarAnswer g) (passed said)) in
+          let found = cond w (refused limitAnswer l) (cond x (refused nameAnswer n) fit) in
+          Says v found → Reads found names places nodes forms s
       go true x y z l n m g h = (number ∙ h .0, place ∙ h .1)
       go false true y z l n m g h = (number ∙ h .0, place ∙ h .1)
       go false false true z l n m g h = (number ∙ h .0, place ∙ h .1)

@@ -1,7 +1,6 @@
 pub mod CommandWords
 pub mod KnownAfter
 pub mod JudgedInOrder
-pub mod NodeTableParts
 pub mod TestedByCode
 pub mod CommandReading
 pub mod ScriptWalk

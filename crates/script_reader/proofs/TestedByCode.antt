@@ -1,21 +1,19 @@
 -- The test of a command by its code: what each command asks, and what it gives.
-use Prim.Native.Nat.{ℕ, _*_, _-_, _≤_, _<_}
+use Prim.Native.Nat.{ℕ, _+_, _≤_, _<_}
 use Prim.Native.String.{String}
 use native.Mathlib.Omega.{arith}
 use mathlib.Core.Bool.{Bool, true, false, cond, _||_}
-use mathlib.Core.List.{List, _++_}
-use mathlib.Core.Path.{_≡_, refl, ap, subst, subst⁻¹}
-use lib.ListN.{drop, length, length-drop, take}
-use lib.Seq.{length-take-le}
+use mathlib.Core.List.{List}
+use mathlib.Core.Path.{_≡_, refl, sym, ap, subst, subst⁻¹, _∙_}
+use lib.ListN.{length}
 use lib.Dec.{eqb}
 use borrow.Author.Tests.{ne-eqb}
 use Rattle.lexemes.specs.Lists.{Items, is, item}
+use Rattle.lexemes.specs.code.Table.{codeAt}
 use Rattle.lexemes.specs.code.Codes.{assumeCode, constraintCode, declareVarCode, defineFunCode, synthFunCode}
 use Rattle.forest.specs.Limits.{allowed, mostAssumptions, mostConstraints, mostDefined, mostFunctions, mostVariables}
-use Rattle.terms.specs.code.Nodes.{rowWidth as nodeWidth}
 use Rattle.script.specs.Script.{Known, knownAfter, limitPlace, tested}
 use Rattle.script.specs.code.Tables.{CommandOf, Says, TablesHold}
-use Rattle.script.specs.code.Places.{formsPlace}
 use Rattle.script.specs.declared.Progress.{Progress}
 use Rattle.script.specs.declared.Verdict.{Verdict}
 use Rattle.commands.specs.code.State.{Stated, Stating, statedWord}
@@ -23,12 +21,11 @@ use Rattle.commands.specs.code.DeclareVar.{Declared, Declaring}
 use Rattle.commands.specs.code.DefineFun.{Defined, Defining}
 use Rattle.synth_fun.specs.code.Synthesizing.{Synthesized, Synthesizing}
 use Rattle.script_reader.specs.code.Commands.{saidBy}
-use Rattle.script_reader.specs.code.Command.{CommandTested, Shaped}
+use Rattle.script_reader.specs.code.Command.{CommandTested, Shaped, saidAt}
 use Rattle.script_reader.proofs.CommandWords.{ends-in, tests}
 use Rattle.script.proofs.CommandByCode.{Chosen}
 use Rattle.script_reader.proofs.KnownAfter.{counted-after, names-kept, places-kept, same-assumptions, same-constraints, same-defined, same-functions}
 use Rattle.script_reader.proofs.KnownAfter.{same-variables}
-use Rattle.script_reader.proofs.NodeTableParts.{Parts, all-lent, formsLent, parts-behind, parts-front, parts-same}
 use Rattle.script_reader.proofs.JudgedInOrder.{fewer, others-pass, within-limits}
 
 -- The code of `constraint` or `assume`.
@@ -52,8 +49,8 @@ pub record Held (names places nodes forms : List ℕ) (q : Progress) (k : Known)
   pub nodes-within : q .nodes ≤ close
   pub forms-within : q .forms ≤ close
 
-module _ {text lexemes names raw places nodes : List ℕ} {p : Progress} {code i nowhere : ℕ}
-    (c : Shaped text lexemes names raw places nodes p code i nowhere) where
+module _ {text lexemes names raw places nodes forms : List ℕ} {p : Progress} {code i nowhere : ℕ} (coded : code ≡ codeAt lexemes (i + 1))
+    (c : Shaped text lexemes names raw places nodes forms p i nowhere) where
   -- What is known before the command.
   abbrev pub known : Known
   known = c .commanded .known
@@ -68,26 +65,20 @@ module _ {text lexemes names raw places nodes : List ℕ} {p : Progress} {code i
 
   -- The tests of its word.
   pub command-is : {m : ℕ} → code ≡ m → Chosen command m
-  command-is e = subst (λ (m : ℕ). Chosen command m) e (tests (c .commanded .here) (c .coded))
-
-  -- The part for terms is whole.
-  terms-whole : formsPlace ≤ length nodes
-  terms-whole = omega (arith, c .commanded .roomy .nodes-room)
+  command-is e = subst (λ (m : ℕ). Chosen command m) e (tests (c .commanded .here) coded)
 
   -- A test of the command from what holds of its code.
-  by-code : {m : ℕ} → code ≡ m → {namesAfter rawAfter placesAfter nodesAfter terms forms : List ℕ} {v : Verdict}
+  by-code : {m : ℕ} → code ≡ m → {namesAfter placesAfter nodesAfter formsAfter : List ℕ} {v : Verdict}
       → Says v (tested allowed nowhere known i command later)
-      → length rawAfter ≡ length raw → Parts nodes nodesAfter terms forms
-      → (v .number ≡ 0 → Held namesAfter placesAfter terms forms (saidBy p m (v .rows)) later (c .commanded .here .close))
-      → CommandTested c namesAfter rawAfter placesAfter nodesAfter v
-  by-code e {namesAfter} {rawAfter} {placesAfter} {nodesAfter} {terms} {forms} {v} says raw-long parts held =
-      let roomy = c .commanded .roomy in
-      let holds : v .number ≡ 0 → Held namesAfter placesAfter terms forms (saidBy p code (v .rows)) later (c .commanded .here .close)
-      = λ z. subst⁻¹ (λ (m : ℕ). Held namesAfter placesAfter terms forms (saidBy p m (v .rows)) later (c .commanded .here .close)) e (held z) in
+      → (v .number ≡ 0 → Held namesAfter placesAfter nodesAfter formsAfter (saidBy p m (v .rows)) later (c .commanded .here .close))
+      → CommandTested c namesAfter placesAfter nodesAfter formsAfter v
+  by-code e {namesAfter} {placesAfter} {nodesAfter} {formsAfter} {v} says held =
+      let holds : v .number ≡ 0 → Held namesAfter placesAfter nodesAfter formsAfter (saidAt lexemes p i (v .rows)) later (c .commanded .here .close)
+      = λ z. subst⁻¹
+      (λ (m : ℕ). Held namesAfter placesAfter nodesAfter formsAfter (saidBy p m (v .rows)) later (c .commanded .here .close)) (sym coded ∙ e) (held z) in
       record {
         verdict-is = says;
-        tables = λ z. rw (parts .terms-are, parts .forms-are) (holds z .tables);
-        roomy = record { raw-room = omega (arith, roomy .raw-room); nodes-room = omega (arith, roomy .nodes-room, parts .long) };
+        tables = λ z. holds z .tables;
         nodes-within = λ z. holds z .nodes-within;
         forms-within = λ z. holds z .forms-within;
       }
@@ -95,14 +86,6 @@ module _ {text lexemes names raw places nodes : List ℕ} {p : Progress} {code i
   -- The command, by its word.
   abbrev pub command-of : {word : String} → is word (item 0 command) ≡ true → CommandOf word text lexemes p i nowhere
   command-of by = record { here = c .commanded .here; by = by; shaped = c .shaped; known = known; counted = c .commanded .tables .counted }
-
-  -- A row for each word of the text among the terms.
-  pub terms-room : nodeWidth * nowhere ≤ length (take formsPlace nodes)
-  terms-room = omega (arith, c .commanded .here .few, length-take-le formsPlace nodes terms-whole)
-
-  -- And among the forms.
-  pub forms-room : nodeWidth * nowhere ≤ length (formsLent nodes)
-  forms-room = omega (arith, c .commanded .roomy .nodes-room, ap length (all-lent nodes), length-drop formsPlace nodes)
 
   -- What `declare-var` asks.
   abbrev pub declaring : code ≡ declareVarCode → Declaring text lexemes names p i nowhere
@@ -112,26 +95,26 @@ module _ {text lexemes names raw places nodes : List ℕ} {p : Progress} {code i
   }
 
   -- What `define-fun` asks.
-  abbrev pub defining : code ≡ defineFunCode → Defining text lexemes names raw places (take formsPlace nodes) p i nowhere
+  abbrev pub defining : code ≡ defineFunCode → Defining text lexemes names raw places nodes p i nowhere
   defining e = record {
     of = command-of (command-is e .defines);
     names-hold = c .commanded .tables .names-hold;
     places-hold = c .commanded .tables .places-hold;
     raw-room = c .commanded .roomy .raw-room;
-    nodes-room = terms-room;
+    nodes-room = c .commanded .roomy .nodes-room;
     within = c .commanded .nodes-within;
   }
 
   -- What `synth-fun` asks.
-  abbrev pub synthesizing : code ≡ synthFunCode → Synthesizing text lexemes names raw places (formsLent nodes) p i nowhere
+  abbrev pub synthesizing : code ≡ synthFunCode → Synthesizing text lexemes names raw places forms p i nowhere
   synthesizing e = record {
     of = command-of (command-is e .synthesizes);
     names-hold = c .commanded .tables .names-hold;
-    nodes = take formsPlace nodes;
+    nodes = nodes;
     places-hold = c .commanded .tables .places-hold;
-    grammars-hold = rw (all-lent nodes) (c .commanded .tables .grammars-hold);
+    grammars-hold = c .commanded .tables .grammars-hold;
     raw-room = c .commanded .roomy .raw-room;
-    forms-room = forms-room;
+    forms-room = c .commanded .roomy .forms-room;
     within = c .commanded .forms-within;
   }
 
@@ -141,13 +124,13 @@ module _ {text lexemes names raw places nodes : List ℕ} {p : Progress} {code i
   stated-is false e = command-is e .constrains
 
   -- What `constraint` and `assume` ask.
-  abbrev pub stating : (assumed : Bool) → code ≡ statedCode assumed → Stating text lexemes names raw places (take formsPlace nodes) p i nowhere assumed
+  abbrev pub stating : (assumed : Bool) → code ≡ statedCode assumed → Stating text lexemes names raw places nodes p i nowhere assumed
   stating assumed e = record {
     of = command-of (stated-is assumed e);
     names-hold = c .commanded .tables .names-hold;
     places-hold = c .commanded .tables .places-hold;
     raw-room = c .commanded .roomy .raw-room;
-    nodes-room = terms-room;
+    nodes-room = c .commanded .roomy .nodes-room;
     within = c .commanded .nodes-within;
   }
 
@@ -160,11 +143,12 @@ module _ {text lexemes names raw places nodes : List ℕ} {p : Progress} {code i
   ahead = let e = ends-in (c .commanded .here) in omega arith
 
   -- What a `declare-var` gives.
-  pub declared : (e : code ≡ declareVarCode) {namesAfter : List ℕ} {v : Verdict} → Declared (declaring e) namesAfter v → CommandTested c namesAfter raw places nodes v
+  pub declared : (e : code ≡ declareVarCode) {namesAfter : List ℕ} {v : Verdict} → Declared (declaring e) namesAfter v
+      → CommandTested c namesAfter places nodes forms v
   unfolding limitPlace
-  declared e {namesAfter} {v} g = by-code e (g .verdict-is) refl (parts-same nodes) held
+  declared e {namesAfter} {v} g = by-code e (g .verdict-is) held
     where
-      held : v .number ≡ 0 → Held namesAfter places (take formsPlace nodes) (drop formsPlace nodes) (saidBy p declareVarCode (v .rows)) later (c .commanded .here .close)
+      held : v .number ≡ 0 → Held namesAfter places nodes forms (saidBy p declareVarCode (v .rows)) later (c .commanded .here .close)
       held z =
           let before = c .commanded in
           let n = before .tables .counted in
@@ -187,13 +171,13 @@ module _ {text lexemes names raw places nodes : List ℕ} {p : Progress} {code i
           }
 
   -- What a `define-fun` gives.
-  pub defined : (e : code ≡ defineFunCode) {namesAfter rawAfter placesAfter terms : List ℕ} {v : Verdict}
-      → Defined (defining e) namesAfter rawAfter placesAfter terms v
-      → CommandTested c namesAfter rawAfter placesAfter (terms ++ drop formsPlace nodes) v
+  pub defined : (e : code ≡ defineFunCode) {namesAfter rawAfter placesAfter nodesAfter : List ℕ} {v : Verdict}
+      → Defined (defining e) namesAfter rawAfter placesAfter nodesAfter v
+      → CommandTested c namesAfter placesAfter nodesAfter forms v
   unfolding limitPlace
-  defined e {namesAfter} {rawAfter} {placesAfter} {terms} {v} g = by-code e (g .verdict-is) (g .raw-long) (parts-front terms-whole (g .nodes-long)) held
+  defined e {namesAfter} {rawAfter} {placesAfter} {nodesAfter} {v} g = by-code e (g .verdict-is) held
     where
-      held : v .number ≡ 0 → Held namesAfter placesAfter terms (drop formsPlace nodes) (saidBy p defineFunCode (v .rows)) later (c .commanded .here .close)
+      held : v .number ≡ 0 → Held namesAfter placesAfter nodesAfter forms (saidBy p defineFunCode (v .rows)) later (c .commanded .here .close)
       held z =
           let before = c .commanded in
           let n = before .tables .counted in
@@ -214,13 +198,13 @@ module _ {text lexemes names raw places nodes : List ℕ} {p : Progress} {code i
           }
 
   -- What a `synth-fun` gives.
-  pub synthesized : (e : code ≡ synthFunCode) {namesAfter rawAfter placesAfter forms : List ℕ} {v : Verdict}
-      → Synthesized (synthesizing e) namesAfter rawAfter placesAfter forms v
-      → CommandTested c namesAfter rawAfter placesAfter (take formsPlace nodes ++ (forms ++ drop (length nodes - formsPlace) (drop formsPlace nodes))) v
+  pub synthesized : (e : code ≡ synthFunCode) {namesAfter rawAfter placesAfter formsAfter : List ℕ} {v : Verdict}
+      → Synthesized (synthesizing e) namesAfter rawAfter placesAfter formsAfter v
+      → CommandTested c namesAfter placesAfter nodes formsAfter v
   unfolding limitPlace
-  synthesized e {namesAfter} {rawAfter} {placesAfter} {forms} {v} g = by-code e (g .verdict-is) (g .raw-long) (parts-behind terms-whole (g .forms-long)) held
+  synthesized e {namesAfter} {rawAfter} {placesAfter} {formsAfter} {v} g = by-code e (g .verdict-is) held
     where
-      held : v .number ≡ 0 → Held namesAfter placesAfter (take formsPlace nodes) forms (saidBy p synthFunCode (v .rows)) later (c .commanded .here .close)
+      held : v .number ≡ 0 → Held namesAfter placesAfter nodes formsAfter (saidBy p synthFunCode (v .rows)) later (c .commanded .here .close)
       held z =
           let before = c .commanded in
           let n = before .tables .counted in
@@ -234,7 +218,7 @@ module _ {text lexemes names raw places nodes : List ℕ} {p : Progress} {code i
               names-hold = g .names-hold z;
               places-hold = g .places-hold z;
               grammars-hold = g .grammars-hold z;
-              forms-room = omega (arith, g .within z, g .forms-long, forms-room);
+              forms-room = omega (arith, g .within z, g .forms-long, before .roomy .forms-room);
             };
             nodes-within = omega (arith, before .nodes-within);
             forms-within = g .within z;
@@ -258,12 +242,12 @@ module _ {text lexemes names raw places nodes : List ℕ} {p : Progress} {code i
       (omega (arith, n .constraints-are), n .few-assumptions)
 
   -- What a `constraint` and an `assume` give.
-  pub stated : (assumed : Bool) (e : code ≡ statedCode assumed) {rawAfter placesAfter terms : List ℕ} {v : Verdict}
-      → Stated (stating assumed e) rawAfter placesAfter terms v
-      → CommandTested c names rawAfter placesAfter (terms ++ drop formsPlace nodes) v
-  stated assumed e {rawAfter} {placesAfter} {terms} {v} g = by-code e (g .verdict-is) (g .raw-long) (parts-front terms-whole (g .nodes-long)) held
+  pub stated : (assumed : Bool) (e : code ≡ statedCode assumed) {rawAfter placesAfter nodesAfter : List ℕ} {v : Verdict}
+      → Stated (stating assumed e) rawAfter placesAfter nodesAfter v
+      → CommandTested c names placesAfter nodesAfter forms v
+  stated assumed e {rawAfter} {placesAfter} {nodesAfter} {v} g = by-code e (g .verdict-is) held
     where
-      held : v .number ≡ 0 → Held names placesAfter terms (drop formsPlace nodes) (saidBy p (statedCode assumed) (v .rows)) later (c .commanded .here .close)
+      held : v .number ≡ 0 → Held names placesAfter nodesAfter forms (saidBy p (statedCode assumed) (v .rows)) later (c .commanded .here .close)
       held z =
           let before = c .commanded in
           let n = before .tables .counted in
@@ -293,7 +277,7 @@ module _ {text lexemes names raw places nodes : List ℕ} {p : Progress} {code i
   -- What the other commands give.
   pub others : (code ≡ declareVarCode → ⊥) → (code ≡ defineFunCode → ⊥) → (code ≡ synthFunCode → ⊥) → (code ≡ constraintCode → ⊥)
       → (code ≡ assumeCode → ⊥) → {v : Verdict} → v ≡ record { number = 0; place = i; rows = 0 }
-      → CommandTested c names raw places nodes v
+      → CommandTested c names places nodes forms v
   others n9 n10 n11 n12 n14 {v} e =
       let before = c .commanded in
       let n = before .tables .counted in
@@ -307,7 +291,7 @@ module _ {text lexemes names raw places nodes : List ℕ} {p : Progress} {code i
       let functions = same-functions known t e11 in
       let defined = same-defined known t e10 in
       let zero : v .number ≡ 0 = ap (λ (w : Verdict). w .number) e in
-      by-code refl (rw (others-pass allowed nowhere known i command later t e9 e10 e11 e12 e14) zero) refl (parts-same nodes) (λ z. record {
+      by-code refl (rw (others-pass allowed nowhere known i command later t e9 e10 e11 e12 e14) zero) (λ z. record {
         tables = record {
           counted =
               counted-after known t (v .rows) n

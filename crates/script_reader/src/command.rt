@@ -13,7 +13,6 @@ use lexemes::codes::DECLARE_VAR;
 use lexemes::codes::DEFINE_FUN;
 use lexemes::codes::SYNTH_FUN;
 use script::Command;
-use script::FORMS;
 use script::Verdict;
 use script::answers::ACCEPTED;
 use script::answers::NOT_CARRIED;
@@ -24,7 +23,7 @@ use shapes::commands::command_shape;
 use synth_fun::command::synth_fun;
 ghost use Rattle.script_reader.specs.code.Command.{Commanded, ReadsCommand, Shaped, TestsCommand};
 
-// Tests the command of the code, which is of its shape: 4, 7, 8 and 9; one that says nothing but itself passes.
+// Tests a command that is of its shape: 4, 7, 8 and 9; one that says nothing but itself passes.
 fn test_command(
     text: &[u8],
     lexemes: &[u64],
@@ -32,54 +31,21 @@ fn test_command(
     raw: &mut [u64],
     places: &mut [u64],
     nodes: &mut [u64],
+    forms: &mut [u64],
     command: Command,
-    code: u64,
 ) -> Verdict
-    requires { ⌜ Shaped (now text) (now lexemes) (now names) (now raw) (now places) (now nodes)
-        (command .progress) code (command .at) (command .nowhere) ⌝ }
+    requires { ⌜ Shaped (now text) (now lexemes) (now names) (now raw) (now places) (now nodes) (now forms)
+        (command .progress) (command .at) (command .nowhere) ⌝ }
     ensures { λ r. ⌜ TestsCommand (now (text .entry)) (now (lexemes .entry)) (now (names .entry)) (now (raw .entry)) (now (places .entry)) (now (nodes .entry))
-        command code (now (names .exit)) (now (raw .exit)) (now (places .exit)) (now (nodes .exit)) r ⌝ }
+        (now (forms .entry)) command (now (names .exit)) (now (places .exit)) (now (nodes .exit)) (now (forms .exit)) r ⌝ }
 {
+    let code = code_at(lexemes, command.at + 1);
     match code {
         DECLARE_VAR => declare_var(text, lexemes, names, command),
-        DEFINE_FUN => define_fun(
-            text,
-            lexemes,
-            names,
-            raw,
-            places,
-            &mut nodes[..FORMS],
-            command,
-        ),
-        SYNTH_FUN => synth_fun(
-            text,
-            lexemes,
-            names,
-            raw,
-            places,
-            &mut nodes[FORMS..],
-            command,
-        ),
-        CONSTRAINT => state(
-            text,
-            lexemes,
-            names,
-            raw,
-            places,
-            &mut nodes[..FORMS],
-            command,
-            false,
-        ),
-        ASSUME => state(
-            text,
-            lexemes,
-            names,
-            raw,
-            places,
-            &mut nodes[..FORMS],
-            command,
-            true,
-        ),
+        DEFINE_FUN => define_fun(text, lexemes, names, raw, places, nodes, command),
+        SYNTH_FUN => synth_fun(text, lexemes, names, raw, places, forms, command),
+        CONSTRAINT => state(text, lexemes, names, raw, places, nodes, command, false),
+        ASSUME => state(text, lexemes, names, raw, places, nodes, command, true),
         _ => verdict(ACCEPTED, command.at, 0),
     }
 }
@@ -92,12 +58,13 @@ pub fn read_command(
     raw: &mut [u64],
     places: &mut [u64],
     nodes: &mut [u64],
+    forms: &mut [u64],
     command: Command,
 ) -> Step
-    requires { ⌜ Commanded (now text) (now lexemes) (now names) (now raw) (now places) (now nodes)
+    requires { ⌜ Commanded (now text) (now lexemes) (now names) (now raw) (now places) (now nodes) (now forms)
         (command .progress) (command .at) (command .nowhere) ⌝ }
     ensures { λ r. ⌜ ReadsCommand (now (text .entry)) (now (lexemes .entry)) (now (names .entry)) (now (raw .entry)) (now (places .entry)) (now (nodes .entry))
-        command (now (names .exit)) (now (raw .exit)) (now (places .exit)) (now (nodes .exit)) r ⌝ }
+        (now (forms .entry)) command (now (names .exit)) (now (places .exit)) (now (nodes .exit)) (now (forms .exit)) r ⌝ }
 {
     let progress = command.progress;
     let at = command.at;
@@ -108,6 +75,6 @@ pub fn read_command(
     if !command_shape(lexemes, at) | out_of_place(progress, code) {
         return answer(SHAPE, at, progress);
     }
-    let tested = test_command(text, lexemes, names, raw, places, nodes, command, code);
+    let tested = test_command(text, lexemes, names, raw, places, nodes, forms, command);
     step_by(progress, code, tested)
 }

@@ -47,11 +47,12 @@ pub fn read_script(
     raw: &mut [u64],
     places: &mut [u64],
     nodes: &mut [u64],
+    forms: &mut [u64],
     nowhere: usize,
 ) -> Step
-    requires { ⌜ ScriptAt (now text) (now lexemes) (now names) (now raw) (now places) (now nodes) nowhere ⌝ }
+    requires { ⌜ ScriptAt (now text) (now lexemes) (now names) (now raw) (now places) (now nodes) (now forms) nowhere ⌝ }
     ensures { λ r. ⌜ ReadsScript (now (text .entry)) (now (lexemes .entry)) (now (names .entry)) (now (raw .entry)) (now (places .entry)) (now (nodes .entry))
-        nowhere (now (names .exit)) (now (places .exit)) (now (nodes .exit)) r ⌝ }
+        (now (forms .entry)) nowhere (now (names .exit)) (now (places .exit)) (now (nodes .exit)) (now (forms .exit)) r ⌝ }
 {
     let mut progress = nothing_said();
     let mut at = 0;
@@ -64,7 +65,7 @@ pub fn read_script(
             at,
             nowhere,
         };
-        let step = read_command(text, lexemes, names, raw, places, nodes, command);
+        let step = read_command(text, lexemes, names, raw, places, nodes, forms, command);
         if step.number != 0 {
             return step;
         }

@@ -50,7 +50,7 @@ module _ {text lexemes names raw places nodes : List â„•} {p : Progress} {n : â„
         forms = ready .forms;
         tables = ready .tables;
         raw-room = omega (arith, w .few, ready .raw-room);
-        nodes-room = omega (arith, w .few, ready .few, ready .nodes-room);
+        nodes-room = omega (arith, w .few, ready .nodes-room);
       }
 
   -- the commands are read

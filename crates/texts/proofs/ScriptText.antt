@@ -24,15 +24,15 @@ use Rattle.texts.specs.code.Lexed.{Worded}
 use Rattle.texts.proofs.TextLexemes.{only-lexemes}
 
 -- a word is refused
-pub words-refused : {text names places nodes : List ℕ} (r : Reading) {s : Step} → r ≡ readingOf scriptLimits text → (numberOf r ≡ 0 → ⊥)
-    → (s .number ≡ numberOf r) × (s .place ≡ placeOf r) → ScriptRead text names places nodes s
+pub words-refused : {text names places nodes forms : List ℕ} (r : Reading) {s : Step} → r ≡ readingOf scriptLimits text → (numberOf r ≡ 0 → ⊥)
+    → (s .number ≡ numberOf r) × (s .place ≡ placeOf r) → ScriptRead text names places nodes forms s
 unfolding scriptOutcome
 words-refused (Whole n) e some told = absurd (some refl)
 words-refused (Refused fault place n) e some told = record { told = rw (← e) told }
 
-module _ {text lexemes names raw places nodes : List ℕ} {n : ℕ} (w : Worded scriptLimits text lexemes n) (lent : Lent names raw places nodes) where
+module _ {text lexemes names raw places nodes forms : List ℕ} {n : ℕ} (w : Worded scriptLimits text lexemes n) (lent : Lent names raw places nodes forms) where
   -- what the reading of commands asks
-  abbrev pub script-at : ScriptAt text (take (lexemeWidth * n) lexemes) names raw places nodes n
+  abbrev pub script-at : ScriptAt text (take (lexemeWidth * n) lexemes) names raw places nodes forms n
   script-at =
       record {
         items = itemsOf text;
@@ -41,18 +41,22 @@ module _ {text lexemes names raw places nodes : List ℕ} {n : ℕ} (w : Worded 
         few = w .few;
         table = lent .table;
         long = lent .long;
-        roomy = record { raw-room = omega (arith, w .few, lent .raw-room); nodes-room = omega (arith, w .few, lent .nodes-room) };
+        roomy = record {
+          raw-room = omega (arith, w .few, lent .raw-room);
+          nodes-room = omega (arith, w .few, lent .nodes-room);
+          forms-room = omega (arith, w .few, lent .forms-room);
+        };
       }
 
   -- the commands are read
-  pub commands-told : {namesAfter placesAfter nodesAfter : List ℕ} {s : Step} {offset : ℕ}
-      → CommandsRead script-at namesAfter placesAfter nodesAfter s → offset ≡ offsetOf text (s .place)
-      → ScriptRead text namesAfter placesAfter nodesAfter (record { number = s .number; place = offset; progress = s .progress })
+  pub commands-told : {namesAfter placesAfter nodesAfter formsAfter : List ℕ} {s : Step} {offset : ℕ}
+      → CommandsRead script-at namesAfter placesAfter nodesAfter formsAfter s → offset ≡ offsetOf text (s .place)
+      → ScriptRead text namesAfter placesAfter nodesAfter formsAfter (record { number = s .number; place = offset; progress = s .progress })
   unfolding scriptOutcome
-  commands-told {namesAfter} {placesAfter} {nodesAfter} {s} {offset} done at =
+  commands-told {namesAfter} {placesAfter} {nodesAfter} {formsAfter} {s} {offset} done at =
       record { told = rw (w .whole) (go (readAll allowed n nothingKnown (itemsOf text)) (done .reads)) }
     where
-      go : (r : Read) → Reads r namesAfter placesAfter nodesAfter s
-          → ScriptTold (byCommands text r) namesAfter placesAfter nodesAfter (record { number = s .number; place = offset; progress = s .progress })
+      go : (r : Read) → Reads r namesAfter placesAfter nodesAfter formsAfter s
+          → ScriptTold (byCommands text r) namesAfter placesAfter nodesAfter formsAfter (record { number = s .number; place = offset; progress = s .progress })
       go (refused number place) (e, f) = (e, at ∙ ap (offsetOf text) f)
       go (passed k) (e, held) = (e, held, omega (arith, done .nodes-within e, w .few))

@@ -43,9 +43,10 @@ pub fn read_script_text(
     raw: &mut [u64],
     places: &mut [u64],
     nodes: &mut [u64],
+    forms: &mut [u64],
 ) -> Step
-    requires { ⌜ Lent (now names) (now raw) (now places) (now nodes) ⌝ }
-    ensures { λ r. ⌜ ScriptRead (now (text .entry)) (now (names .exit)) (now (places .exit)) (now (nodes .exit)) r ⌝ }
+    requires { ⌜ Lent (now names) (now raw) (now places) (now nodes) (now forms) ⌝ }
+    ensures { λ r. ⌜ ScriptRead (now (text .entry)) (now (names .exit)) (now (places .exit)) (now (nodes .exit)) (now (forms .exit)) r ⌝ }
 {
     let mut lexemes = lexeme_rows();
     let reading = read_lexemes(text, script_limits(), &mut lexemes);
@@ -60,6 +61,7 @@ pub fn read_script_text(
         raw,
         places,
         nodes,
+        forms,
         count,
     );
     let progress = step.progress;

@@ -1,11 +1,14 @@
 -- What the verdict on two texts of right sizes asks and gives.
-use Prim.Native.Nat.{ℕ, _≤_}
+use Prim.Native.Nat.{ℕ, _+_, _*_, _≤_}
 use mathlib.Core.List.{List}
 use mathlib.Core.Option.{none as nothing}
 use mathlib.Core.Path.{_≡_}
-use lib.ListN.{drop, length, take}
+use lib.ListN.{length}
+use Rattle.forest.specs.Limits.{responseWords, scriptWords}
+use Rattle.terms.specs.code.Nodes.{rowWidth as nodeWidth}
+use Rattle.names.specs.code.Lookup.{Names}
 use Rattle.script.specs.Script.{Known}
-use Rattle.script.specs.code.Places.{formsPlace}
+use Rattle.script.specs.code.Places.{placesLength}
 use Rattle.script.specs.declared.Progress.{Progress}
 use Rattle.script.specs.Response.{Body, inScriptOrder}
 use Rattle.script.specs.Outcome.{given, offsetOf, responseOutcome, said, scriptOutcome}
@@ -24,49 +27,50 @@ pub record Judging (script response points area : List ℕ) : Type 0 where
   pub sized : sizeAnswer script response points area ≡ nothing
   pub blank : area ≡ blankArea
 
--- Both texts pass: the tables hold what the script says and the bodies that the response gives, in one table of nodes the terms in front of the forms.
-pub record BothHeld (script response names places nodes : List ℕ) (p : Progress) : Type 0 where
+-- Tables of names and of places, a row for each word of a script and of a response among the nodes, and one for each word of a script among the forms.
+pub record Lent (names places nodes forms : List ℕ) : Type 0 where
+  pub table : Names names
+  pub long : length places ≡ placesLength
+  pub nodes-room : nodeWidth * (scriptWords + responseWords) ≤ length nodes
+  pub forms-room : nodeWidth * scriptWords ≤ length forms
+
+-- Both texts pass: the tables hold what the script says and the bodies that the response gives.
+pub record BothHeld (script response names places nodes forms : List ℕ) (p : Progress) : Type 0 where
   pub known : Known
   pub bodies : List Body
   pub says : scriptOutcome script ≡ said known
   pub gives : responseOutcome known response ≡ given bodies
-  pub held : Held response names places (take formsPlace nodes) (drop formsPlace nodes) p known bodies
-  pub room : formsPlace ≤ length nodes
+  pub held : Held response names places nodes forms p known bodies
 
 -- Where the number is 0 the tables hold both texts; where it is another the answer is that for texts of right sizes.
-pub record TextsRead (script response names places nodes : List ℕ) (r : Told) : Type 0 where
-  pub both! : r .outcome .number ≡ 0 → BothHeld script response names places nodes (r .progress)
+pub record TextsRead (script response names places nodes forms : List ℕ) (r : Told) : Type 0 where
+  pub both! : r .outcome .number ≡ 0 → BothHeld script response names places nodes forms (r .progress)
   pub one! : (r .outcome .number ≡ 0 → ⊥) → {points area : List ℕ} {budget : ℕ} → sizeAnswer script response points area ≡ nothing
       → Checked script response points budget area (r .outcome) blankArea
 
--- The tables hold a script and a response that pass, in one table of nodes the terms in front of the forms, and the area shows nothing.
-pub record Deriving (places nodes : List ℕ) (p : Progress) (area : List ℕ) : Type 0 where
-  pub tables : Derivable places (take formsPlace nodes) (drop formsPlace nodes) p area
-  pub room : formsPlace ≤ length nodes
-
 -- 13: function j is the first whose grammar derives its body by no list of rules; the answer names the function and the place of the body's first word, and the
 -- area shows nothing.
-pub record BodyUnderived {places nodes area : List ℕ} {p : Progress} (q : Deriving places nodes p area) (r : Outcome)
+pub record BodyUnderived {places nodes forms area : List ℕ} {p : Progress} (q : Derivable places nodes forms p area) (r : Outcome)
     (areaAfter : List ℕ) : Type 0 where
   pub j : ℕ
   pub body : Body
-  pub first : FirstUnderived (inScriptOrder (q .tables .known .functions)) (q .tables .bodies) j body
-  pub answer : r ≡ record { number = underivedAnswer; text = responseText; place = offsetOf (q .tables .text) (body .first); second = j; units = 0 }
+  pub first : FirstUnderived (inScriptOrder (q .known .functions)) (q .bodies) j body
+  pub answer : r ≡ record { number = underivedAnswer; text = responseText; place = offsetOf (q .text) (body .first); second = j; units = 0 }
   pub blanked : areaAfter ≡ blankArea
 
 -- Where the number is 0 every body is derived, and the area shows how; where it is another it is 13.
-pub record Sought {places nodes area : List ℕ} {p : Progress} (q : Deriving places nodes p area) (r : Outcome)
+pub record Sought {places nodes forms area : List ℕ} {p : Progress} (q : Derivable places nodes forms p area) (r : Outcome)
     (areaAfter : List ℕ) : Type 0 where
-  pub all! : r .number ≡ 0 → AllShown (q .tables) areaAfter
+  pub all! : r .number ≡ 0 → AllShown q areaAfter
   pub one! : (r .number ≡ 0 → ⊥) → BodyUnderived q r areaAfter
 
 -- The answer on the bodies that the tables hold.
-abbrev pub BodiesDerived : (places nodes : List ℕ) → Progress → (area : List ℕ) → Outcome → (areaAfter : List ℕ) → Type 0
-BodiesDerived places nodes p area r areaAfter = (q : Deriving places nodes p area) → Sought q r areaAfter
+abbrev pub BodiesDerived : (places nodes forms : List ℕ) → Progress → (area : List ℕ) → Outcome → (areaAfter : List ℕ) → Type 0
+BodiesDerived places nodes forms p area r areaAfter = (q : Derivable places nodes forms p area) → Sought q r areaAfter
 
--- The answer is what the points give with these terms; where it is 16 the area shows nothing afterwards, and after any other it is as it was.
-pub record PointsJudged (names places terms : List ℕ) (p : Progress) (points : List ℕ) (budget : ℕ) (area : List ℕ) (r : Outcome)
+-- The answer is what the points give; where it is 16 the area shows nothing afterwards, and after any other it is as it was.
+pub record PointsJudged (names places nodes : List ℕ) (p : Progress) (points : List ℕ) (budget : ℕ) (area : List ℕ) (r : Outcome)
     (areaAfter : List ℕ) : Type 0 where
-  pub given : Evaluates names places terms p points budget r
+  pub given : Evaluates names places nodes p points budget r
   pub bad! : r .number ≡ pointsAnswer → areaAfter ≡ unshown area
   pub other! : (r .number ≡ pointsAnswer → ⊥) → areaAfter ≡ area

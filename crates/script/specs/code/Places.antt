@@ -3,8 +3,7 @@
 use Prim.Native.Nat.{ℕ, _+_, _*_}
 use mathlib.Core.List.{List}
 use lib.ListN.{drop, getD, take}
-use Rattle.forest.specs.Limits.{firstAssumption, mostAssumptions, mostDefined, mostFunctions, mostRules, responseWords, scriptWords}
-use Rattle.terms.specs.code.Nodes.{rowWidth as nodeWidth}
+use Rattle.forest.specs.Limits.{firstAssumption, mostAssumptions, mostDefined, mostFunctions, mostRules}
 use Rattle.derivation.specs.code.Rules.{ruleWidth}
 use Rattle.term_sorts.specs.code.Signatures.{allRows, functionSignature, signatureWidth}
 
@@ -48,14 +47,6 @@ offsetsPlace = functionsPlace + rulesPlace mostFunctions
 -- How many numbers the table of places has.
 abbrev pub placesLength : ℕ
 placesLength = offsetsPlace + mostFunctions
-
--- Where the forms of rules begin in the table of nodes, behind the terms of a script's and a response's words.
-abbrev pub formsPlace : ℕ
-formsPlace = nodeWidth * (scriptWords + responseWords)
-
--- How many numbers the table of nodes has: the forms take a row for each word of a script.
-abbrev pub nodesLength : ℕ
-nodesLength = formsPlace + nodeWidth * scriptWords
 
 -- How many arguments synthesized function j has.
 abbrev pub argumentsIn : (places : List ℕ) → (j : ℕ) → ℕ

@@ -1,6 +1,6 @@
 -- What is known after each command as tables: the table of names; a table of places; the nodes of bodies, constraints and assumptions; and the forms of rules.
 -- The table of places has the signatures in front, then where each body, constraint and assumption begins, four numbers for each synthesized function, and its
--- rules. One table of nodes may have both the nodes and, behind them, the forms.
+-- rules.
 use Prim.Native.Nat.{ℕ, _+_, _*_, _≤_}
 use Prim.Native.String.{String}
 use mathlib.Core.Bool.{true}
@@ -29,7 +29,7 @@ use Rattle.names.specs.code.Table.{definedRow, functionRow, namesFrom, ownArgum
 use Rattle.script.specs.Script.{Known, Read, knownAfter, passed, refused, tested, definitionsOf}
 use Rattle.script.specs.declared.Progress.{Progress}
 use Rattle.script.specs.declared.Verdict.{Verdict}
-use Rattle.script.specs.code.Places.{bodiesPlace, constraintsPlace, formsPlace, functionWidth, functionsPlace, placesLength, rulesPlace}
+use Rattle.script.specs.code.Places.{bodiesPlace, constraintsPlace, functionWidth, functionsPlace, placesLength, rulesPlace}
 
 -- The numbers of each kind are those of what is known, and within the limits.
 pub record Counted (p : Progress) (k : Known) : Type 0 where
@@ -110,10 +110,6 @@ pub record TablesHold (names places nodes forms : List ℕ) (p : Progress) (k : 
   pub places-hold : PlacesHold places nodes (p .nodes) k
   pub grammars-hold : GrammarsHold (drop functionsPlace places) forms (p .forms) (k .functions)
   pub forms-room : nodeWidth * p .forms ≤ length forms
-
--- The same of one table of nodes, the terms in front and the forms behind them.
-abbrev pub KnownHeld : (names places nodes : List ℕ) → Progress → Known → Type 0
-KnownHeld names places nodes p k = TablesHold names places (take formsPlace nodes) (drop formsPlace nodes) p k
 
 -- A verdict is what a test finds.
 abbrev pub Says : Verdict → Read → Type 0

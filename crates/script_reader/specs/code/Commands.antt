@@ -9,20 +9,20 @@ use Rattle.terms.specs.code.Nodes.{rowWidth as nodeWidth}
 use Rattle.lexemes.specs.code.Codes.{assumeCode, checkSynthCode, constraintCode, declareVarCode, defineFunCode, setLogicCode, synthFunCode}
 use Rattle.term_nodes.specs.code.Table.{rowWidth as rawWidth}
 use Rattle.script.specs.Script.{Read, passed, refused}
-use Rattle.script.specs.code.Tables.{KnownHeld}
-use Rattle.script.specs.code.Places.{formsPlace}
+use Rattle.script.specs.code.Tables.{TablesHold}
 use Rattle.script.specs.declared.Progress.{Progress}
 use Rattle.script_reader.specs.declared.Step.{Step}
 
 -- What was read: a refusal with its number and word; or what is known, which the tables hold.
-abbrev pub Reads : Read → (names places nodes : List ℕ) → Step → Type 0
-Reads (refused number place) names places nodes s = (s .number ≡ number) × (s .place ≡ place)
-Reads (passed k) names places nodes s = (s .number ≡ 0) × KnownHeld names places nodes (s .progress) k
+abbrev pub Reads : Read → (names places nodes forms : List ℕ) → Step → Type 0
+Reads (refused number place) names places nodes forms s = (s .number ≡ number) × (s .place ≡ place)
+Reads (passed k) names places nodes forms s = (s .number ≡ 0) × TablesHold names places nodes forms (s .progress) k
 
--- A row for each word of a text in the table of what is gathered, and one behind the terms in that of nodes.
-pub record Roomy (raw nodes : List ℕ) (nowhere : ℕ) : Type 0 where
+-- A row for each word of a text in the table of what is gathered, in that of nodes and in that of forms.
+pub record Roomy (raw nodes forms : List ℕ) (nowhere : ℕ) : Type 0 where
   pub raw-room : rawWidth * nowhere ≤ length raw
-  pub nodes-room : formsPlace + nodeWidth * nowhere ≤ length nodes
+  pub nodes-room : nodeWidth * nowhere ≤ length nodes
+  pub forms-room : nodeWidth * nowhere ≤ length forms
 
 -- The numbers after a command that takes so many rows, by its code.
 abbrev pub saidBy : Progress → (code rows : ℕ) → Progress

@@ -17,25 +17,26 @@ use Rattle.script_reader.specs.declared.Step.{Step}
 use Rattle.script_reader.specs.code.Commands.{Reads, Roomy}
 
 -- The items of a lawful text of no more words than a script may have stand in its tables, and the tables for what is known have their sizes.
-pub record ScriptAt (text lexemes names raw places nodes : List ℕ) (nowhere : ℕ) : Type 0 where
+pub record ScriptAt (text lexemes names raw places nodes forms : List ℕ) (nowhere : ℕ) : Type 0 where
   pub items : Items
   pub stands : Stands (sourceOf text lexemes) 0 items nowhere
   pub lawful : Lawful (sourceOf text lexemes) nowhere
   pub few : nowhere ≤ scriptWords
   pub table : Names names
   pub long : length places ≡ placesLength
-  pub roomy : Roomy raw nodes nowhere
+  pub roomy : Roomy raw nodes forms nowhere
 
 -- The script is read: its first faulty command, or the tables hold what it says, in no more rows of terms than words.
-pub record ScriptRead {text lexemes names raw places nodes : List ℕ} {nowhere : ℕ} (p : ScriptAt text lexemes names raw places nodes nowhere)
-    (namesAfter placesAfter nodesAfter : List ℕ) (s : Step) : Type 0 where
-  pub reads : Reads (readAll allowed nowhere nothingKnown (p .items)) namesAfter placesAfter nodesAfter s
+pub record ScriptRead {text lexemes names raw places nodes forms : List ℕ} {nowhere : ℕ} (p : ScriptAt text lexemes names raw places nodes forms nowhere)
+    (namesAfter placesAfter nodesAfter formsAfter : List ℕ) (s : Step) : Type 0 where
+  pub reads : Reads (readAll allowed nowhere nothingKnown (p .items)) namesAfter placesAfter nodesAfter formsAfter s
   pub nodes-within : s .number ≡ 0 → s .progress .nodes ≤ nowhere
 
 -- The same, for whatever stands there.
-abbrev pub ReadsScript : (text lexemes names raw places nodes : List ℕ) → (nowhere : ℕ) → (namesAfter placesAfter nodesAfter : List ℕ) → Step → Type 0
-ReadsScript text lexemes names raw places nodes nowhere namesAfter placesAfter nodesAfter s =
-    (p : ScriptAt text lexemes names raw places nodes nowhere) → ScriptRead p namesAfter placesAfter nodesAfter s
+abbrev pub ReadsScript : (text lexemes names raw places nodes forms : List ℕ) → (nowhere : ℕ) → (namesAfter placesAfter nodesAfter formsAfter : List ℕ) → Step
+    → Type 0
+ReadsScript text lexemes names raw places nodes forms nowhere namesAfter placesAfter nodesAfter formsAfter s =
+    (p : ScriptAt text lexemes names raw places nodes forms nowhere) → ScriptRead p namesAfter placesAfter nodesAfter formsAfter s
 
 -- What is said before the first command, in numbers.
 abbrev pub nothingSaid : Progress

@@ -3,24 +3,24 @@ use Prim.Native.Nat.{ℕ, _+_, _*_, _≤_}
 use mathlib.Core.List.{List}
 use mathlib.Core.Path.{_≡_}
 use lib.ListN.{drop, length}
-use Rattle.forest.specs.Limits.{scriptWords}
+use Rattle.forest.specs.Limits.{responseWords}
+use Rattle.terms.specs.code.Nodes.{rowWidth as nodeWidth}
 use Rattle.term_nodes.specs.code.Table.{rowWidth as rawWidth}
 use Rattle.script.specs.Script.{Known}
 use Rattle.script.specs.code.Tables.{GrammarsHold, TablesHold}
-use Rattle.script.specs.code.Places.{formsPlace, functionsPlace}
+use Rattle.script.specs.code.Places.{functionsPlace}
 use Rattle.script.specs.declared.Progress.{Progress}
 use Rattle.script.specs.declared.Verdict.{Verdict}
 use Rattle.response.specs.code.Answers.{BodiesHeld}
 use Rattle.script.specs.Outcome.{ResponseOutcome, faulty, given, responseOutcome}
 
--- The tables hold what a script says, and there is room for a response.
+-- The tables hold what a script says, and there is a row for each of the "2,048" words of a response, among the nodes behind those of the script.
 pub record Ready (names raw places nodes : List ℕ) (p : Progress) : Type 0 where
   pub known : Known
   pub forms : List ℕ
   pub tables : TablesHold names places nodes forms p known
-  pub few : p .nodes ≤ scriptWords
-  pub raw-room : length raw ≡ rawWidth * scriptWords
-  pub nodes-room : length nodes ≡ formsPlace
+  pub raw-room : rawWidth * responseWords ≤ length raw
+  pub nodes-room : nodeWidth * (p .nodes + responseWords) ≤ length nodes
 
 -- What was read of a response: a refusal with its number and offset; or the bodies, which the tables hold with the grammars that they held before.
 abbrev pub ResponseTold : ResponseOutcome → Known → (text places nodes forms : List ℕ) → Progress → Verdict → Type 0

@@ -4,32 +4,32 @@ use borrow.Author.Needs.{needs}
 use Rattle.checker.proofs.judge.derive_bodies.Statement.{statement}
 use Rattle.checker.proofs.judge.derive_bodies.Tie as tie
 
-derive-tables-requires : tie.Need-derive-tables-requires
-derive-tables-requires c κs = search needs
+derive-all-requires : tie.Need-derive-all-requires
+derive-all-requires c κs = search needs
 
 same-length : tie.Need-same-length
 same-length c = search needs
 
 returns : tie.Need-returns
-returns c = every-derived (c .before .before .before .before .derive-tables .ensures) (c .if1 .taken) refl
+returns c = every-derived (c .before .before .before .before .derive-all .ensures) (c .if1 .taken) refl
 
 blank-area-requires : tie.Need-blank-area-requires
 blank-area-requires c κs = search needs
 
 offset-of-requires : tie.Need-offset-of-requires
-offset-of-requires c κs = function-low (c .before .before .before .before .before .before .before .before .derive-tables .ensures) (c .before .before .before .before .before .before .before .before .before .before .before .before .before .pre) (c .before .before .before .before .if1 .left)
+offset-of-requires c κs = function-low (c .before .before .before .before .before .before .before .before .derive-all .ensures) (c .before .before .before .before .before .before .before .before .before .before .before .before .before .before .pre) (c .before .before .before .before .if1 .left)
 
 same-length-2 : tie.Need-same-length-2
 same-length-2 c = search needs
 
 returns-2 : tie.Need-returns-2
-returns-2 c = λ q. one-underived (c .before .before .before .before .before .before .before .before .before .derive-tables .ensures) q (c .before .before .before .before .before .if1 .left) (c .before .before .before .blank-area .ensures) (c .offset-of .ensures)
+returns-2 c = λ q. one-underived (c .before .before .before .before .before .before .before .before .before .derive-all .ensures) q (c .before .before .before .before .before .if1 .left) (c .before .before .before .blank-area .ensures) (c .offset-of .ensures)
 
 pub derive-bodies-spec : {M : Type 1} → statement M
 derive-bodies-spec =
     tie.close
     (tie.spec
-    derive-tables-requires
+    derive-all-requires
     same-length
     returns
     blank-area-requires

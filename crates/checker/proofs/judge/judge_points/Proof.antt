@@ -1,15 +1,8 @@
 use native.Mathlib.Omega.{arith}
 use mathlib.Core.Path.{refl}
-use lib.ListN.{length-take}
-use Rattle.script.specs.code.Places.{formsPlace}
 use borrow.Author.Needs.{needs}
 use Rattle.checker.proofs.judge.judge_points.Statement.{statement}
 use Rattle.checker.proofs.judge.judge_points.Tie as tie
-
-slice-aggregate-evaluate : tie.Need-slice-aggregate-evaluate
-slice-aggregate-evaluate c =
-    let start = c .before .before .before .before .before .before in
-    omega (arith, start .pre .1, length-take formsPlace (start .args .nodes .now))
 
 evaluate-requires : tie.Need-evaluate-requires
 evaluate-requires c κs = search needs
@@ -33,11 +26,4 @@ returns-2 c = record { given = c .before .before .evaluate .ensures; bad! = λ n
 
 pub judge-points-spec : {M : Type 1} → statement M
 judge-points-spec =
-    tie.close
-    (tie.spec
-    slice-aggregate-evaluate
-    evaluate-requires
-    blank-area-requires
-    same-length
-    returns
-    returns-2)
+    tie.close (tie.spec evaluate-requires blank-area-requires same-length returns returns-2)

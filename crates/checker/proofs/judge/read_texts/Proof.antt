@@ -1,5 +1,6 @@
+use native.Mathlib.Omega.{arith}
 use mathlib.Core.Path.{_∙_}
-use Rattle.checker.proofs.BothTexts.{forms-room, ready, response-read, script-declined}
+use Rattle.checker.proofs.BothTexts.{ready, response-read, script-declined}
 use borrow.Author.Needs.{needs}
 use Rattle.checker.proofs.judge.read_texts.Statement.{statement}
 use Rattle.checker.proofs.judge.read_texts.Tie as tie
@@ -17,47 +18,57 @@ refusal-requires : tie.Need-refusal-requires
 refusal-requires c κs = search needs
 
 same-length : tie.Need-same-length
-same-length c = c .before .before .before .before .before .before .before .before .before .before .before .read-script-text .kept .1 .0
+same-length c = c .before .before .before .before .before .before .before .before .before .before .before .before .before .read-script-text .kept .1 .0
 
 same-length-2 : tie.Need-same-length-2
-same-length-2 c = c .before .before .before .before .before .before .before .before .before .before .before .read-script-text .kept .1 .1 .1 .0
+same-length-2 c = c .before .before .before .before .before .before .before .before .before .before .before .before .before .read-script-text .kept .1 .1 .1 .0
 
 same-length-3 : tie.Need-same-length-3
-same-length-3 c = c .before .before .before .before .before .before .before .before .before .before .before .read-script-text .kept .1 .1 .1 .1 .0
+same-length-3 c = c .before .before .before .before .before .before .before .before .before .before .before .before .before .read-script-text .kept .1 .1 .1 .1 .0
+
+same-length-4 : tie.Need-same-length-4
+same-length-4 c = c .before .before .before .before .before .before .before .before .before .before .before .before .before .read-script-text .kept .1 .1 .1 .1 .1 .0
 
 returns : tie.Need-returns
-returns c = script-declined (c .before .before .before .before .before .before .before .before .before .before .before .read-script-text .ensures) (c .refusal .ensures) (c .before .if1 .taken)
+returns c = script-declined (c .before .before .before .before .before .before .before .before .before .before .before .before .before .read-script-text .ensures) (c .refusal .ensures) (c .before .if1 .taken)
 
-slice-aggregate-read-bodies : tie.Need-slice-aggregate-read-bodies
-slice-aggregate-read-bodies c = search needs
+slice-aggregate-read-response-text : tie.Need-slice-aggregate-read-response-text
+slice-aggregate-read-response-text c = search needs
 
-read-bodies-requires : tie.Need-read-bodies-requires
-read-bodies-requires c κs =
-    let told = c .before .before .before .before .before .before .before .before .before .before .before .before .before .before in
-    let raw-long = told .read-script-text .kept .1 .1 .0 ∙ c .before .before .before .before .before .before .before .before .before .before .before .before .before .before .before .before .before .before .before .word-room .ensures in
-    let long = told .read-script-text .kept .1 .1 .1 .1 .0 ∙ c .before .before .before .before .before .before .before .before .before .before .before .before .before .before .before .before .before .before .before .before .before .before .before .before .before .pre .1 .1 in
-    (ready (told .read-script-text .ensures) (c .before .before .before .before .if1 .left) raw-long long, forms-room (told .read-script-text .last .1 .1 .1 .1 .0) long)
+read-response-text-requires : tie.Need-read-response-text-requires
+read-response-text-requires c κs =
+    let told = c .before .before .before .before .before .before .before .before .before .before .before .before .before .before .before .before in
+    ready
+    (told .read-script-text .ensures)
+    (c .before .before .before .before .if1 .left)
+    (omega (arith, told .read-script-text .kept .1 .1 .0, told .before .before .before .before .before .before .word-room .ensures))
+    (omega (arith, told .read-script-text .kept .1 .1 .1 .1 .0, c .before .before .before .before .before .before .before .before .before .before .before .before .before .before .before .before .before .before .before .before .before .before .before .before .before .before .before .before .before .pre .nodes-room))
 
 refusal-requires-2 : tie.Need-refusal-requires-2
 refusal-requires-2 c κs = search needs
 
-same-length-4 : tie.Need-same-length-4
-same-length-4 c = c .before .before .before .before .before .before .before .before .before .before .before .before .before .before .before .before .before .before .before .before .before .read-script-text .kept .1 .0
-
 same-length-5 : tie.Need-same-length-5
-same-length-5 c = c .before .before .before .before .before .before .read-bodies .kept .1 .1 .1 .0 ∙ c .before .before .before .before .before .before .before .before .before .before .before .before .before .before .before .before .before .before .before .before .before .read-script-text .kept .1 .1 .1 .0
+same-length-5 c = c .before .before .before .before .before .before .before .before .before .before .before .before .before .before .before .before .before .before .before .before .before .before .before .read-script-text .kept .1 .0
 
 same-length-6 : tie.Need-same-length-6
-same-length-6 c = c .before .before .before .before .before .before .read-bodies .kept .1 .1 .1 .1 .0 ∙ c .before .before .before .before .before .before .before .before .before .before .before .before .before .before .before .before .before .before .before .before .before .read-script-text .kept .1 .1 .1 .1 .0
+same-length-6 c = c .before .before .before .before .before .before .read-response-text .kept .1 .1 .1 .0 ∙ c .before .before .before .before .before .before .before .before .before .before .before .before .before .before .before .before .before .before .before .before .before .before .before .read-script-text .kept .1 .1 .1 .0
+
+same-length-7 : tie.Need-same-length-7
+same-length-7 c = c .before .before .before .before .before .before .read-response-text .kept .1 .1 .1 .1 .0 ∙ c .before .before .before .before .before .before .before .before .before .before .before .before .before .before .before .before .before .before .before .before .before .before .before .read-script-text .kept .1 .1 .1 .1 .0
+
+same-length-8 : tie.Need-same-length-8
+same-length-8 c = c .before .before .before .before .before .before .before .before .before .before .before .before .before .before .before .before .before .before .before .before .before .before .before .read-script-text .kept .1 .1 .1 .1 .1 .0
 
 returns-2 : tie.Need-returns-2
 returns-2 c =
-    let told = c .before .before .before .before .before .before .before .before .before .before .before .before .before .before .before .before .before .before .before .before .before in
-    let answered = c .before .before .before .before .before .before in
-    let raw-long = told .read-script-text .kept .1 .1 .0 ∙ c .before .before .before .before .before .before .before .before .before .before .before .before .before .before .before .before .before .before .before .before .before .before .before .before .before .before .word-room .ensures in
-    let long = told .read-script-text .kept .1 .1 .1 .1 .0 ∙ c .before .before .before .before .before .before .before .before .before .before .before .before .before .before .before .before .before .before .before .before .before .before .before .before .before .before .before .before .before .before .before .before .pre .1 .1 in
-    response-read (told .read-script-text .ensures) (c .before .before .before .before .before .before .before .before .before .before .before .if1 .left) raw-long long (answered .read-bodies .ensures .0) (answered .read-bodies .ensures .1)
-    (answered .read-bodies .kept .1 .1 .1 .1 .0) (c .refusal2 .ensures)
+    let told = c .before .before .before .before .before .before .before .before .before .before .before .before .before .before .before .before .before .before .before .before .before .before .before in
+    response-read
+    (told .read-script-text .ensures)
+    (c .before .before .before .before .before .before .before .before .before .before .before .if1 .left)
+    (omega (arith, told .read-script-text .kept .1 .1 .0, told .before .before .before .before .before .before .word-room .ensures))
+    (omega (arith, told .read-script-text .kept .1 .1 .1 .1 .0, c .before .before .before .before .before .before .before .before .before .before .before .before .before .before .before .before .before .before .before .before .before .before .before .before .before .before .before .before .before .before .before .before .before .before .before .before .pre .nodes-room))
+    (c .before .before .before .before .before .before .read-response-text .ensures)
+    (c .refusal2 .ensures)
 
 pub read-texts-spec : {M : Type 1} → statement M
 read-texts-spec =
@@ -70,11 +81,13 @@ read-texts-spec =
     same-length
     same-length-2
     same-length-3
-    returns
-    slice-aggregate-read-bodies
-    read-bodies-requires
-    refusal-requires-2
     same-length-4
+    returns
+    slice-aggregate-read-response-text
+    read-response-text-requires
+    refusal-requires-2
     same-length-5
     same-length-6
+    same-length-7
+    same-length-8
     returns-2)

@@ -14,7 +14,7 @@ returns : tie.Need-returns
 returns c = read-uncarried (c .before .before .not-carried .ensures) (c .before .if1 .taken) (c .answer .ensures)
 
 add-code-at : tie.Need-add-code-at
-add-code-at c = omega (arith, word-near (c .before .before .before .before .before .before .before .before .before .pre))
+add-code-at c = omega (arith, word-near (c .before .before .before .before .before .before .before .before .before .before .pre))
 
 code-at-requires : tie.Need-code-at-requires
 code-at-requires c κs = search needs
@@ -41,7 +41,7 @@ returns-2 c =
 
 test-command-requires : tie.Need-test-command-requires
 test-command-requires c κs =
-    let come = c .before .before .before .before in
+    let come = c .before .before .before .before .before in
     in-shape
     (come .before .before .before .before .before .not-carried .ensures)
     (come .before .before .before .before .if1 .left)
@@ -49,11 +49,11 @@ test-command-requires c κs =
     (come .before .before .command-shape .ensures)
     (come .before .out-of-place .ensures)
     (come .if2 .left)
-    (c .before .before .before .before .before .before .before .before .before .before .before .before .before .before .before .before .before .pre)
+    (c .before .before .before .before .before .before .before .before .before .before .before .before .before .before .before .before .before .before .before .pre)
 
 step-by-requires : tie.Need-step-by-requires
 step-by-requires c κs =
-    let come = c .before .before .before .before .before .before .before .before .before .before .before .before .before in
+    let come = c .before .before .before .before .before .before .before .before .before .before .before .before .before .before .before .before in
     few-after
     (come .before .before .before .before .before .not-carried .ensures)
     (come .before .before .before .before .if1 .left)
@@ -61,8 +61,8 @@ step-by-requires c κs =
     (come .before .before .command-shape .ensures)
     (come .before .out-of-place .ensures)
     (come .if2 .left)
-    (c .before .before .before .before .before .before .before .before .test-command .ensures)
-    (c .before .before .before .before .before .before .before .before .before .before .before .before .before .before .before .before .before .before .before .before .before .before .before .before .before .before .pre)
+    (c .before .before .before .before .before .before .before .before .before .before .test-command .ensures)
+    (c .before .before .before .before .before .before .before .before .before .before .before .before .before .before .before .before .before .before .before .before .before .before .before .before .before .before .before .before .before .before .pre)
 
 same-length : tie.Need-same-length
 same-length c = search needs
@@ -76,9 +76,12 @@ same-length-3 c = search needs
 same-length-4 : tie.Need-same-length-4
 same-length-4 c = search needs
 
+same-length-5 : tie.Need-same-length-5
+same-length-5 c = search needs
+
 returns-3 : tie.Need-returns-3
 returns-3 c =
-    let come = c .before .before .before .before .before .before .before .before .before .before .before .before .before .before in
+    let come = c .before .before .before .before .before .before .before .before .before .before .before .before .before .before .before .before .before in
     read-tested
     (come .before .before .before .before .before .not-carried .ensures)
     (come .before .before .before .before .if1 .left)
@@ -86,7 +89,7 @@ returns-3 c =
     (come .before .before .command-shape .ensures)
     (come .before .out-of-place .ensures)
     (come .if2 .left)
-    (c .before .before .before .before .before .before .before .before .before .test-command .ensures)
+    (c .before .before .before .before .before .before .before .before .before .before .before .test-command .ensures)
     (c .step-by .ensures)
 
 pub read-command-spec : {M : Type 1} → statement M
@@ -108,4 +111,5 @@ read-command-spec =
     same-length-2
     same-length-3
     same-length-4
+    same-length-5
     returns-3)

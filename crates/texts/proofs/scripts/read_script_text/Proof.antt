@@ -66,18 +66,18 @@ slice-aggregate-read-script c =
 
 read-script-requires : tie.Need-read-script-requires
 read-script-requires c κs =
-    let p = c .before .before .before .before .before in
+    let p = c .before .before .before .before .before .before in
     let l = p .before .before .before .before in
     let w = worded-in (l .before .before .script-limits .ensures) (l .read-lexemes .ensures) (p .before .before .number-of .ensures) (p .before .if1 .left) (p .passed-of .ensures) in
-    script-at w (l .before .before .before .before .before .before .before .before .before .pre)
+    script-at w (l .before .before .before .before .before .before .before .before .before .before .pre)
 
 slice-aggregate-offset-of : tie.Need-slice-aggregate-offset-of
 slice-aggregate-offset-of c = search needs
 
 offset-of-requires : tie.Need-offset-of-requires
 offset-of-requires c κs =
-    let r = c .before .before .before .before .before .before .before .before .before .before in
-    let p = r .before .before .before .before .before .before in
+    let r = c .before .before .before .before .before .before .before .before .before .before .before .before in
+    let p = r .before .before .before .before .before .before .before in
     let l = p .before .before .before .before in
     let w = worded-in (l .before .before .script-limits .ensures) (l .read-lexemes .ensures) (p .before .before .number-of .ensures) (p .before .if1 .left) (p .passed-of .ensures) in
     placed w
@@ -94,13 +94,16 @@ same-length-3 c = search needs
 same-length-4 : tie.Need-same-length-4
 same-length-4 c = search needs
 
+same-length-5 : tie.Need-same-length-5
+same-length-5 c = search needs
+
 returns-2 : tie.Need-returns-2
 returns-2 c =
-    let r = c .before .before .before .before .before .before .before .before .before .before .before in
-    let p = r .before .before .before .before .before .before in
+    let r = c .before .before .before .before .before .before .before .before .before .before .before .before .before in
+    let p = r .before .before .before .before .before .before .before in
     let l = p .before .before .before .before in
     let w = worded-in (l .before .before .script-limits .ensures) (l .read-lexemes .ensures) (p .before .before .number-of .ensures) (p .before .if1 .left) (p .passed-of .ensures) in
-    let lent = l .before .before .before .before .before .before .before .before .before .pre in
+    let lent = l .before .before .before .before .before .before .before .before .before .before .pre in
     commands-told w lent (r .read-script .ensures (script-at w lent)) (c .offset-of .ensures)
 
 pub read-script-text-spec : {M : Type 1} → statement M
@@ -128,4 +131,5 @@ read-script-text-spec =
     same-length-2
     same-length-3
     same-length-4
+    same-length-5
     returns-2)
