@@ -3,9 +3,10 @@ use Prim.Native.Nat.{ℕ, _-_, _*_, _≤_, _<_}
 use native.Mathlib.Omega.{arith}
 use mathlib.Core.Path.{_≡_, ap, _∙_, subst}
 use mathlib.Core.List.{List}
-use lib.ListN.{drop, length, length-append, length-drop, take}
+use lib.ListN.{drop, length, length-append, length-drop, length-replicate, take}
 use lib.Seq.{take-all}
 use Rattle.forest.specs.Forest.{nodesOf}
+use Rattle.forest.specs.Limits.{scriptWords}
 use Rattle.terms.specs.code.Nodes.{rowWidth}
 use Rattle.forest.specs.Tables.{rows}
 use Rattle.words.specs.Trees.{Lexeme}
@@ -15,6 +16,11 @@ use Rattle.term_nodes.specs.Terms.{rawTerm, rawTerms}
 use Rattle.names.specs.Scopes.{View, formsOf}
 use Rattle.term_faults.specs.code.Bodies.{BodyFound, BodySought}
 use Rattle.bodies.specs.code.Bodies.{noSorts}
+
+-- the column of sorts has an entry for each word that a script may have
+pub sorts-long : length noSorts ≡ scriptWords
+unfolding noSorts
+sorts-long = length-replicate {A = ℕ} scriptWords 0
 
 -- a term has a form
 one-form : (view : View) (l : Lexeme) (ops : Items) → 0 < length (formTable (formsOf view (rawTerm l ops)))

@@ -46,7 +46,7 @@ pub fn body_names(
 }
 
 // The column of sorts before it is filled.
-pub fn no_sorts() -> [u64; SCRIPT_WORDS]
+pub fn no_sorts() -> [u8; SCRIPT_WORDS]
     ensures { λ r. ⌜ r ≡ noSorts ⌝ }
 {
     [0; SCRIPT_WORDS]

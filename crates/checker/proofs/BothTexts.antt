@@ -33,6 +33,7 @@ blank-names =
     record {
       sized = length-replicate {A = ℕ} (nameWidth * rowCount) 0;
       short = λ r h. rw (getD-replicate {A = ℕ} (nameWidth * rowCount) (nameWidth * r + 1) 0 0 (omega arith)) (omega arith);
+      narrow = λ r h. rw (getD-replicate {A = ℕ} (nameWidth * rowCount) (nameWidth * r) 0 0 (omega arith)) (omega arith);
     }
 
 module _ {script names places nodes forms : List ℕ} {s : Step} (read : ScriptRead script names places nodes forms s) where

@@ -4,7 +4,7 @@ use native.Mathlib.Omega.{arith}
 use mathlib.Core.Path.{_≡_, refl, sym, ap, subst, _∙_}
 use mathlib.Core.Bool.{false}
 use mathlib.Core.List.{List, [], _∷_, _++_, append-assoc}
-use lib.ListN.{drop, length, length-append, length-replicate, take}
+use lib.ListN.{drop, length, length-append, take}
 use lib.Seq.{drop-append-seam, length-take-le, sets, sets-eq}
 use borrow.Author.Tests.{le-ltb, lt-ltb}
 use Rattle.forest.specs.Forest.{Forest, Node, nodesOf, none, tree}
@@ -27,11 +27,13 @@ use Rattle.names.specs.Scopes.{View, formsOf}
 use Rattle.names.specs.code.Lookup.{sourceOf}
 use Rattle.names.specs.Unknown.{unknownIn}
 use Rattle.names.specs.declared.Seen.{Seen}
+use Rattle.names.proofs.NamePut.{seen-narrow}
 use Rattle.term_faults.specs.code.Bodies.{BodyFound, BodySought, Lawful, Rising}
 use Rattle.term_faults.proofs.Rising.{rising-wider, terms-rise}
 use Rattle.bodies.specs.code.Bodies.{Named, Naming, noSorts}
+use Rattle.bodies.proofs.TablePart.{sorts-long}
 use Rattle.script.specs.declared.Verdict.{Verdict}
-use Rattle.script.proofs.TermsOfForms.{forms-size}
+use Rattle.script.proofs.TermsOfForms.{forms-size, term-narrow}
 use Rattle.script.specs.code.Answers.{nameAnswer, sortAnswer}
 use Rattle.commands.specs.code.TermTests.{Judged, Judging}
 use Rattle.commands.specs.declared.TermTest.{TermTest}
@@ -128,12 +130,14 @@ module _ {text lexemes names raw places nodes : List ℕ} {t : TermTest} {rawAft
           counted = n .counted;
           say = term-says n;
           rising = term-rises n;
+          narrow-nodes = term-narrow (n .label) (n .operands);
           view = n .view;
+          narrow-names = seen-narrow (n .sees);
           known = omega (arith, found .unknown-is, unknown-low (t .target .nowhere) (n .view) (nodesOf (rawTerm (n .label) (n .operands))));
           more = drop (nodeWidth * t .target .base + length (formTable (formsOf (n .view) (rawTerm (n .label) (n .operands))))) nodes;
           is-forms = forms-there n (found .nodes-are);
           signed = p .signed;
-          room = rw length-replicate (p .few);
+          room = rw sorts-long (p .few);
         };
         label = n .label;
         operands = n .operands;

@@ -53,7 +53,7 @@ module _ {text lexemes names : List ℕ} {row i : ℕ} (a : Adding text lexemes 
   -- The row holds them, and the other rows what they held.
   pub variable-put : {after : List ℕ} → Added a after
       → Put names row (sortOf (item 2 (a .here .command)) (inside 2 (a .here .command))) (nameOf (item 1 (a .here .command))) after
-  variable-put e = put-row (a .table) (a .fits) _ _ name-fits e
+  variable-put e = put-row (a .table) (a .fits) _ _ name-fits (a .narrow) e
 
 module _ {text lexemes names : List ℕ} {p : Progress} {i nowhere : ℕ} (d : Declaring text lexemes names p i nowhere) where
   -- The variable that the command says.

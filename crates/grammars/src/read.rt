@@ -108,7 +108,7 @@ pub fn grammar_sorts(
     raw: &[u64],
     forms: &[u64],
     signatures: &[u64],
-    column: &mut [u64],
+    column: &mut [u8],
     at: usize,
     nodes: usize,
     nowhere: usize,

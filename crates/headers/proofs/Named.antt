@@ -72,7 +72,7 @@ module _ {text lexemes names : List ℕ} {scope : Scope} {synthesized : Bool} {a
   -- The own name stands in its row, and the other rows are what they were.
   pub put-own : (p : HeadAt text lexemes names scope synthesized at) {nowhere place : ℕ} {between : List ℕ} → OwnNamed p nowhere between place
       → Put names (ownRow synthesized scope) (sortOf (item 3 (p .command)) (inside 3 (p .command))) (nameOf (item 1 (p .command))) between
-  put-own p o = put-row (p .table) (omega (arith, own-rows p)) _ _ (name-fits p) (o .is-put)
+  put-own p o = put-row (p .table) (omega (arith, own-rows p)) _ _ (name-fits p) (p .result) (o .is-put)
 
   module _ {arguments : ℕ} (ea : arguments ≡ nextAt lexemes (at + 2)) {result : ℕ} (er : result ≡ nextAt lexemes arguments)
       {later : Scope} (el : later ≡ grownBy synthesized scope) {first : ℕ} (ef : first ≡ firstRow synthesized scope)

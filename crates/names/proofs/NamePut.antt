@@ -3,13 +3,17 @@ use Prim.Native.Nat.{ℕ, zero, suc, _+_, _-_, _*_, _≤_, _<_}
 use native.Mathlib.Omega.{arith}
 use mathlib.Core.Path.{_≡_, refl, sym, ap, ap₂, _∙_, subst}
 use mathlib.Core.Bool.{Bool, true, false}
+use mathlib.Core.Logic.{_⊎_, inl, inr}
 use mathlib.Core.List.{List, [], _∷_, _++_, append-assoc}
 use lib.ListN.{drop, getD, length, replicate, take, length-append, length-drop, length-replicate, take-append-drop, List·getD-append}
 use lib.Seq.{drop-append-add, drop-append-le, drop-at, drop-drop, getD-drop, length-sets, length-take-le, sets, sets-eq, take-append-le, take-append-seam}
 use lib.Dec.{eqb, ltb}
 use borrow.Author.Tests.{eqb-false, eqb-true, ltb-false, ltb-true}
-use Rattle.names.specs.code.Lookup.{Kept, Names}
+use Rattle.operators.specs.Sorts.{maxWidth}
+use Rattle.names.specs.Scopes.{View, namedSorts}
+use Rattle.names.specs.code.Lookup.{Kept, Names, Sees}
 use Rattle.names.specs.code.Table.{longest, nameIn, nameRow, namesFrom, rowCount, rowWidth, sortIn, sortsFrom}
+use Rattle.names.specs.declared.Seen.{Seen}
 
 -- Two tables hold the same in row k.
 pub record SameRow (one other : List ℕ) (k : ℕ) : Type 0 where
@@ -75,6 +79,17 @@ same-behind {one} {other} k e = record {
     read : (i : ℕ) → getD one (rowWidth * k + i) 0 ≡ getD other (rowWidth * k + i) 0
     read i = sym (getD-drop (rowWidth * k) one i 0) ∙ ap (λ (l : List ℕ). getD l i 0) e ∙ getD-drop (rowWidth * k) other i 0
 
+-- The sorts in some rows of a table are at most 64 wide.
+pub sorts-narrow : {names : List ℕ} → Names names → (r n : ℕ) → r + n ≤ rowCount → (k : ℕ) → getD (sortsFrom names r n) k 0 ≤ maxWidth
+unfolding sortsFrom
+sorts-narrow t r zero h k = omega arith
+sorts-narrow t r (suc n) h zero = t .narrow r (omega arith)
+sorts-narrow t r (suc n) h (suc k) = sorts-narrow t (r + 1) n (omega arith) k
+
+-- So are those of the names that a view has.
+pub seen-narrow : {names : List ℕ} {seen : Seen} {view : View} → Sees names seen view → (k : ℕ) → getD (namedSorts (view .names)) k 0 ≤ maxWidth
+seen-narrow {seen = seen} s k = rw (← s .sorts-are) (sorts-narrow (s .table) (seen .first) (seen .names) (s .names-fit) k)
+
 -- A name and its sort stand in a row, and the other rows are what they were.
 pub record Put (names : List ℕ) (row sort : ℕ) (word after : List ℕ) : Type 0 where
   pub table : Names after
@@ -83,7 +98,7 @@ pub record Put (names : List ℕ) (row sort : ℕ) (word after : List ℕ) : Typ
   pub kept : Kept names row 1 after
 
 module _ {names : List ℕ} (t : Names names) {row : ℕ} (h : row < rowCount) (sort : ℕ) (word : List ℕ) (short : length word ≤ longest)
-    {after : List ℕ} (e : after ≡ sets names (rowWidth * row) (nameRow sort word)) where
+    (narrow : sort ≤ maxWidth) {after : List ℕ} (e : after ≡ sets names (rowWidth * row) (nameRow sort word)) where
   -- how long the row is
   row-long : length (nameRow sort word) ≡ rowWidth
   row-long = let l : length (word ++ replicate (longest - length word) 0) ≡ longest = rw (length-append, length-replicate) (omega arith) in omega arith
@@ -152,24 +167,48 @@ module _ {names : List ℕ} (t : Names names) {row : ℕ} (h : row < rowCount) (
     sorts-behind = λ r m l. same-rows r m (λ k a b. behind-same k (omega arith)) .sorts;
   }
 
-  -- no name is too long
-  lengths : (r : ℕ) → r < rowCount → getD after (rowWidth * r + 1) 0 ≤ longest
-  lengths r l = go (eqb r row) refl (ltb r row) refl
+  -- the row holds the sort
+  sort-put : sortIn after row ≡ sort
+  sort-put = let z : rowWidth * row + 0 ≡ rowWidth * row = omega arith in rw z at (byte-in 0)
+
+  -- a row is that one, or holds what it held
+  row-or-same : (r : ℕ) → (r ≡ row) ⊎ SameRow after names r
+  row-or-same r = go (eqb r row) refl (ltb r row) refl
     where
-      go : (here : Bool) → eqb r row ≡ here → (early : Bool) → ltb r row ≡ early → getD after (rowWidth * r + 1) 0 ≤ longest
-      go true x early y = let z = eqb-true r row x in rw (z, byte-in 1) short
-      go false x true y = let z = ltb-true r row y in rw (before-same r z .size) (t .short r l)
+      go : (here : Bool) → eqb r row ≡ here → (early : Bool) → ltb r row ≡ early → (r ≡ row) ⊎ SameRow after names r
+      go true x early y = inl (eqb-true r row x)
+      go false x true y = inr (before-same r (ltb-true r row y))
       go false x false y =
           let z = eqb-false r row x in
           let w = ltb-false r row y in
-          rw (behind-same r (omega arith) .size) (t .short r l)
+          inr (behind-same r (omega arith))
+
+  -- no name is too long
+  lengths : (r : ℕ) → r < rowCount → getD after (rowWidth * r + 1) 0 ≤ longest
+  lengths r l = go (row-or-same r)
+    where
+      go : (r ≡ row) ⊎ SameRow after names r → getD after (rowWidth * r + 1) 0 ≤ longest
+      go (inl z) = rw (z, byte-in 1) short
+      go (inr same) = rw (same .size) (t .short r l)
+
+  -- no sort is too wide
+  sorts : (r : ℕ) → r < rowCount → sortIn after r ≤ maxWidth
+  sorts r l = go (row-or-same r)
+    where
+      go : (r ≡ row) ⊎ SameRow after names r → sortIn after r ≤ maxWidth
+      go (inl z) = rw (z, sort-put) narrow
+      go (inr same) = rw (same .sort) (t .narrow r l)
 
   -- the name and its sort are put into the row
   pub put-row : Put names row sort word after
   put-row = record {
-    table = record { sized = ap length e ∙ length-sets names (rowWidth * row) (nameRow sort word) ∙ t .sized; short = lengths };
+    table = record {
+      sized = ap length e ∙ length-sets names (rowWidth * row) (nameRow sort word) ∙ t .sized;
+      short = lengths;
+      narrow = sorts;
+    };
     name = name-put;
-    sort-is = let z : rowWidth * row + 0 ≡ rowWidth * row = omega arith in rw z at (byte-in 0);
+    sort-is = sort-put;
     kept = kept;
   }
 

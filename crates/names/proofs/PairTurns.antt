@@ -130,7 +130,7 @@ module _ {text lexemes names₀ : List ℕ} {scope : Scope} {row first close now
         row-put : Put names (row + done) (sortOf (item 1 (x .operands)) (inside 1 (x .operands))) (nameOf (item 0 (x .operands))) after
         row-put =
             put-row (k .table) pair-fits (sortOf (item 1 (x .operands)) (inside 1 (x .operands))) (nameOf (item 0 (x .operands))) (name-fits pair-left)
-            (put pair-left)
+            (pair-left .narrow) (put pair-left)
 
         -- the names with its own
         names-put : namesFrom after row (done + 1) ≡ namesFrom names row done ++ nameOf (item 0 (x .operands)) ∷ []

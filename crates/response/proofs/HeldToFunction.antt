@@ -4,7 +4,7 @@ use native.Mathlib.Omega.{arith}
 use mathlib.Core.Path.{_≡_, refl, sym, ap, _∙_, subst}
 use mathlib.Core.Bool.{false}
 use mathlib.Core.List.{List, [], _∷_, _++_, append-assoc}
-use lib.ListN.{drop, length, length-drop, length-map, length-replicate, take}
+use lib.ListN.{drop, length, length-drop, length-map, take}
 use lib.Seq.{drop-at, getD-drop, length-take-le, sets, sets-eq}
 use borrow.Author.Tests.{le-ltb, lt-ltb}
 use Rattle.forest.specs.Forest.{Node, nodesOf}
@@ -25,17 +25,19 @@ use Rattle.names.specs.code.Lookup.{Sees, sourceOf}
 use Rattle.names.specs.code.Table.{functionRow, namesFrom, definedRow}
 use Rattle.names.specs.Unknown.{unknownIn}
 use Rattle.names.specs.declared.Seen.{Seen}
+use Rattle.names.proofs.NamePut.{seen-narrow}
 use Rattle.term_faults.specs.Faults.{bodyFault}
 use Rattle.term_faults.specs.code.Bodies.{BodyFound, BodySought, Signed}
 use Rattle.term_faults.proofs.Rising.{rising-wider, terms-rise}
 use Rattle.bodies.specs.code.Bodies.{Named, Naming, noSorts}
+use Rattle.bodies.proofs.TablePart.{sorts-long}
 use Rattle.headers.specs.code.Compare.{Compared, Differs}
 use Rattle.script.specs.Script.{termOf}
 use Rattle.script.specs.code.Places.{functionsPlace, argumentsIn, beforeIn, functionWidth, resultIn}
-use Rattle.forest.specs.Limits.{mostFunctions, scriptWords}
+use Rattle.forest.specs.Limits.{mostFunctions}
 use Rattle.script.specs.declared.Progress.{Progress}
 use Rattle.script.proofs.OneTermMore.{length-table}
-use Rattle.script.proofs.TermsOfForms.{term-size, term-table}
+use Rattle.script.proofs.TermsOfForms.{term-narrow, term-size, term-table}
 use Rattle.script.specs.Response.{responseView}
 use Rattle.script.specs.code.Answers.{nameAnswer, sortAnswer, headerAnswer}
 use Rattle.response.specs.code.Functions.{Answering, Comparing, Matched, matched, seenBy}
@@ -167,7 +169,7 @@ module _ {text lexemes names raw places nodes : List ℕ} {p : Progress} {at j r
   rows-few q =
       let a = q .asked in
       let r = a .reading in
-      omega (arith, q .gathered .few, next-within (r .lawful .ends) (as-item (command-list a)), r .few, length-replicate {A = ℕ} scriptWords 0)
+      omega (arith, q .gathered .few, next-within (r .lawful .ends) (as-item (command-list a)), r .few, sorts-long)
 
   module _ {arguments : ℕ} (ea : arguments ≡ argumentsIn places j) {result : ℕ} (er : result ≡ resultIn places j) where
     -- Its header may be compared.
@@ -274,7 +276,9 @@ module _ {text lexemes names raw places nodes : List ℕ} {p : Progress} {at j r
                     say = say-terms false (by-itself refl (b .stands)) shape;
                     rising = rising-wider (rawTerm l ops) (terms-rise (by-itself refl (b .stands)) shape) (omega arith) (next-within
                         (a .reading .lawful .ends) b);
+                    narrow-nodes = term-narrow l ops;
                     view = view;
+                    narrow-names = seen-narrow (view-seen a);
                     known = known-names nowhere view (nodesOf (rawTerm l ops)) (n .unknown-is) hn;
                     more = drop (nodeWidth * base + length (formTable (formsOf view (rawTerm l ops)))) nodes;
                     is-forms = forms-written view l ops nodes base (n .nodes-are) refl (rw (g .counted) at (rows-room q));

@@ -19,7 +19,7 @@ use Rattle.derivation.specs.Derivation.{Item, nonTerminal, the}
 use Rattle.derivation.specs.code.Tables.{formTable, itemCode, itemRow, itemValue}
 use Rattle.lexemes.specs.Reserved.{isWord}
 use Rattle.term_sorts.specs.Forms.{FormScope}
-use Rattle.term_sorts.specs.code.Signatures.{AllReal, Real}
+use Rattle.term_sorts.specs.code.Signatures.{AllReal, Every, Real}
 use Rattle.words.specs.Trees.{Lexeme, list, literal as literal-word, numeral, symbol, wordOf}
 use Rattle.lexemes.specs.Lists.{Items, inside, is, isConstantWord, item, nameOf, numeralOf}
 use Rattle.lexemes.specs.code.Standing.{Source}
@@ -28,7 +28,7 @@ use Rattle.term_nodes.specs.Terms.{Raw, constant, cut, cutBy, decimal, headedBy
 use Rattle.term_nodes.specs.code.Table.{operandsOf}
 use Rattle.names.specs.Scopes.{Named, View, definedNames, formsOf, functionNames, isNamed, itemOr, means, namesOf, symbolMeans}
 use Rattle.term_faults.specs.Faults.{scopeOf}
-use Rattle.term_faults.specs.code.Bodies.{Lawful}
+use Rattle.term_faults.specs.code.Bodies.{Lawful, NarrowNode}
 use Rattle.term_faults.proofs.Reals.{all-real}
 use Rattle.script.specs.Script.{labelOf, termOf, termsIn}
 
@@ -78,6 +78,25 @@ terms-written headed none = none-written
 terms-written headed (tree l ops more) =
     let later = terms-written false more in
     either-written headed later (also-written (node-written l ops) (either-written (is "_" (item 0 ops)) none-written (terms-written true ops)) later)
+
+-- A node that is none has no sort of its own that could be too wide.
+node-narrow : (r : Raw) → Written r → NarrowNode r
+node-narrow (word at head name) w = tt
+node-narrow (number at v) w = tt
+node-narrow (constant at width v) w = tt
+node-narrow (decimal at head n width) w = tt
+node-narrow (cut at head i j) w = tt
+node-narrow (pattern at c s held) w = absurd w
+
+-- The same of every node.
+written-narrow : (F : Forest Raw) → AllWritten F → Every NarrowNode F
+unfolding Every
+written-narrow none w = tt
+written-narrow (tree r ops more) (also-written w o m) = (node-narrow r w, written-narrow ops o, written-narrow more m)
+
+-- So no node of a term has one.
+pub term-narrow : (l : Lexeme) (ops : Items) → Every NarrowNode (rawTerm l ops)
+term-narrow l ops = written-narrow (rawTerm l ops) (terms-written false (tree l ops none))
 
 -- What a node stands for, or nothing, is a label.
 record Labelled (meant : Option Item) : Type 0 where
@@ -181,7 +200,7 @@ label-plain scope (function k) real = tt
 
 -- Those of forms are.
 labels-plain : (scope : FormScope) (F : Forest Item) → AllLabels F → AllReal scope F → AllPlain (termsIn F)
-unfolding AllPlain AllReal termsIn
+unfolding AllPlain Every termsIn
 labels-plain scope none a real = tt
 labels-plain scope (tree i ops more) (also-labels e o m) real = (
   label-plain scope (labelOf i) (subst (Real scope) e (real .0)),

@@ -1,3 +1,4 @@
+pub mod RulesNarrow
 pub mod SynthFunParts
 pub mod PastLimits
 pub mod HeaderRead

@@ -4,7 +4,7 @@ use native.Mathlib.Nat.{add-zero}
 use native.Mathlib.Omega.{arith}
 use mathlib.Core.Path.{_≡_, refl, sym, ap, ap₂, _∙_}
 use mathlib.Core.List.{List, [], _∷_, _++_, append-assoc}
-use lib.ListN.{drop, getD, length, length-drop, length-map, length-replicate, take}
+use lib.ListN.{drop, getD, length, length-drop, length-map, take}
 use lib.Seq.{drop-at, drop-drop, length-sets, length-take-le, sets, sets-eq, take-all}
 use Rattle.forest.specs.Forest.{Node, count, nodesOf, none, tree}
 use Rattle.operators.specs.Sorts.{maxWidth}
@@ -13,6 +13,7 @@ use Rattle.term_sorts.specs.code.Forms.{sortColumn}
 use Rattle.term_sorts.specs.code.Signatures.{RowsAre, SortsAre, nonTerminalSignature}
 use Rattle.lexemes.specs.Lists.{Items, inside, item, nameOf}
 use Rattle.bodies.specs.code.Bodies.{noSorts}
+use Rattle.bodies.proofs.TablePart.{sorts-long}
 use Rattle.term_nodes.specs.Terms.{Raw}
 use Rattle.names.specs.Scopes.{Defined, View, formsOf, namesOf, namedSorts}
 use Rattle.names.specs.code.Lookup.{sourceOf}
@@ -62,11 +63,11 @@ sort-in-row names r (suc n) zero h = rw add-zero
 sort-in-row names r (suc n) (suc j) h = let next : r + suc j ≡ r + 1 + j = omega arith in rw next (sort-in-row names (r + 1) n j (omega arith))
 
 -- The sort of one of the pairs.
-narrow-sort : (F : Items) (j : ℕ) → j < count F → AllNarrow F → getD (namedSorts (namedBy F)) j 0 ≤ maxWidth
-unfolding AllNarrow count namedBy
-narrow-sort none j h narrow = absurd (omega arith)
-narrow-sort (tree l ops more) zero h narrow = narrow .0
-narrow-sort (tree l ops more) (suc j) h narrow = narrow-sort more j (omega arith) (narrow .1)
+pub narrow-sort : (F : Items) (j : ℕ) → AllNarrow F → getD (namedSorts (namedBy F)) j 0 ≤ maxWidth
+unfolding AllNarrow namedBy
+narrow-sort none j narrow = omega arith
+narrow-sort (tree l ops more) zero narrow = narrow .0
+narrow-sort (tree l ops more) (suc j) narrow = narrow-sort more j (narrow .1)
 
 -- What is written into a table from a place on stands there.
 pub written-there : (l : List ℕ) (at : ℕ) (vs : List ℕ) → at + length vs ≤ length l → drop at (sets l at vs) ≡ vs ++ drop (at + length vs) l
@@ -103,7 +104,7 @@ module _ {text lexemes names raw places forms : List ℕ} {p : Progress} {g : Ga
         let pairs = inside 4 (s .given .of .here .command) in
         let here : sortIn names (nonTerminalRow + j) ≡ t = cc in
         let below : j < count pairs = omega (arith, s .header .listed-are) in
-        rw (← here, sort-in-row names nonTerminalRow (count pairs) j below, s .listed-sorts) (narrow-sort pairs j below (limits .narrow-listed));
+        rw (← here, sort-in-row names nonTerminalRow (count pairs) j below, s .listed-sorts) (narrow-sort pairs j (limits .narrow-listed));
   }
 
   -- its header stands there
@@ -209,7 +210,7 @@ module _ {text lexemes names raw places forms : List ℕ} {p : Progress} {g : Ga
     module _ {column : List ℕ} (blank : column ≡ noSorts) where
       -- there is a row for each node
       pub column-room : g .row ≤ length column
-      column-room = rw (blank, length-replicate) (omega (arith, s .within, closes-within (s .given .of), s .given .of .here .few))
+      column-room = rw (blank, sorts-long) (omega (arith, s .within, closes-within (s .given .of), s .given .of .here .few))
 
       -- the sorts of its rules may be looked for
       abbrev pub sorting-here : Sorting lexemes raw (fromPlace (nodeWidth * p .forms) forms) placesBetween column i (g .row) nowhere
@@ -224,7 +225,9 @@ module _ {text lexemes names raw places forms : List ℕ} {p : Progress} {g : Ga
           counted = s .rows-are;
           say = nodes-say (s .given .of);
           rising = nodes-rise (s .given .of);
+          narrow-nodes = limits .narrow-nodes;
           view = viewOf (s .given .of .known) (s .given .of .here .command);
+          narrow-names = λ j. narrow-sort (inside 2 (s .given .of .here .command)) j (limits .narrow-arguments);
           known = names-known;
           more = drop (nodeWidth * p .forms + length (formsSaid (s .given .of .known) (s .given .of .here .command))) (s .lentForms);
           is-forms = forms-part;

@@ -29,7 +29,8 @@ use Rattle.forest.specs.Limits.{allowed, mostArguments, mostFunctions, mostNonT
 use Rattle.grammars.specs.Grammars.{grammarFault, grammarMisfit, grammarNames, grammarPast}
 use Rattle.term_nodes.specs.Rules.{itemPast, rulePast, sides}
 use Rattle.term_faults.specs.code.Grammars.{AllSingle}
-use Rattle.term_faults.specs.code.Bodies.{Rising}
+use Rattle.term_faults.specs.code.Bodies.{NarrowNode, Rising}
+use Rattle.term_sorts.specs.code.Signatures.{Every}
 use Rattle.term_nodes.specs.code.Says.{AllSay}
 use Rattle.term_faults.proofs.Rising.{rising-wider, rules-rise}
 use Rattle.term_faults.proofs.Said.{rules-say, rules-single}
@@ -42,6 +43,7 @@ use Rattle.script.proofs.Headers.{head-narrow, pairs-narrow}
 use Rattle.script.proofs.WordsBelow.{command-below, command-word, inside-below, no-fault}
 use Rattle.synth_fun.specs.code.Synthesizing.{ruledBy}
 use Rattle.grammars.proofs.Within.{rising-few}
+use Rattle.synth_fun.proofs.RulesNarrow.{rules-narrow}
 use Rattle.script.proofs.Within.{Amid, amid, items-few, past-neither, past-none, rules-few}
 
 -- What a `synth-fun` keeps to within its limits.
@@ -53,6 +55,7 @@ pub record Small (c : Items) (functions : ℕ) : Type 0 where
   pub few-listed : count (inside 4 c) ≤ mostNonTerminals
   pub narrow-listed : AllNarrow (inside 4 c)
   pub few-rules : length (ruledBy c) ≤ mostRules
+  pub narrow-nodes : Every NarrowNode (sides (ruledBy c))
 
 module _ {text lexemes : List ℕ} {p : Progress} {i nowhere : ℕ} (of : CommandOf "synth-fun" text lexemes p i nowhere) where
   -- which command it is
@@ -190,4 +193,5 @@ module _ {text lexemes : List ℕ} {p : Progress} {i nowhere : ℕ} (of : Comman
         few-listed = items-few nowhere mostNonTerminals (inside 4 c) some (inside-below nowhere 4 c below) (grammar .0);
         narrow-listed = pairs-narrow nowhere some (inside 4 c) (inside-below nowhere 4 c below) (listed .0);
         few-rules = rules-few nowhere mostRules (ruledBy c) 0 nowhere rules-trees nodes-rise (omega arith) (rules .0);
+        narrow-nodes = rules-narrow nowhere some 0 (inside 5 c) (inside-below nowhere 5 c below) (listed .1);
       }

@@ -7,6 +7,7 @@ pub mod Headed
 pub mod Heading
 pub mod RulesLoop
 pub mod Reals
+pub mod Narrow
 pub mod Rising
 pub mod Rooted
 pub mod Said

@@ -17,7 +17,7 @@ use Rattle.operators.specs.Sorts.{Fit, maxWidth}
 use Rattle.derivation.specs.Derivation.{nonTerminal, the}
 use Rattle.terms.specs.Labels.{defined, function, literal, name, operator}
 use Rattle.lexemes.specs.Reserved.{isWord}
-use Rattle.term_sorts.specs.code.Signatures.{AllReal, Real}
+use Rattle.term_sorts.specs.code.Signatures.{AllReal, Every, Real}
 use Rattle.lexemes.specs.code.Standing.{Source}
 use Rattle.lexemes.specs.code.Table.{codeAt, literalCode, valueAt, widthAt}
 use Rattle.term_nodes.specs.code.Says.{AllSay, Says}
@@ -148,6 +148,6 @@ module _ (view : View) where
 
     -- What all nodes stand for.
     pub all-real : (F : Forest Raw) → AllSay s F → AllReal (scopeOf view) (formsOf view F)
-    unfolding AllReal AllSay formsOf
+    unfolding AllSay Every formsOf
     all-real none say = tt
     all-real (tree r ops rest) say = (node-real r (say .0), all-real ops (say .1), all-real rest (say .2))

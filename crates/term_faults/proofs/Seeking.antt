@@ -14,6 +14,7 @@ use Rattle.term_faults.specs.Faults.{scopeOf, termFault}
 use Rattle.term_faults.specs.code.Bodies.{Found, Sought}
 use Rattle.term_faults.proofs.Agreeing.{Agree, clear, faulty, faults-agree}
 use Rattle.term_faults.proofs.Forms.{from-first, size-form}
+use Rattle.term_faults.proofs.Narrow.{forms-narrow}
 use Rattle.term_faults.proofs.Reals.{all-real}
 
 module _ {raw forms signatures column : List ℕ} {count nowhere : ℕ} where
@@ -26,6 +27,7 @@ module _ {raw forms signatures column : List ℕ} {count nowhere : ℕ} where
       rest = p .more;
       is-forms = p .is-forms;
       real = all-real (p .view) (p .source) (p .lawful .bounded .fit) (p .F) (p .say);
+      narrow = forms-narrow (p .view) (p .narrow-names) (p .F) (p .narrow-nodes);
       defined-are = p .signed .defined-are;
       functions-are = p .signed .functions-are;
       nonTerminals-are = p .signed .nonTerminals-are;

@@ -9,7 +9,7 @@ pub fn fault_word(
     raw: &[u64],
     forms: &[u64],
     signatures: &[u64],
-    column: &mut [u64],
+    column: &mut [u8],
     count: usize,
     nowhere: usize,
 ) -> usize
@@ -28,7 +28,7 @@ pub fn body_fault(
     raw: &[u64],
     forms: &[u64],
     signatures: &[u64],
-    column: &mut [u64],
+    column: &mut [u8],
     count: usize,
     sort: u64,
     nowhere: usize,

@@ -31,7 +31,7 @@ pub fn rules_misfit(
     raw: &[u64],
     rules: &[u64],
     signatures: &[u64],
-    column: &[u64],
+    column: &[u8],
     count: usize,
     listed: usize,
     nowhere: usize,

@@ -1,5 +1,5 @@
 -- The pass from the last node to the first.
-use Prim.Native.Nat.{ℕ, _+_, _-_, _≤_, _<_}
+use Prim.Native.Nat.{ℕ, _+_, _-_, _^_, _≤_, _<_}
 use native.Mathlib.Decide.{ℕ-discrete}
 use native.Mathlib.Omega.{arith}
 use mathlib.Core.Bool.{Bool, cond, _&&_}
@@ -20,6 +20,7 @@ use Rattle.term_sorts.specs.code.Nodes.{NodeAt, NodeGives, treeSorts}
 use Rattle.term_sorts.specs.code.Operands.{AllSorted, Trees}
 use Rattle.term_sorts.proofs.Columns.{column-at, column-length, over-length, over-past, trees-stand}
 use Rattle.term_sorts.proofs.Faults.{fault-none, fault-turn}
+use Rattle.term_sorts.proofs.Narrow.{number-small}
 use Rattle.term_sorts.proofs.NodeSorts.{form-says, sorts-count, sorts-together}
 
 -- The column that is to be.
@@ -110,6 +111,10 @@ module _ {forms signatures : List ℕ} {count : ℕ} {lent : List ℕ} where
               }
 
           module _ {sort : ℕ} (gives : NodeGives forms signatures column (node - 1) whole sort) where
+            -- It fits a byte.
+            pub number-fits : SortsFilling forms signatures count lent → sort < 2 ^ 8
+            number-fits p = let e = node-before p in omega (arith, gives e, number-small e)
+
             -- The column with the node's number.
             right-here : (p : SortsFilling forms signatures count lent) (j : ℕ) → node - 1 ≤ j → Dec (j ≡ node - 1)
                 → getD (set column (node - 1) sort) j 0 ≡ getD (over (whole-column p) lent) j 0

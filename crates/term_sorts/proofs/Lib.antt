@@ -5,6 +5,8 @@ pub mod RuleSorts
 pub mod OperatorSorts
 pub mod Arguments
 pub mod Items
+pub mod Every
+pub mod Narrow
 pub mod NodeSorts
 pub mod Faults
 pub mod Columns

@@ -1,8 +1,8 @@
 -- What the tables say of a node of the forms, and the sort of its tree.
-use Prim.Native.Nat.{ℕ, zero, suc, _+_, _<_}
+use Prim.Native.Nat.{ℕ, suc, _+_, _<_}
 use borrow.Author.Tests.{not-false, not-true}
 use mathlib.Core.Bool.{not, Bool, true, false, cond}
-use mathlib.Core.Path.{_≡_, refl, sym, ap, _∙_, subst}
+use mathlib.Core.Path.{_≡_, refl, sym, ap, _∙_}
 use mathlib.Core.List.{List, _++_}
 use mathlib.Core.Option.{Option, none as nothing, some}
 use lib.Dec.{eqb, lit<}
@@ -10,7 +10,7 @@ use lib.ListN.{getD, length}
 use Rattle.forest.proofs.Bools.{apart}
 use Rattle.forest.proofs.Nodes.{node-at}
 use Rattle.forest.proofs.Rows.{row-at}
-use Rattle.forest.specs.Forest.{Forest, count, join, nodesOf, none, tree}
+use Rattle.forest.specs.Forest.{Forest, count, nodesOf, none, tree}
 use Rattle.forest.specs.code.Cursors.{from, size}
 use Rattle.forest.specs.code.Rows.{numberAt}
 use Rattle.forest.specs.Tables.{rows}
@@ -23,7 +23,8 @@ use Rattle.terms.specs.code.Nodes.{codeAt, operandsAt, rowWidth, valueAt}
 use Rattle.terms.specs.Sorts.{sortOver}
 use Rattle.operators.specs.Sorts.{sortWhere}
 use Rattle.term_sorts.specs.Forms.{FormScope, formSorts, itemSort, sorted, treeSort}
-use Rattle.term_sorts.specs.code.Signatures.{AllReal, Real, allRows}
+use Rattle.term_sorts.specs.code.Signatures.{Real, allRows}
+use Rattle.term_sorts.proofs.Every.{every-at, every-first}
 use Rattle.term_sorts.proofs.Items.{Callable, Told, callable, isCalled, leaf-item, operator-item}
 use Rattle.term_sorts.specs.code.Forms.{sortNumber}
 use Rattle.term_sorts.specs.code.Nodes.{NodeAt, NodeGives, firstRow, treeSorts}
@@ -53,24 +54,6 @@ told-real scope (the (function k)) h = tt
 told-real scope (nonTerminal A) h = tt
 told-real scope (anyLiteral s) h = tt
 told-real scope (anyArgument s) h = tt
-
--- Forms whose items the reader makes, one after the other.
-real-join : (scope : FormScope) (a b : Forest Item) → AllReal scope a → AllReal scope b → AllReal scope (join a b)
-unfolding AllReal join
-real-join scope none b p q = q
-real-join scope (tree i ops rest) b p q = (p .0, p .1, real-join scope rest b (p .2) q)
-
--- The same of what is left from a cursor on.
-real-from : (scope : FormScope) (F : Forest Item) (p : ℕ) → AllReal scope F → AllReal scope (from F p)
-unfolding AllReal from
-real-from scope F zero h = h
-real-from scope none (suc p) h = h
-real-from scope (tree i ops rest) (suc p) h = real-from scope (join ops rest) p (real-join scope ops rest (h .1) (h .2))
-
--- The same of the first item.
-real-of : (scope : FormScope) (i : Item) (ops rest : Forest Item) → AllReal scope (tree i ops rest) → Real scope i
-unfolding AllReal
-real-of scope i ops rest h = h .0
 
 -- The sorts of forms are those of their trees together.
 pub sorts-together : (scope : FormScope) (F : Forest Item) → together (treeSorts scope F) ≡ formSorts scope F
@@ -106,8 +89,8 @@ module _ {forms signatures column : List ℕ} {node : ℕ} {whole : Bool} where
   -- Its item is one that the reader makes.
   real-at : (e : NodeAt forms signatures column node whole) → Real (e .given .scope) (e .item)
   real-at e =
-      let all = real-from (e .given .scope) (e .given .F) node (e .given .real) in
-      real-of (e .given .scope) (e .item) (e .operands) (e .rest) (subst (AllReal (e .given .scope)) (e .is) all)
+      let all = every-at (Real (e .given .scope)) (e .given .F) node (e .is) (e .given .real) in
+      every-first (Real (e .given .scope)) (e .item) (e .operands) (e .rest) all
 
   -- So it is told by its numbers.
   told-at : (e : NodeAt forms signatures column node whole) → Told (e .item)

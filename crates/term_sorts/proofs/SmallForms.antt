@@ -17,7 +17,7 @@ use Rattle.terms.specs.Sorts.{calledSort, labelSort, sameSorts, sortOver, withS
 use Rattle.term_sorts.specs.Forms.{FormScope, formSorts, itemSort}
 use Rattle.term_sorts.specs.code.Forms.{faultFrom, sortColumn}
 use Rattle.term_sorts.specs.code.Sorting.{SortsFilling}
-use Rattle.term_sorts.specs.code.Signatures.{AllReal, RowsAre, Sortable, SortsAre, functionSignature, signatureWidth}
+use Rattle.term_sorts.specs.code.Signatures.{Every, RowsAre, Sortable, SortsAre, functionSignature, signatureWidth}
 
 -- A synthesized function from two bits to a Bool, and a non-terminal of one bit.
 abbrev scope : FormScope
@@ -66,13 +66,14 @@ argument-is (suc k) l = absurd (omega arith)
 
 -- The table of forms of the first of them, and the signatures, are what is asked for.
 held : Sortable (formTable (test (pair none))) signatures
-unfolding AllReal RowsAre SortsAre numberAt
+unfolding Every RowsAre SortsAre numberAt
 held = record {
   F = test (pair none);
   scope = scope;
   rest = [];
   is-forms = sym (append-nil (formTable (test (pair none))));
   real = (omega arith, (omega arith, (omega arith, tt, (record { sort = omega arith; value = omega arith }, tt, tt)), tt), tt);
+  narrow = (tt, (tt, (tt, tt, (tt, tt, tt)), tt), tt);
   defined-are = tt;
   functions-are = (record { counted = refl; result-is = refl; arguments-are = argument-is; few = omega arith; sort = omega arith }, tt);
   nonTerminals-are = (record { counted = refl; result-is = refl; arguments-are = λ k l. absurd (omega arith); few = omega arith; sort = omega arith }, tt);

@@ -27,7 +27,7 @@ fn signature_at(signatures: &[u64], row: usize, place: usize) -> u64
 fn arguments_fit(
     forms: &[u64],
     signatures: &[u64],
-    column: &[u64],
+    column: &[u8],
     place: usize,
     count: usize,
     row: usize,
@@ -51,7 +51,7 @@ fn arguments_fit(
 pub fn called_sort(
     forms: &[u64],
     signatures: &[u64],
-    column: &[u64],
+    column: &[u8],
     place: usize,
     count: usize,
     row: usize,

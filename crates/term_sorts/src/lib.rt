@@ -2,7 +2,7 @@
 //!
 //! `forms` is a node table. `signatures` has ten numbers for each `define-fun`, behind 32 of these for each synthesized function, and behind 8 of these for
 //! each non-terminal: how many arguments it has, its sort, and the sorts of its arguments. A sort that may be missing is a number: 0 where it is, else one
-//! more than the sort.
+//! more than the sort, which is at most 64, so that a byte holds the number.
 mod calls;
 mod nodes;
 mod operands;
@@ -24,7 +24,7 @@ fn pick(test: bool, one: usize, other: usize) -> usize
 
 // Fills in the sort of each of the first `count` nodes of the forms; returns the first node that has no sort though its operands have, `count` where there is
 // none.
-pub fn fill_sorts(forms: &[u64], signatures: &[u64], count: usize, column: &mut [u64]) -> usize
+pub fn fill_sorts(forms: &[u64], signatures: &[u64], count: usize, column: &mut [u8]) -> usize
     requires { ⌜ SortsFilling (now forms) (now signatures) count (now column) ⌝ }
     ensures { λ r. ⌜ ((p : SortsFilling (now (forms .entry)) (now (signatures .entry)) count (now (column .entry))) → SortsFilled p (now (column .exit)) r) ⌝ }
 {
@@ -35,7 +35,7 @@ pub fn fill_sorts(forms: &[u64], signatures: &[u64], count: usize, column: &mut 
         let whole = operands_sorted(forms, column, node + 1, operands_at(forms, node) as usize);
         let sort = node_sort(forms, signatures, column, node, whole);
         fault = pick(whole & (sort == 0), node, fault);
-        column[node] = sort;
+        column[node] = sort as u8;
     }
     fault
 }

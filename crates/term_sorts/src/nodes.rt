@@ -34,7 +34,7 @@ fn first_row(kind: u64) -> usize
 }
 
 // The sort of a node's tree; `whole` says whether all its operands have sorts.
-pub fn node_sort(forms: &[u64], signatures: &[u64], column: &[u64], node: usize, whole: bool) -> u64
+pub fn node_sort(forms: &[u64], signatures: &[u64], column: &[u8], node: usize, whole: bool) -> u64
     requires { ⌜ NodeAt (now forms) (now signatures) (now column) node whole ⌝ }
     ensures { λ r. ⌜ NodeGives (now (forms .entry)) (now (signatures .entry)) (now (column .entry)) node whole r ⌝ }
 {

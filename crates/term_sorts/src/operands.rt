@@ -6,17 +6,17 @@ ghost use Rattle.term_sorts.specs.code.Forms.{sortNumber};
 ghost use Rattle.term_sorts.specs.code.Operands.{AllSorted, Common, SomeTrees, Trees};
 
 // The number that stands for a node in the column; 0 past its end.
-pub fn sort_at(column: &[u64], node: usize) -> u64
+pub fn sort_at(column: &[u8], node: usize) -> u64
     ensures { λ r. ⌜ r ≡ getD (now (column .entry)) node 0 ⌝ }
 {
     if node < column.len() {
-        return column[node];
+        return column[node] as u64;
     }
     0
 }
 
 // Whether the trees from node `place` on, `count` of them, all have sorts.
-pub fn operands_sorted(forms: &[u64], column: &[u64], place: usize, count: usize) -> bool
+pub fn operands_sorted(forms: &[u64], column: &[u8], place: usize, count: usize) -> bool
     requires { ⌜ Trees sortNumber (now forms) (now column) place count ⌝ }
     ensures { λ r. ⌜ AllSorted (now (forms .entry)) (now (column .entry)) place count r ⌝ }
 {
@@ -33,7 +33,7 @@ pub fn operands_sorted(forms: &[u64], column: &[u64], place: usize, count: usize
 }
 
 // The sort that the trees from node `place` on, `count` of them, have in common; 0 where they differ.
-pub fn common_sort(forms: &[u64], column: &[u64], place: usize, count: usize) -> u64
+pub fn common_sort(forms: &[u64], column: &[u8], place: usize, count: usize) -> u64
     requires { ⌜ SomeTrees (now forms) (now column) place count ⌝ }
     ensures { λ r. ⌜ Common (now (forms .entry)) (now (column .entry)) place count r ⌝ }
 {

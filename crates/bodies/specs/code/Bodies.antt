@@ -76,5 +76,5 @@ NamesBody text lexemes names raw nodes seen target rawAfter nodesAfter r =
     (p : Naming text lexemes names raw nodes seen (target .count) (target .base) (target .nowhere)) → Named p rawAfter nodesAfter r
 
 -- The column of sorts before it is filled: "4,096 words".
-abbrev pub noSorts : List ℕ
+unfoldable pub noSorts : List ℕ
 noSorts = replicate scriptWords 0

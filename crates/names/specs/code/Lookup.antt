@@ -9,7 +9,7 @@ use Rattle.forest.specs.Limits.{mostDefined, mostFunctions, mostNonTerminals}
 use Rattle.word_kinds.specs.Limits.{numeralDigits}
 use Rattle.operators.specs.Operators.{operatorCount}
 use Rattle.operators.specs.code.Operators.{extractNumber}
-use Rattle.operators.specs.Sorts.{Fit}
+use Rattle.operators.specs.Sorts.{Fit, maxWidth}
 use Rattle.lexemes.specs.Reserved.{isWord}
 use Rattle.terms.specs.code.Codes.{codeWith, operatorKind}
 use Rattle.derivation.specs.Derivation.{Item}
@@ -18,14 +18,15 @@ use Rattle.lexemes.specs.code.Standing.{Source, spelt}
 use Rattle.lexemes.specs.code.Table.{codeAt, literalCode, numeralCode, valueAt, widthAt}
 use Rattle.term_nodes.specs.Terms.{Raw, constant, cut, decimal, number, pattern, word}
 use Rattle.names.specs.Scopes.{View, definedNames, functionNames, inOrder, itemOr, namesOf, namedSorts}
-use Rattle.names.specs.code.Table.{definedRow, functionRow, longest, namesFrom, nonTerminalRow, rowCount, rowWidth, sortsFrom}
+use Rattle.names.specs.code.Table.{definedRow, functionRow, longest, namesFrom, nonTerminalRow, rowCount, rowWidth, sortIn, sortsFrom}
 use Rattle.names.specs.declared.Meaning.{Meaning}
 use Rattle.names.specs.declared.Seen.{Seen}
 
--- A table of names: its size, and no name is too long.
+-- A table of names: its size, no name is too long, and no sort is too wide.
 pub record Names (names : List ℕ) : Type 0 where
   pub sized : length names ≡ rowWidth * rowCount
   pub short : (r : ℕ) → r < rowCount → getD names (rowWidth * r + 1) 0 ≤ longest
+  pub narrow : (r : ℕ) → r < rowCount → sortIn names r ≤ maxWidth
 
 -- The rows of a table but n from `row` on are what they were.
 pub record Kept (names : List ℕ) (row n : ℕ) (namesAfter : List ℕ) : Type 0 where

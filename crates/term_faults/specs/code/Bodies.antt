@@ -2,7 +2,7 @@
 use Prim.Native.Nat.{ℕ, suc, _≤_, _<_}
 use mathlib.Core.List.{List, _++_}
 use mathlib.Core.Path.{_≡_}
-use lib.ListN.{length}
+use lib.ListN.{getD, length}
 use Rattle.forest.specs.Forest.{Forest, nodesOf, none, tree}
 use Rattle.forest.specs.code.Cursors.{size}
 use Rattle.forest.specs.Tables.{over}
@@ -10,14 +10,15 @@ use Rattle.operators.specs.Sorts.{maxWidth}
 use Rattle.words.specs.Trees.{Lexeme}
 use Rattle.derivation.specs.code.Tables.{formTable}
 use Rattle.term_sorts.specs.code.Forms.{sortColumn}
-use Rattle.term_sorts.specs.code.Signatures.{RowsAre, SortsAre, functionSignature, nonTerminalSignature}
+use Rattle.term_sorts.specs.code.Signatures.{Every, RowsAre, SortsAre, functionSignature, nonTerminalSignature}
 use Rattle.lexemes.specs.Lists.{Items}
 use Rattle.lexemes.specs.code.Standing.{Source}
 use Rattle.lexemes.specs.code.Table.{codeAt}
 use Rattle.term_nodes.specs.code.Says.{AllSay}
 use Rattle.term_nodes.specs.code.Table.{rawTable}
-use Rattle.term_nodes.specs.Terms.{Raw, firstWord, rawTerm}
-use Rattle.names.specs.Scopes.{View, formsOf}
+use Rattle.term_nodes.specs.Terms.{Raw, constant, cut, decimal, firstWord, number, pattern, rawTerm, word}
+use Rattle.written_sorts.specs.Written.{sortOf}
+use Rattle.names.specs.Scopes.{View, formsOf, namedSorts}
 use Rattle.names.specs.code.Lookup.{Bounded, ShortNames}
 use Rattle.names.specs.Unknown.{unknownIn}
 use Rattle.term_faults.specs.Faults.{bodyFault, scopeOf, termFault}
@@ -44,7 +45,16 @@ pub record Signed (signatures : List ℕ) (view : View) : Type 0 where
   pub few-functions : length (view .functions) ≤ mostFunctions
   pub few-nonTerminals : length (view .nonTerminals) ≤ mostNonTerminals
 
--- Terms of a text, whose names are known, and the forms that they say, in tables.
+-- The sort of `(Constant σ)` or `(Variable σ)` is at most 64 wide.
+abbrev pub NarrowNode : Raw → Type 0
+NarrowNode (word at head name) = Unit {0}
+NarrowNode (number at v) = Unit {0}
+NarrowNode (constant at width v) = Unit {0}
+NarrowNode (decimal at head name width) = Unit {0}
+NarrowNode (cut at head i j) = Unit {0}
+NarrowNode (pattern at c s held) = sortOf s held ≤ maxWidth
+
+-- Terms of a text, whose names are known and whose sorts are at most 64 wide, and the forms that they say, in tables.
 pub record Sought (raw forms signatures column : List ℕ) (count nowhere : ℕ) : Type 0 where
   pub source : Source
   pub lawful : Lawful source nowhere
@@ -54,7 +64,9 @@ pub record Sought (raw forms signatures column : List ℕ) (count nowhere : ℕ)
   pub counted : count ≡ size F
   pub say : AllSay source F
   pub rising : Rising 0 nowhere F
+  pub narrow-nodes : Every NarrowNode F
   pub view : View
+  pub narrow-names : (k : ℕ) → getD (namedSorts (view .names)) k 0 ≤ maxWidth
   pub known : unknownIn nowhere view (nodesOf F) ≡ nowhere
   pub more : List ℕ
   pub is-forms : forms ≡ formTable (formsOf view F) ++ more

@@ -1,4 +1,4 @@
-use Rattle.term_sorts.proofs.Filling.{Filled, filled-begins, filled-ends, filled-goes, node-before, operands-after}
+use Rattle.term_sorts.proofs.Filling.{Filled, filled-begins, filled-ends, filled-goes, node-before, number-fits, operands-after}
 use borrow.Author.Needs.{needs}
 use native.Mathlib.Omega.{arith}
 use Rattle.term_sorts.proofs.fill_sorts.Statement.{statement}
@@ -31,8 +31,8 @@ node-sort-requires c κs = search node-before
 pick-requires : tie.Need-pick-requires Inv-loop μ-loop
 pick-requires c κs = search needs
 
-mul-column : tie.Need-mul-column Inv-loop μ-loop
-mul-column c = omega arith
+cast-column : tie.Need-cast-column Inv-loop μ-loop
+cast-column c = search number-fits
 
 slice-write-column : tie.Need-slice-write-column Inv-loop μ-loop
 slice-write-column c = omega arith
@@ -62,7 +62,7 @@ fill-sorts-spec =
     operands-sorted-requires
     node-sort-requires
     pick-requires
-    mul-column
+    cast-column
     slice-write-column
     loop-less
     loop-again

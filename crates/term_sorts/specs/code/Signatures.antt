@@ -60,10 +60,25 @@ Real scope (nonTerminal A) = A < length (scope .nonTerminals)
 Real scope (anyLiteral s) = Unit {0}
 Real scope (anyArgument s) = Unit {0}
 
--- The same of every node.
-unfoldable pub AllReal : FormScope → Forest Item → Type 0
-AllReal scope none = Unit {0}
-AllReal scope (tree i ops rest) = Real scope i × AllReal scope ops × AllReal scope rest
+-- A fact holds of every node.
+unfoldable pub Every : {A : Type 0} → (A → Type 0) → Forest A → Type 0
+Every holds none = Unit {0}
+Every holds (tree i ops rest) = holds i × Every holds ops × Every holds rest
+
+-- Every node is one that the reader makes.
+abbrev pub AllReal : FormScope → Forest Item → Type 0
+AllReal scope F = Every (Real scope) F
+
+-- The sort of a name, of `(Constant σ)` and of `(Variable σ)` is at most 64 wide.
+abbrev pub Narrow : Item → Type 0
+Narrow (the (literal s v)) = Unit {0}
+Narrow (the (name s k)) = s ≤ maxWidth
+Narrow (the (operator o i j)) = Unit {0}
+Narrow (the (defined k)) = Unit {0}
+Narrow (the (function k)) = Unit {0}
+Narrow (nonTerminal A) = Unit {0}
+Narrow (anyLiteral s) = s ≤ maxWidth
+Narrow (anyArgument s) = s ≤ maxWidth
 
 -- The tables hold the forms F and what they may name.
 pub record Sortable (forms signatures : List ℕ) : Type 0 where
@@ -72,6 +87,7 @@ pub record Sortable (forms signatures : List ℕ) : Type 0 where
   pub rest : List ℕ
   pub is-forms : forms ≡ formTable F ++ rest
   pub real : AllReal scope F
+  pub narrow : Every Narrow F
   pub defined-are : RowsAre signatures 0 (scope .terms .defined)
   pub functions-are : RowsAre signatures functionSignature (scope .terms .functions)
   pub nonTerminals-are : SortsAre signatures nonTerminalSignature (scope .nonTerminals)

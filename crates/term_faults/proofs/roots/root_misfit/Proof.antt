@@ -4,11 +4,11 @@ use borrow.Author.Needs.{needs}
 use Rattle.term_faults.proofs.roots.root_misfit.Statement.{statement}
 use Rattle.term_faults.proofs.roots.root_misfit.Tie as tie
 
-mul-if1 : tie.Need-mul-if1
-mul-if1 c = omega (arith, root-within (c .before .before .pre))
-
 shared-slice-read-if1 : tie.Need-shared-slice-read-if1
 shared-slice-read-if1 c = omega (arith, root-within (c .before .before .before .pre))
+
+cast-if1 : tie.Need-cast-if1
+cast-if1 c = omega (arith, c .shared-slice-known3 .given (c .before .before .before .args .node))
 
 add-if1 : tie.Need-add-if1
 add-if1 c = search needs
@@ -24,4 +24,4 @@ returns-2 c = root-misfits _ (c .before .if1 .left) (c .first-at .ensures)
 
 pub root-misfit-spec : {M : Type 1} → statement M
 root-misfit-spec =
-    tie.close (tie.spec mul-if1 shared-slice-read-if1 add-if1 returns first-at-requires returns-2)
+    tie.close (tie.spec shared-slice-read-if1 cast-if1 add-if1 returns first-at-requires returns-2)
