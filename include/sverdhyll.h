@@ -3,12 +3,12 @@
    Every function may be called with any bytes and any numbers. A text or a list is a pointer and a length; where the length is 0 the pointer is not read.
 
    A call keeps nothing for the next one, so that several may run at once. It runs on the caller's stack: sverdhyll_answer and sverdhyll_check take up to
-   1.5 MiB of it, whatever they are given (measured at the limits of all inputs, docs/MEASUREMENTS.md). A thread of 2 MiB suffices; one of 1 MiB does not for
-   every input, and a call that needs more than there is ends the program.
+   1.3 MiB of it, whatever they are given (measured at the limits of all inputs, docs/MEASUREMENTS.md), and sverdhyll_read, which evaluates nothing, takes
+   less. A thread of 2 MiB suffices; one of 1 MiB does not for every input, and a call that needs more than there is ends the program.
 
    Which static library has which function (`rt staticlib NAME` makes target/staticlib/libNAME.a; link one of them):
 
-     libchecker.a   sverdhyll_answer, sverdhyll_check, sverdhyll_word, sverdhyll_position
+     libchecker.a   sverdhyll_answer, sverdhyll_check, sverdhyll_read, sverdhyll_word, sverdhyll_position
      libwords.a     sverdhyll_words, sverdhyll_word, sverdhyll_position
 
    ./install DIR puts libchecker.a to DIR/lib/libsverdhyll.a, with a file for pkg-config:
@@ -135,6 +135,16 @@ uint8_t sverdhyll_answer(const uint8_t *script, size_t script_len, const uint8_t
    `text`, `place`, `second` and `units` point (none of which may be NULL). */
 uint8_t sverdhyll_check(const uint8_t *script, size_t script_len, const uint8_t *response, size_t response_len, const uint64_t *points, size_t points_len,
                         uint64_t budget, uint16_t *shown, size_t shown_len, uint8_t *text, uint64_t *place, uint64_t *second, uint64_t *units);
+
+/* The texts' own answer, for which no points, no budget and no area are needed: no derivation is searched, and nothing is evaluated. Returns its number, and
+   puts the sixteen numbers of the answer where `answer` points (which may not be NULL).
+
+   It is 1 where the script or the response is too long, and 2 to 12 where one of them is refused, each as in the table above, with the end, the line and the
+   column that sverdhyll_answer gives; the second number and the units are 0. Where both texts pass it is 0: the text is 3, and all numbers behind that are 0.
+
+   With points and an area that answer 1 does not refuse, sverdhyll_answer gives the same sixteen numbers where this is 1 to 12, and 0 or 13 to 16 where this is
+   0. A text that is too long is answered alike, whatever points and area are. */
+uint8_t sverdhyll_read(const uint8_t *script, size_t script_len, const uint8_t *response, size_t response_len, uint64_t answer[SVERDHYLL_ANSWER]);
 
 /* The length of the word that starts at offset `at` of the text; 0 if no word starts there. */
 size_t sverdhyll_word(const uint8_t *text, size_t text_len, size_t at);

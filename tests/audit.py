@@ -18,7 +18,7 @@ ROOT = os.path.join(HERE, "..")
 PAPER = os.path.join(ROOT, "docs", "AUDIT.md")
 
 # The calls that are sold, with those for C in the same files, and how many steps are enough for the reader of words.
-CHECKER = (("checker", "lib", ("check", "answer")), ("checker", "exports", ()))
+CHECKER = (("checker", "lib", ("check", "answer", "read")), ("checker", "exports", ()))
 READER = (("words", "lib", ("read_words", "word_at")), ("words", "positions", ("position", "end_of")))
 READER_STEPS = 2
 

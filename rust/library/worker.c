@@ -2,6 +2,7 @@
    A frame is eight bytes with a length, low byte first, then so many bytes. When it is ready it sends the frame "sverdhyll" and one with the digest of the
    library (SHA-256, LIBRARY below, in hexadecimal). Then it reads requests and answers each:
    "check", script, response, points, budget, area: the sixteen numbers of the answer, and the area, a frame each;
+   "read", script, response: the sixteen numbers of the texts' own answer;
    "word", text, offset: the length of the word that starts there;
    "position", text, offset: the offset past the word that starts there, the line and the column, in one frame.
    It ends as soon as nobody can write to standard input any more, also in the middle of a check: however the process that started it ends, it ends too.
@@ -62,6 +63,18 @@ static int check(void)
     return 1;
 }
 
+/* Reads two texts and gives their own answer; returns 0 where standard input ends. */
+static int read_texts(void)
+{
+    static struct frame script, response;
+    uint64_t answer[SVERDHYLL_ANSWER];
+
+    if (!receive(&script) || !receive(&response)) return 0;
+    sverdhyll_read(script.bytes, script.length, response.bytes, response.length, answer);
+    send(answer, sizeof answer);
+    return 1;
+}
+
 /* Reads what an enquiry takes; returns 0 where standard input ends. */
 static int enquired(struct frame *text, uint64_t *at)
 {
@@ -101,6 +114,7 @@ static int position(void)
 static int served(const struct frame *request)
 {
     if (is(request, "check")) return check();
+    if (is(request, "read")) return read_texts();
     if (is(request, "word")) return word();
     return is(request, "position") && position();
 }

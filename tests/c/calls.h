@@ -9,7 +9,8 @@
 
 #include "sverdhyll.h"
 
-/* An answer: its number, its text, its place, its second number and the units spent; of `sverdhyll_answer` also the end, the line and the column. */
+/* An answer: its number, its text, its place, its second number and the units spent; of `sverdhyll_answer` and `sverdhyll_read` also the end, the line and the
+   column. */
 struct answer {
     uint8_t number, text;
     uint64_t place, second, units, end, line, column;
@@ -28,7 +29,16 @@ static inline struct answer check_all(const char *script, size_t script_size, co
     return a;
 }
 
-/* The same by `sverdhyll_answer`; an answer that is not formed as the header says has the number 99. */
+/* An answer that was returned with its sixteen numbers; one that is not formed as the header says has the number 99. */
+static inline struct answer formed(uint8_t number, const uint64_t *n)
+{
+    int well = n[SVERDHYLL_NUMBER] == number && n[SVERDHYLL_TEXT] <= SVERDHYLL_NONE;
+    for (int i = SVERDHYLL_COLUMN + 1; i < SVERDHYLL_ANSWER; i++) well &= n[i] == 0;
+    return (struct answer){well ? number : 99, (uint8_t)n[SVERDHYLL_TEXT], n[SVERDHYLL_PLACE], n[SVERDHYLL_SECOND], n[SVERDHYLL_UNITS],
+                           n[SVERDHYLL_END], n[SVERDHYLL_LINE], n[SVERDHYLL_COLUMN]};
+}
+
+/* The same call by `sverdhyll_answer`. */
 static inline struct answer answer_all(const char *script, size_t script_size, const char *response, size_t response_size, const uint64_t *points, size_t count,
                                        uint64_t budget, uint16_t *shown, size_t size)
 {
@@ -36,10 +46,16 @@ static inline struct answer answer_all(const char *script, size_t script_size, c
     memset(n, 99, sizeof n);
     const uint8_t number = sverdhyll_answer((const uint8_t *)script, script_size, (const uint8_t *)response, response_size, points, count, budget, shown,
                                             size, n);
-    int formed = n[SVERDHYLL_NUMBER] == number && n[SVERDHYLL_TEXT] <= SVERDHYLL_NONE;
-    for (int i = SVERDHYLL_COLUMN + 1; i < SVERDHYLL_ANSWER; i++) formed &= n[i] == 0;
-    return (struct answer){formed ? number : 99, (uint8_t)n[SVERDHYLL_TEXT], n[SVERDHYLL_PLACE], n[SVERDHYLL_SECOND], n[SVERDHYLL_UNITS],
-                           n[SVERDHYLL_END], n[SVERDHYLL_LINE], n[SVERDHYLL_COLUMN]};
+    return formed(number, n);
+}
+
+/* The texts' own answer, by `sverdhyll_read`. */
+static inline struct answer read_all(const char *script, size_t script_size, const char *response, size_t response_size)
+{
+    uint64_t n[SVERDHYLL_ANSWER];
+    memset(n, 99, sizeof n);
+    const uint8_t number = sverdhyll_read((const uint8_t *)script, script_size, (const uint8_t *)response, response_size, n);
+    return formed(number, n);
 }
 
 /* A call with two texts, no points and the area. */
@@ -58,6 +74,20 @@ static inline int is_answer(struct answer a, uint8_t number, uint8_t text, uint6
 static inline int is_at(struct answer a, uint64_t end, uint64_t line, uint64_t column)
 {
     return a.end == end && a.line == line && a.column == column;
+}
+
+/* Whether the texts' own answer is that both pass. */
+static inline int passes(struct answer own)
+{
+    return is_answer(own, SVERDHYLL_ACCEPTED, SVERDHYLL_NONE, 0, 0, 0) && is_at(own, 0, 0, 0);
+}
+
+/* Whether the texts' own answer agrees with that of `sverdhyll_answer` for points and an area of right sizes: it is the same where a text is refused, and else that
+   both pass. */
+static inline int agrees(struct answer own, struct answer a)
+{
+    if (a.number < SVERDHYLL_TOO_LONG || a.number > SVERDHYLL_HEADER) return passes(own);
+    return is_answer(own, a.number, a.text, a.place, 0, 0) && is_at(own, a.end, a.line, a.column) && a.second == 0 && a.units == 0;
 }
 
 /* How many entries the list of a function has, if all behind it up to the next list are unused; else -1. */

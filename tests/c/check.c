@@ -1,4 +1,4 @@
-/* The checker, called from C in both ways: what include/sverdhyll.h says, with a case for each answer. */
+/* The checker, called from C in both ways, and the texts' own answer: what include/sverdhyll.h says, with a case for each answer. */
 #include "calls.h"
 
 #define SCRIPT(commands) "(set-logic BV)" commands "(check-synth)"
@@ -42,7 +42,8 @@ static int behind_stays(void)
     return area[SVERDHYLL_AREA] == 4660 && area[SVERDHYLL_AREA + 1] == 4660;
 }
 
-/* Both calls, with the area or none: they must agree, and leave the same in and behind the area. */
+/* Both calls, with the area or none: they must agree, and leave the same in and behind the area. The texts' own answer must agree with them, or with the answer
+   for no points and an area of its size where these refuse points or area. */
 static struct answer asked(const char *script, size_t script_size, const char *response, size_t response_size, const uint64_t *points, size_t count,
                            uint64_t budget, uint16_t *shown, size_t size)
 {
@@ -53,6 +54,9 @@ static struct answer asked(const char *script, size_t script_size, const char *r
     const int carries = (2 <= a.number && a.number <= 9) || a.number == 12 || a.number == 13;
     expect("both calls agree", is_answer(b, a.number, a.text, a.place, a.second, a.units) && memcmp(area, other, sizeof other) == 0);
     expect("which answers carry a line", carries ? a.line > 0 && a.column > 0 : is_at(a, 0, 0, 0));
+    const int unsized = a.number == SVERDHYLL_TOO_LONG && a.text >= SVERDHYLL_POINTS;
+    const struct answer right = unsized ? answer_all(script, script_size, response, response_size, NULL, 0, 0, other, SVERDHYLL_AREA) : a;
+    expect("the texts' own answer agrees", agrees(read_all(script, script_size, response, response_size), right));
     return a;
 }
 

@@ -1,5 +1,5 @@
 /* How much stack a call of the checker needs at document 01's limits: calls on a thread of 2 MiB, each of which must give its answer. Prints for each how much
-   of the stack was touched, by `sverdhyll_check` and by `sverdhyll_answer`. */
+   of the stack was touched, by `sverdhyll_check`, by `sverdhyll_answer` and by `sverdhyll_read`. */
 #include <pthread.h>
 
 #include "calls.h"
@@ -25,6 +25,13 @@ static void *answer(void *unused)
     return unused;
 }
 
+/* The third call, on the thread. */
+static void *read_texts(void *unused)
+{
+    given = read_all(script.bytes, script.size, response.bytes, response.size);
+    return unused;
+}
+
 /* Makes a call on a painted stack; returns how much of it was touched. */
 static size_t touched(void *(*call)(void *))
 {
@@ -39,15 +46,19 @@ static size_t touched(void *(*call)(void *))
     return STACK - untouched;
 }
 
-/* Makes both calls, prints how much of the stack each touched, and says whether each answer is this number with so many units. */
+/* Makes the three calls, prints how much of the stack each touched, and says whether the first two answer this number with so many units, and the texts' own
+   answer is that both pass. */
 static int measure(const char *what, uint8_t number, uint64_t units)
 {
     const size_t first = touched(check);
-    const int checked = given.number == number && given.units == units;
+    const struct answer one = given;
     const size_t second = touched(answer);
-    printf("%s (%zu and %zu words): answer %d, units %llu, stack used %zu and %zu KiB of %d KiB\n", what, script.words, response.words, given.number,
-           (unsigned long long)given.units, first / 1024, second / 1024, STACK / 1024);
-    return first < STACK && second < STACK && checked && given.number == number && given.units == units;
+    const struct answer two = given;
+    const size_t third = touched(read_texts);
+    printf("%s (%zu and %zu words): answer %d, units %llu, stack used %zu, %zu and, by reading alone, %zu KiB of %d KiB\n", what, script.words, response.words,
+           two.number, (unsigned long long)two.units, first / 1024, second / 1024, third / 1024, STACK / 1024);
+    const int answered = one.number == number && one.units == units && two.number == number && two.units == units && passes(given);
+    return answered && first < STACK && second < STACK && third < STACK;
 }
 
 /* Begins both texts. */

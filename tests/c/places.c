@@ -1,4 +1,5 @@
-/* Where places stand, from C: the end, the line and the column in the answers of `sverdhyll_answer`, and `sverdhyll_position` of any place. */
+/* Where places stand, from C: the end, the line and the column in the answers of `sverdhyll_answer` and `sverdhyll_read`, and by `sverdhyll_position` of any
+   place. */
 #include "calls.h"
 
 #define LOGIC "(set-logic BV)"
@@ -16,10 +17,12 @@ static void expect(const char *what, int holds)
     }
 }
 
-/* The answer to two texts and a point, with a budget. */
+/* The answer to two texts and a point, with a budget; the texts' own must agree with it. */
 static struct answer to(const char *script, const char *response, uint64_t point, uint64_t budget)
 {
-    return answer_all(script, strlen(script), response, strlen(response), &point, 1, budget, area, SVERDHYLL_AREA);
+    const struct answer a = answer_all(script, strlen(script), response, strlen(response), &point, 1, budget, area, SVERDHYLL_AREA);
+    expect("the texts' own answer agrees", agrees(read_all(script, strlen(script), response, strlen(response)), a));
+    return a;
 }
 
 /* An answer of a script: its number, its place, and the end, the line and the column there. */

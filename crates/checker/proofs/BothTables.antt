@@ -2,6 +2,7 @@
 use Prim.Native.Nat.{ℕ, _+_}
 use mathlib.Core.List.{List}
 use mathlib.Core.Path.{_≡_}
+use Rattle.words.specs.Limits.{responseLimits}
 use Rattle.script.specs.Script.{Known}
 use Rattle.script.specs.code.Tables.{TablesHold}
 use Rattle.script.specs.declared.Progress.{Progress}
@@ -26,5 +27,5 @@ held response v {p = p} {k = k} script tables gives told =
       grammars-hold = told .2;
       forms-room = tables .forms-room;
       script = script;
-      response = response-fits k response gives;
+      response = response-fits responseLimits k response gives;
     }

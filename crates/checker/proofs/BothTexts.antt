@@ -7,6 +7,7 @@ use lib.ListN.{getD-replicate, length, length-replicate, replicate}
 use Rattle.forest.specs.Limits.{responseWords, scriptWords}
 use Rattle.terms.specs.code.Nodes.{rowWidth as nodeWidth}
 use Rattle.term_nodes.specs.code.Table.{rowWidth as rawWidth}
+use Rattle.words.specs.Limits.{responseLimits}
 use Rattle.names.specs.code.Lookup.{Names}
 use Rattle.names.specs.code.Table.{rowCount, rowWidth as nameWidth}
 use Rattle.script.specs.Script.{Known}
@@ -17,14 +18,16 @@ use Rattle.script.specs.Outcome.{ResponseOutcome, ScriptOutcome, given, respons
 use Rattle.texts.specs.code.Responses.{Ready, ResponseRead, ResponseTold}
 use Rattle.texts.specs.code.Scripts.{ScriptRead, ScriptTold}
 use Rattle.script.proofs.Numbers.{Numbered, inResponse, inScript, response-numbered, script-numbered}
-use Rattle.outcome.specs.code.Texts.{scriptText, responseText}
+use Rattle.outcome.specs.code.Texts.{noText, scriptText, responseText}
 use Rattle.checker.proofs.BothTables.{held}
 use Rattle.outcome.proofs.Script.{script-assured}
-use Rattle.outcome.specs.Checked.{Checked, Passing, judged, refusal}
+use Rattle.outcome.specs.Checked.{Checked, Passing, TextsTold, both-pass, judged, refusal, refused, response-refused, script-refused, texts-refused}
+use Rattle.outcome.specs.Checked.{too-long}
 use Rattle.outcome.specs.declared.Outcome.{Outcome}
 use Rattle.verdicts.specs.code.Derive.{Derivable}
 use Rattle.checker.specs.code.Judge.{BodiesDerived, BothHeld, Judging, PointsJudged, TextsRead}
-use Rattle.checker.specs.declared.judge.Told.{Told}
+use Rattle.checker.specs.code.Sizes.{LengthsTold}
+use Rattle.checker.specs.declared.reading.Told.{Told}
 use Rattle.checker.proofs.Judgements.{all-derive, none-derives}
 
 -- a table of zeros is one of names
@@ -47,7 +50,7 @@ module _ {script names places nodes forms : List ℕ} {s : Step} (read : ScriptR
       go (ScriptOutcome.faulty number offset) is (n, at) =
           record {
             both! = λ zero. absurd (some (sym (ap (λ (x : Outcome). x .number) e) ∙ zero));
-            one! = λ other sized. rw (e, n, at) (Checked.script-refused sized is);
+            one! = λ other. rw (e, n, at) (script-refused is);
           }
       go (said k) is (n, holds, few) = absurd (some n)
 
@@ -92,10 +95,10 @@ module _ {script names places nodes forms : List ℕ} {s : Step} (read : ScriptR
               → ResponseTold t (script-passed .known) response placesAfter nodesAfter forms (s .progress) v
               → TextsRead script response names placesAfter nodesAfter forms (record { outcome = o; progress = s .progress })
           go (ResponseOutcome.faulty number offset) is (n, at) =
-              let h : Numbered inResponse (ResponseOutcome.faulty number offset) = rw is at (response-numbered (script-passed .known) response) in
+              let h : Numbered inResponse (ResponseOutcome.faulty number offset) = rw is at (response-numbered responseLimits (script-passed .known) response) in
               record {
                 both! = λ zero. absurd (omega (arith, h .some, ap (λ (x : Outcome). x .number) e));
-                one! = λ other sized. rw (e, n, at) (Checked.response-refused sized (script-passed .is) is);
+                one! = λ other. rw (e, n, at) (response-refused (script-passed .is) is);
               }
           go (given bs) is told =
               record {
@@ -110,12 +113,26 @@ module _ {script names places nodes forms : List ℕ} {s : Step} (read : ScriptR
                 one! = λ other. absurd (other (ap (λ (x : Outcome). x .number) e ∙ told .0));
               }
 
+module _ {script response : List ℕ} {t : Outcome} (lengths : LengthsTold script response t) where
+  -- the texts' own answer, where one is too long
+  pub texts-long : (t .number ≡ 0 → ⊥) → TextsTold script response t
+  texts-long other = too-long (lengths .refused other)
+
+  module _ (short : t .number ≡ 0) {names places nodes forms : List ℕ} {r : Told} (read : TextsRead script response names places nodes forms r) where
+    -- where one is refused
+    pub one-told : (r .outcome .number ≡ 0 → ⊥) → TextsTold script response (r .outcome)
+    one-told other = refused (lengths .passes short) (read .one! other)
+
+    -- and where both pass
+    pub both-told : {o : Outcome} → r .outcome .number ≡ 0 → o ≡ refusal 0 noText 0 → TextsTold script response o
+    both-told zero e = let both = read .both! zero in rw e (both-pass (lengths .passes short) (both .says) (both .gives))
+
 module _ {script response points area : List ℕ} (sizes : Judging script response points area) {names places nodes forms : List ℕ} where
   -- a text that is refused
   pub text-declined : {budget : ℕ} {r : Told} → TextsRead script response names places nodes forms r → (r .outcome .number ≡ 0 → ⊥)
       → Checked script response points budget area (r .outcome) area
   text-declined {budget} {r} read other =
-      subst (λ (after : List ℕ). Checked script response points budget area (r .outcome) after) (sym (sizes .blank)) (read .one! other (sizes .sized))
+      subst (λ (after : List ℕ). Checked script response points budget area (r .outcome) after) (sym (sizes .blank)) (texts-refused (sizes .sized) (read .one! other))
 
   module _ {p : Progress} (both : BothHeld script response names places nodes forms p) where
     -- what the search for derivations asks

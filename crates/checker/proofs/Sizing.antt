@@ -9,69 +9,91 @@ use borrow.Author.Tests.{eq-eqb, le-ltb, lt-ltb, ne-eqb}
 use lib.Dec.{eqb}
 use lib.ListN.{length}
 use Rattle.forest.specs.Limits.{areaSize, mostNumbers, responseBytes, scriptBytes}
-use Rattle.outcome.specs.Checked.{Checked, judged, missized, refusal, response-refused, script-refused, sizeAnswer, unshown}
+use Rattle.outcome.specs.Checked.{Checked, judged, lengthAnswer, missized, refusal, sizeAnswer, texts-refused, unshown}
 use Rattle.outcome.specs.Derived.{blankArea}
 use Rattle.outcome.specs.declared.Outcome.{Outcome}
 use Rattle.outcome.proofs.Areas.{blank-long, unshown-blank}
+use Rattle.outcome.proofs.Texts.{afterLengths, long-first, short-left}
 use Rattle.script.specs.code.Answers.{longAnswer}
 use Rattle.outcome.specs.code.Texts.{scriptText, responseText, pointsText, noText}
 use Rattle.checker.specs.code.Judge.{Judging}
-use Rattle.checker.specs.code.Sizes.{SizesTold}
+use Rattle.checker.specs.code.Sizes.{LengthsTold, SizesTold}
 
--- where the script, the response and the points are short enough, the area's size is left to test
-area-left : (script response points area : List ℕ) → length script ≤ scriptBytes → length response ≤ responseBytes → length points ≤ mostNumbers
-    → sizeAnswer script response points area ≡ cond (eqb (length area) areaSize) nothing (some (refusal longAnswer noText (length area)))
-unfolding sizeAnswer
-area-left script response points area f g h = rw (le-ltb scriptBytes (length script) f, le-ltb responseBytes (length response) g, le-ltb mostNumbers (length points) h)
-
-module _ {script response points : List ℕ} {size : ℕ} {r : Outcome} where
-  -- a size that is not right
-  told-refused : {text place : ℕ} → r ≡ refusal longAnswer text place
-      → ((area : List ℕ) → length area ≡ size → sizeAnswer script response points area ≡ some (refusal longAnswer text place)) → SizesTold script response points size r
-  told-refused e answers =
-      rw e (record { refused = λ other. answers; passes = λ zero. absurd (omega arith); sized = λ zero. absurd (omega arith) })
-
+module _ {script response : List ℕ} {r : Outcome} where
   -- a script that is too long
-  pub script-long : r ≡ refusal longAnswer scriptText (length script) → scriptBytes < length script → SizesTold script response points size r
-  unfolding sizeAnswer
-  script-long e h = told-refused e (λ area l. rw (lt-ltb scriptBytes (length script) h))
+  pub script-long : r ≡ refusal longAnswer scriptText (length script) → scriptBytes < length script → LengthsTold script response r
+  unfolding lengthAnswer
+  script-long e h = rw e (record { refused = λ other. rw (lt-ltb scriptBytes (length script) h); passes = λ zero. absurd (omega arith) })
 
   module _ (script-fits : length script ≤ scriptBytes) where
     -- a response that is too long
-    pub response-long : r ≡ refusal longAnswer responseText (length response) → responseBytes < length response → SizesTold script response points size r
-    unfolding sizeAnswer
-    response-long e h = told-refused e (λ area l. rw (le-ltb scriptBytes (length script) script-fits, lt-ltb responseBytes (length response) h))
+    pub response-long : r ≡ refusal longAnswer responseText (length response) → responseBytes < length response → LengthsTold script response r
+    unfolding lengthAnswer
+    response-long e h =
+        rw e
+        (record {
+          refused = λ other. rw (le-ltb scriptBytes (length script) script-fits, lt-ltb responseBytes (length response) h);
+          passes = λ zero. absurd (omega arith);
+        })
 
-    module _ (response-fits : length response ≤ responseBytes) where
-      -- a list of points that is too long
-      pub points-long : r ≡ refusal longAnswer pointsText (length points) → mostNumbers < length points → SizesTold script response points size r
-      unfolding sizeAnswer
-      points-long e h =
-          told-refused e
-          (λ area l. rw (le-ltb scriptBytes (length script) script-fits, le-ltb responseBytes (length response) response-fits, lt-ltb mostNumbers (length points) h))
+    -- two texts that are not
+    pub both-short : length response ≤ responseBytes → r ≡ refusal 0 noText 0 → LengthsTold script response r
+    unfolding lengthAnswer
+    both-short h e =
+        rw e
+        (record {
+          refused = λ other. absurd (other refl);
+          passes = λ zero. rw (le-ltb scriptBytes (length script) script-fits, le-ltb responseBytes (length response) h);
+        })
 
-      module _ (points-fit : length points ≤ mostNumbers) where
-        -- an area of wrong size
-        pub area-other : r ≡ refusal longAnswer noText size → (size ≡ areaSize → ⊥) → SizesTold script response points size r
-        area-other e h = told-refused e (λ area l. area-left script response points area script-fits response-fits points-fit ∙ rw (l, ne-eqb size areaSize h))
+module _ {script response points : List ℕ} {size : ℕ} {t : Outcome} (lengths : LengthsTold script response t) where
+  -- a text that is too long
+  pub text-long : (t .number ≡ 0 → ⊥) → SizesTold script response points size t
+  text-long long =
+      record {
+        refused = λ other area l. long-first script response points area (lengths .refused other);
+        passes = λ zero. absurd (long zero);
+        sized = λ zero. absurd (long zero);
+      }
 
-        -- sizes that are right
-        pub all-sized : r ≡ refusal 0 noText 0 → size ≡ areaSize → SizesTold script response points size r
-        all-sized e h =
-            rw e
-            (record {
-              refused = λ other. absurd (other refl);
-              passes = λ zero area l. area-left script response points area script-fits response-fits points-fit ∙ rw (l, eq-eqb size areaSize h);
-              sized = λ zero. h;
-            })
+  module _ (none : t .number ≡ 0) where
+    -- a size that is not right
+    told-refused : {r : Outcome} {text place : ℕ} → r ≡ refusal longAnswer text place
+        → ((area : List ℕ) → length area ≡ size → afterLengths points area ≡ some (refusal longAnswer text place)) → SizesTold script response points size r
+    told-refused e answers =
+        rw e
+        (record {
+          refused = λ other area l. short-left script response points area (lengths .passes none) ∙ answers area l;
+          passes = λ zero. absurd (omega arith);
+          sized = λ zero. absurd (omega arith);
+        })
+
+    -- a list of points that is too long
+    pub points-long : {r : Outcome} → r ≡ refusal longAnswer pointsText (length points) → mostNumbers < length points → SizesTold script response points size r
+    points-long e h = told-refused e (λ area l. rw (lt-ltb mostNumbers (length points) h))
+
+    module _ (points-fit : length points ≤ mostNumbers) where
+      -- an area of wrong size
+      pub area-other : {r : Outcome} → r ≡ refusal longAnswer noText size → (size ≡ areaSize → ⊥) → SizesTold script response points size r
+      area-other e h = told-refused e (λ area l. rw (le-ltb mostNumbers (length points) points-fit, l, ne-eqb size areaSize h))
+
+      -- sizes that are right
+      pub all-sized : size ≡ areaSize → SizesTold script response points size t
+      all-sized h =
+          record {
+            refused = λ other. absurd (other none);
+            passes = λ zero area l.
+                short-left script response points area (lengths .passes none)
+                ∙ rw (le-ltb mostNumbers (length points) points-fit, l, eq-eqb size areaSize h);
+            sized = λ zero. h;
+          }
 
 -- of two areas of right size the answer is the same
 pub checked-same : {script response points area other after : List ℕ} {budget : ℕ} {r : Outcome} → sizeAnswer script response points area ≡ nothing
     → sizeAnswer script response points other ≡ nothing → Checked script response points budget area r after
     → Checked script response points budget other r after
 checked-same sized right (missized e) = let z : _≡_ {A = ℕ} 0 1 = cc in absurd (omega arith)
-checked-same sized right (script-refused z e) = script-refused right e
-checked-same sized right (response-refused z s e) = response-refused right s e
+checked-same sized right (texts-refused z t) = texts-refused right t
 checked-same sized right (judged p v) = judged (record { sized = right; says = p .says; gives = p .gives }) v
 
 module _ {script response points after : List ℕ} {r : Outcome} (area : List ℕ) (told : SizesTold script response points (length area) r)

@@ -1,6 +1,7 @@
 //! The checker for C.
 use crate::answer;
 use crate::check;
+use crate::read;
 use outcome::Answer;
 use words::positions::position;
 use words::word_at;
@@ -9,7 +10,7 @@ ghost use lib.ListN.{length};
 ghost use Rattle.words.specs.Words.{enquired};
 ghost use Rattle.words.specs.Positions.{Positioned};
 ghost use Rattle.outcome.specs.Checked.{Checked};
-ghost use Rattle.outcome.specs.Located.{AnswerForC, answerNumbers};
+ghost use Rattle.outcome.specs.Located.{AnswerForC, TextsAnswerForC, answerNumbers};
 
 // `check` for C: returns the answer's number and puts its text, its place, its second number and its units where the caller lends room for them.
 #[no_mangle]
@@ -87,6 +88,16 @@ pub extern "C" fn sverdhyll_answer(
     let found = answer(script, response, points, budget, shown);
     write_answer(found, numbers);
     found.outcome.number as u8
+}
+
+// `read` for C: returns the answer's number, and puts the sixteen numbers where the caller lends room for them.
+#[no_mangle]
+pub extern "C" fn sverdhyll_read(script: &[u8], response: &[u8], numbers: &mut [u64; 16]) -> u8
+    ensures { λ r. ⌜ TextsAnswerForC (now (script .entry)) (now (response .entry)) r (now (numbers .exit)) ⌝ }
+{
+    let told = read(script, response);
+    write_answer(told, numbers);
+    told.outcome.number as u8
 }
 
 // The line and the column of a place of a text, for C: they are put where the caller says.

@@ -4,17 +4,19 @@ pub mod area;
 pub mod exports;
 pub mod judge;
 mod located;
+mod reading;
 mod sizes;
 
 use crate::area::blank_area;
 use crate::judge::judge_texts;
 use crate::located::locate;
+use crate::reading::texts_told;
 use crate::sizes::size_answer;
 use outcome::Answer;
 use outcome::Outcome;
 use script::answers::ACCEPTED;
 ghost use Rattle.outcome.specs.Checked.{Checked};
-ghost use Rattle.outcome.specs.Located.{AnswerGiven};
+ghost use Rattle.outcome.specs.Located.{AnswerGiven, TextsAnswerGiven};
 
 // The answer for any texts, points and budget; the area shows the derivations after 0, 14 and 15.
 pub fn check(
@@ -48,5 +50,16 @@ pub fn answer(
     Answer {
         outcome,
         location: locate(script, response, outcome),
+    }
+}
+
+// The answer that the two texts give by themselves, 1 to 12, or 0 where both pass, with the same three numbers.
+pub fn read(script: &[u8], response: &[u8]) -> Answer
+    ensures { λ r. ⌜ TextsAnswerGiven (now (script .entry)) (now (response .entry)) r ⌝ }
+{
+    let told = texts_told(script, response);
+    Answer {
+        outcome: told,
+        location: locate(script, response, told),
     }
 }

@@ -10,14 +10,14 @@ use Rattle.evaluation.specs.declared.Ran.the-variants.{Passed, False, Ended}
 use Rattle.names.specs.Scopes.{namedSorts}
 use Rattle.script.specs.Script.{Known}
 use Rattle.script.specs.Response.{Body, inScriptOrder}
-use Rattle.outcome.specs.Checked.{Checked, Judgement, Passing, evaluated, judged, missized, points-refused, response-refused, script-refused, underived}
+use Rattle.outcome.specs.Checked.{Checked, Judgement, Passing, evaluated, judged, missized, points-refused, texts-refused, underived}
 use Rattle.outcome.specs.Demands.{AreaStated, BodiesDerived, DerivationsShown, Exact, GrammarPassed, NoDerivation, Showing, bad-points, showing, shows}
 use Rattle.outcome.specs.Demands.{shows-none}
 use Rattle.outcome.specs.Derived.{Derived, termsOf}
 use Rattle.outcome.specs.Evaluated.{ranOutcome, ranWith}
 use Rattle.outcome.specs.declared.Outcome.{Outcome}
 use Rattle.outcome.proofs.Deriving.{not-derived, shown-derived}
-use Rattle.outcome.proofs.Stages.{missized-one, not-showing, of-passing, response-number, run-showing, script-number, sized-area}
+use Rattle.outcome.proofs.Stages.{missized-one, not-showing, of-passing, refused-number, run-showing, sized-area}
 
 -- A run does not end in 13.
 ran-other : (budget held : ℕ) (ran : Ran) → ranOutcome budget held ran .number ≡ 13 → ⊥
@@ -60,8 +60,7 @@ bodies-derived : {script response points : List ℕ} {budget : ℕ} {area : List
 bodies-derived {script} {response} {points} {area = area} (missized e) h =
     let one = missized-one script response points area e in
     absurd (not-passed (omega arith) h)
-bodies-derived {script} (script-refused n e) h = let few = script-number script e in absurd (not-passed (omega arith) h)
-bodies-derived {response = response} (response-refused {k = k} n s e) h = let few = response-number k response e in absurd (not-passed (omega arith) h)
+bodies-derived (texts-refused n t) h = let few = refused-number t in absurd (not-passed (omega arith) h)
 bodies-derived (judged {k = k} {bs = bs} p v) h = record { k = k; bs = bs; passing = p; derived = verdict-derived (split v) h }
 
 -- Where not each has one, it is 13.
@@ -73,8 +72,7 @@ thirteen (not-all no-derivation is) e = is
 named : {script response points : List ℕ} {budget : ℕ} {area : List ℕ} {o : Outcome} {a : List ℕ}
     → Checked script response points budget area o a → o .number ≡ 13 → NoDerivation script response points area o
 named {script} {response} {points} {area = area} (missized e) is = let h = missized-one script response points area e in absurd (omega arith)
-named {script} (script-refused n e) is = let h = script-number script e in absurd (omega arith)
-named {response = response} (response-refused {k = k} n s e) is = let h = response-number k response e in absurd (omega arith)
+named (texts-refused n t) is = let h = refused-number t in absurd (omega arith)
 named (judged {k = k} {bs = bs} p (underived {b = b} u)) is =
     record { k = k; bs = bs; b = b; passing = p; first = u; place = refl; none-derived = not-derived u }
 named (judged p (points-refused s e)) is = absurd (omega arith)
@@ -100,11 +98,8 @@ pub shown-derives : {script response points : List ℕ} {budget : ℕ} {area : L
 shown-derives {script} {response} {points} {area = area} (missized e) =
     let h = missized-one script response points area e in
     shows-none (not-showing (omega arith)) refl
-shown-derives {script} {response} {points} {area = area} (script-refused n e) =
-    let h = script-number script e in
-    shows-none (not-showing (omega arith)) (sym (sized-area script response points area n))
-shown-derives {script} {response} {points} {area = area} (response-refused {k = k} n s e) =
-    let h = response-number k response e in
+shown-derives {script} {response} {points} {area = area} (texts-refused n t) =
+    let h = refused-number t in
     shows-none (not-showing (omega arith)) (sym (sized-area script response points area n))
 shown-derives {script} {response} {points} {area = area} (judged p (underived u)) =
     shows-none (not-showing (omega arith)) (sym (sized-area script response points area (p .sized)))

@@ -12,6 +12,7 @@ pub mod Deriving
 pub mod Elsewhere
 pub mod Exact
 pub mod Unique
+pub mod Texts
 pub mod Sums
 pub mod Assumed
 pub mod Runs

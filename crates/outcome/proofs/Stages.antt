@@ -20,7 +20,8 @@ use Rattle.script.specs.Outcome.{ResponseOutcome, ScriptOutcome, given, respons
 use Rattle.script.proofs.Numbers.{Numbered, inResponse, inScript, response-numbered, script-numbered}
 use Rattle.script.specs.code.Answers.{longAnswer}
 use Rattle.outcome.specs.code.Texts.{scriptText, responseText, pointsText, noText}
-use Rattle.outcome.specs.Checked.{Checked, Passing, Judgement, judged, missized, refusal, response-refused, script-refused, sizeAnswer, unshown}
+use Rattle.outcome.specs.Checked.{Checked, Passing, Judgement, TextsRefused, judged, missized, refusal, response-refused, script-refused, sizeAnswer}
+use Rattle.outcome.specs.Checked.{texts-refused, unshown}
 use Rattle.outcome.specs.Demands.{Showing, accepted, budget-ended, constraint-false}
 use Rattle.outcome.specs.Derived.{blankArea}
 use Rattle.outcome.specs.Evaluated.{ranOutcome, runOutcome}
@@ -63,13 +64,26 @@ missized-one script response points area e =
     either false p q = q
 
 -- A script that is refused has a number from 1 to 12.
-pub script-number : (script : List ℕ) {number offset : ℕ} → scriptOutcome script ≡ ScriptOutcome.faulty number offset → (1 ≤ number) × (number ≤ 12)
+script-number : (script : List ℕ) {number offset : ℕ} → scriptOutcome script ≡ ScriptOutcome.faulty number offset → (1 ≤ number) × (number ≤ 12)
 script-number script e = let h = subst (Numbered inScript) e (script-numbered script) in (h .some, h .few)
 
 -- So has a response.
-pub response-number : (k : Known) (response : List ℕ) {number offset : ℕ} → responseOutcome k response ≡ ResponseOutcome.faulty number offset
+response-number : (k : Known) (response : List ℕ) {number offset : ℕ} → responseOutcome k response ≡ ResponseOutcome.faulty number offset
     → (1 ≤ number) × (number ≤ 12)
-response-number k response e = let h = subst (Numbered inResponse) e (response-numbered k response) in (h .some, h .few)
+response-number k response e = let h = subst (Numbered inResponse) e (response-numbered responseLimits k response) in (h .some, h .few)
+
+-- An answer that refuses a text has such a number, and no units.
+pub record OfText (o : Outcome) : Type 0 where
+  pub least : 1 ≤ o .number
+  pub most : o .number ≤ 12
+  pub units : o .units ≡ 0
+
+-- What refuses one of two texts is such.
+pub refused-number : {script response : List ℕ} {o : Outcome} → TextsRefused script response o → OfText o
+refused-number {script} (script-refused e) = let h = script-number script e in record { least = h .0; most = h .1; units = refl }
+refused-number {response = response} (response-refused {k = k} s e) =
+    let h = response-number k response e in
+    record { least = h .0; most = h .1; units = refl }
 
 -- A test that gives no answer has failed, and the next gives none.
 not-answered : (t : Bool) (o : Outcome) {later : Option Outcome} → cond t (some o) later ≡ nothing → (t ≡ false) × (later ≡ nothing)
@@ -116,6 +130,19 @@ of-known : (script response : List ℕ) {k other : Known} {r : ResponseOutcome} 
     → responseOutcome k response ≡ r → responseOutcome other response ≡ r
 of-known script response {r = r} e h x = subst (λ (k : Known). responseOutcome k response ≡ r) (one-known script e h) x
 
+-- Two texts are refused in one way.
+pub one-refused : {script response : List ℕ} {o other : Outcome} → TextsRefused script response o → TextsRefused script response other → o ≡ other
+one-refused (script-refused e) (script-refused h) = cc
+one-refused (script-refused e) (response-refused s h) = not-said (sym e ∙ s)
+one-refused (response-refused s e) (script-refused h) = not-said (sym h ∙ s)
+one-refused {script} {response} (response-refused s e) (response-refused t h) = let x = of-known script response s t e in cc
+
+-- Texts that are refused do not pass.
+pub not-both : {A : Type 0} {script response : List ℕ} {o : Outcome} {k : Known} {bs : List Body} → TextsRefused script response o → scriptOutcome script ≡ said k
+    → responseOutcome k response ≡ given bs → A
+not-both (script-refused e) says gives = not-said (sym e ∙ says)
+not-both {script = script} {response} (response-refused s e) says gives = not-given (sym (of-known script response s says e) ∙ gives)
+
 -- Texts that pass say one thing.
 pub one-passing : {script response points area : List ℕ} {k other : Known} {bs cs : List Body} → Passing script response points area k bs
     → Passing script response points area other cs → (k ≡ other) × (bs ≡ cs)
@@ -129,33 +156,21 @@ module _ {script response points : List ℕ} {budget : ℕ} {area : List ℕ} wh
   pub of-missized : {answer o : Outcome} {a : List ℕ} → sizeAnswer script response points area ≡ some answer
       → Checked script response points budget area o a → o ≡ answer
   of-missized e (missized h) = cc
-  of-missized e (script-refused z h) = never (sym z ∙ e)
-  of-missized e (response-refused z s h) = never (sym z ∙ e)
+  of-missized e (texts-refused z t) = never (sym z ∙ e)
   of-missized e (judged p v) = never (sym (p .sized) ∙ e)
 
-  -- Else, where the script is refused, that is answered.
-  pub of-script : {number offset : ℕ} {o : Outcome} {a : List ℕ} → sizeAnswer script response points area ≡ nothing
-      → scriptOutcome script ≡ ScriptOutcome.faulty number offset → Checked script response points budget area o a → o ≡ refusal number scriptText offset
-  of-script n e (missized h) = never (sym n ∙ h)
-  of-script n e (script-refused z h) = cc
-  of-script n e (response-refused z s h) = not-said (sym e ∙ s)
-  of-script n e (judged p v) = not-said (sym e ∙ p .says)
-
-  -- Else, where the response is refused, that is answered.
-  pub of-response : {k : Known} {number offset : ℕ} {o : Outcome} {a : List ℕ} → sizeAnswer script response points area ≡ nothing
-      → scriptOutcome script ≡ said k → responseOutcome k response ≡ ResponseOutcome.faulty number offset
-      → Checked script response points budget area o a → o ≡ refusal number responseText offset
-  of-response n e r (missized h) = never (sym n ∙ h)
-  of-response n e r (script-refused z h) = not-said (sym h ∙ e)
-  of-response n e r (response-refused z s h) = let x = of-known script response e s r in cc
-  of-response n e r (judged p v) = not-given (sym (of-known script response e (p .says) r) ∙ p .gives)
+  -- Else, where a text is refused, that is answered.
+  pub of-refused : {answer o : Outcome} {a : List ℕ} → sizeAnswer script response points area ≡ nothing → TextsRefused script response answer
+      → Checked script response points budget area o a → o ≡ answer
+  of-refused n t (missized h) = never (sym n ∙ h)
+  of-refused n t (texts-refused z u) = one-refused u t
+  of-refused n t (judged p v) = not-both t (p .says) (p .gives)
 
   -- Where both pass, the verdict on them is.
   pub of-passing : {k : Known} {bs : List Body} {o : Outcome} {a : List ℕ} → Passing script response points area k bs
       → Checked script response points budget area o a → Judgement response k bs points budget o a
   of-passing p (missized h) = never (sym (p .sized) ∙ h)
-  of-passing p (script-refused z h) = not-said (sym h ∙ p .says)
-  of-passing p (response-refused z s h) = not-given (sym (of-known script response s (p .says) h) ∙ p .gives)
+  of-passing p (texts-refused z t) = not-both t (p .says) (p .gives)
   of-passing {o = o} {a} p (judged q v) =
       let same = one-passing q p in
       subst₂ (λ (k : Known) (bs : List Body). Judgement response k bs points budget o a) (same .0) (same .1) v

@@ -17,8 +17,10 @@ use Rattle.script.specs.Script.{Known}
 use Rattle.script.specs.Response.{Body}
 use Rattle.script.specs.Outcome.{ResponseOutcome, ScriptOutcome, given, offsetOf, responseOutcome, said, scriptOutcome}
 use Rattle.script.specs.Rows.{AtWord, ResponseRow, ScriptRow}
+use Rattle.words.specs.Limits.{responseLimits}
 use Rattle.script.proofs.Rows.{FirstWords, ResponseKept, ScriptKept, response-kept, script-kept}
-use Rattle.outcome.specs.Checked.{Checked, Judgement, Passing, evaluated, judged, missized, points-refused, response-refused, script-refused, underived}
+use Rattle.outcome.specs.Checked.{Checked, Judgement, Passing, TextsRefused, evaluated, judged, missized, points-refused, response-refused, script-refused}
+use Rattle.outcome.specs.Checked.{texts-refused, underived}
 use Rattle.outcome.specs.Demands.{AllDone, InOrder, assumedAt}
 use Rattle.outcome.specs.Derived.{FirstUnderived, termsOf}
 use Rattle.outcome.specs.Evaluated.{ranOutcome, ranWith}
@@ -39,14 +41,14 @@ script-row script e = go (subst (ScriptKept script) e (script-kept script))
 -- And of a response.
 response-row : (k : Known) (response : List ℕ) {number place : ℕ} → responseOutcome k response ≡ ResponseOutcome.faulty number place
     → ResponseRow response number place
-response-row k response e = go (subst (ResponseKept response) e (response-kept k response))
+response-row k response e = go (subst (ResponseKept response) e (response-kept responseLimits k response))
   where
     go : {number place : ℕ} → ResponseKept response (ResponseOutcome.faulty number place) → ResponseRow response number place
     go (ResponseKept.refuses row) = row
 
 -- The bodies of a response begin at words of it.
 first-words : (k : Known) (response : List ℕ) {bs : List Body} → responseOutcome k response ≡ given bs → FirstWords response bs
-first-words k response e = go (subst (ResponseKept response) e (response-kept k response))
+first-words k response e = go (subst (ResponseKept response) e (response-kept responseLimits k response))
   where
     go : {bs : List Body} → ResponseKept response (given bs) → FirstWords response bs
     go (ResponseKept.gives first) = first
@@ -98,10 +100,14 @@ module _ {script response points area : List ℕ} {k : Known} where
       let r = ranWith k (termsOf bs) points n budget in
       ran-row budget (r .held) (r .ran) (p .says) order
 
+-- What refuses a text.
+text-row : {script response points area : List ℕ} {o : Outcome} → TextsRefused script response o → AnswerRow script response points area o
+text-row {script} (script-refused e) = of-script (script-row script e)
+text-row {response = response} (response-refused {k = k} s e) = of-response (response-row k response e)
+
 -- "one answer from the table in document 01".
 pub table : {script response points : List ℕ} {budget : ℕ} {area : List ℕ} {o : Outcome} {a : List ℕ}
     → Checked script response points budget area o a → AnswerRow script response points area o
 table {script} {response} {points} {area = area} (missized e) = missized-one script response points area e .row
-table {script} (script-refused n e) = of-script (script-row script e)
-table {response = response} (response-refused {k = k} n s e) = of-response (response-row k response e)
+table (texts-refused n t) = text-row t
 table (judged p v) = verdict-row p v (in-order p (judged p v))

@@ -6,7 +6,7 @@ use mathlib.Core.Path.{_≡_, ap, ap₂, subst, sym, _∙_}
 use Rattle.evaluation.specs.declared.PointList.the-variants.{Good, Bad}
 use Rattle.script.specs.Script.{Known}
 use Rattle.script.specs.Response.{Body}
-use Rattle.outcome.specs.Checked.{Checked, Judgement, evaluated, judged, missized, points-refused, response-refused, script-refused, underived}
+use Rattle.outcome.specs.Checked.{Checked, Judgement, evaluated, judged, missized, points-refused, texts-refused, underived}
 use Rattle.outcome.specs.Demands.{Alike, AreaStated, both-show, shows, shows-none, the-same}
 use Rattle.outcome.specs.Derived.{termsOf}
 use Rattle.outcome.specs.Evaluated.{ranWith, runOutcome}
@@ -17,7 +17,7 @@ use Rattle.outcome.specs.declared.Outcome.{Outcome}
 use Rattle.outcome.proofs.Deriving.{first-only, not-derived, shown-derived}
 use Rattle.outcome.proofs.Elsewhere.{lists-of, same-elsewhere}
 use Rattle.outcome.proofs.Exact.{shown-derives}
-use Rattle.outcome.proofs.Stages.{of-missized, of-passing, of-response, of-script}
+use Rattle.outcome.proofs.Stages.{of-missized, of-passing, of-refused}
 
 -- No list of points is good and bad.
 not-good : {A : Type 0} {place n : ℕ} → Bad place ≡ Good n → A
@@ -42,8 +42,7 @@ one-verdict {k = k} {bs} {points} {budget} (evaluated {n = n} s e) (evaluated {n
 one-answer : {script response points : List ℕ} {budget : ℕ} {area : List ℕ} {o other : Outcome} {a b : List ℕ}
     → Checked script response points budget area o a → Checked script response points budget area other b → o ≡ other
 one-answer (missized e) d = sym (of-missized e d)
-one-answer (script-refused n e) d = sym (of-script n e d)
-one-answer (response-refused n s e) d = sym (of-response n s e d)
+one-answer (texts-refused n t) d = sym (of-refused n t d)
 one-answer (judged p v) d = one-verdict v (of-passing p d)
 
 -- Two areas after it.

@@ -12,13 +12,13 @@ use Rattle.evaluation.specs.declared.Run.{Run}
 use Rattle.names.specs.Scopes.{namedSorts}
 use Rattle.script.specs.Script.{Known}
 use Rattle.script.specs.Response.{Body}
-use Rattle.outcome.specs.Checked.{Checked, Passing, Judgement, evaluated, judged, missized, points-refused, response-refused, script-refused, underived}
+use Rattle.outcome.specs.Checked.{Checked, Passing, Judgement, evaluated, judged, missized, points-refused, texts-refused, underived}
 use Rattle.outcome.specs.Demands.{InOrder, Showing, UnitsStated, costOn, spentBefore}
 use Rattle.outcome.specs.Derived.{termsOf}
 use Rattle.outcome.specs.Evaluated.{ranWith, runOutcome}
 use Rattle.outcome.specs.declared.Outcome.{Outcome}
 use Rattle.outcome.proofs.Runs.{PointsFound, all-passed, not-begun, run-found, some-false}
-use Rattle.outcome.proofs.Stages.{missized-one, of-passing, run-showing}
+use Rattle.outcome.proofs.Stages.{missized-one, of-passing, refused-number, run-showing}
 
 module _ (k : Known) (ts : List Terms) (points : List ℕ) (n budget : ℕ) (good : pointsOf (namedSorts (k .variables)) points ≡ Good n) where
   -- The units of a run.
@@ -107,8 +107,7 @@ units p c = verdict-units (of-passing p c)
 pub no-units : {script response points : List ℕ} {budget : ℕ} {area : List ℕ} {o : Outcome} {a : List ℕ}
     → Checked script response points budget area o a → (Showing (o .number) → ⊥) → o .units ≡ 0
 no-units {script} {response} {points} {area = area} (missized e) h = missized-one script response points area e .units
-no-units (script-refused n e) h = omega arith
-no-units (response-refused n s e) h = omega arith
+no-units (texts-refused n t) h = refused-number t .units
 no-units (judged p (underived u)) h = omega arith
 no-units (judged p (points-refused s e)) h = omega arith
 no-units {points = points} {budget} (judged {k = k} {bs = bs} p (evaluated {n = n} s e)) h =

@@ -22,13 +22,22 @@ use Rattle.outcome.specs.declared.Outcome.{Outcome}
 abbrev pub refusal : (number text place : ℕ) → Outcome
 refusal number text place = record { number = number; text = text; place = place; second = 0; units = 0 }
 
+-- "1 (script, response ..)": a script or a response that is too long, at "its length"; else what comes after them.
+abbrev pub lengthsOr : (script response : List ℕ) → (later : Option Outcome) → Option Outcome
+lengthsOr script response later =
+    cond (ltb (scriptLimits .bytes) (length script)) (some (refusal 1 0 (length script)))
+    (cond (ltb (responseLimits .bytes) (length response)) (some (refusal 1 1 (length response))) later)
+
 -- "1 (script, response, points, area)": "script, response or point list too long, or a lent area not of its size", at "its length".
 unfoldable pub sizeAnswer : (script response points area : List ℕ) → Option Outcome
 sizeAnswer script response points area =
-    cond (ltb (scriptLimits .bytes) (length script)) (some (refusal 1 0 (length script)))
-    (cond (ltb (responseLimits .bytes) (length response)) (some (refusal 1 1 (length response)))
+    lengthsOr script response
     (cond (ltb mostNumbers (length points)) (some (refusal 1 2 (length points)))
-    (cond (eqb (length area) areaSize) nothing (some (refusal 1 3 (length area))))))
+    (cond (eqb (length area) areaSize) nothing (some (refusal 1 3 (length area)))))
+
+-- The same of the two texts alone.
+unfoldable pub lengthAnswer : (script response : List ℕ) → Option Outcome
+lengthAnswer script response = lengthsOr script response nothing
 
 -- "after any other answer each entry is 65,535, except that an area of wrong size is unchanged".
 abbrev pub unshown : (area : List ℕ) → List ℕ
@@ -50,14 +59,24 @@ pub data Judgement (response : List ℕ) (k : Known) (bs : List Body) (points : 
       → pointsOf (namedSorts (k .variables)) points ≡ Good n
       → Judgement response k bs points budget (runOutcome budget (ranWith k (termsOf bs) points n budget)) (shownArea lists)
 
+-- What refuses one of two texts that are not too long: "script words ..; commands ..; response words likewise; 10 and 11 ..; the response's commands likewise".
+pub data TextsRefused (script response : List ℕ) : Outcome → Type 0 where
+  script-refused : {number offset : ℕ} → scriptOutcome script ≡ ScriptOutcome.faulty number offset → TextsRefused script response (refusal number 0 offset)
+  response-refused : {k : Known} {number offset : ℕ} → scriptOutcome script ≡ said k → responseOutcome k response ≡ ResponseOutcome.faulty number offset
+      → TextsRefused script response (refusal number 1 offset)
+
+-- The texts' own answers, without points, a budget or an area: 1 to 12, or 0, which speaks of no text, where both pass.
+pub data TextsTold (script response : List ℕ) : Outcome → Type 0 where
+  too-long : {answer : Outcome} → lengthAnswer script response ≡ some answer → TextsTold script response answer
+  refused : {answer : Outcome} → lengthAnswer script response ≡ nothing → TextsRefused script response answer → TextsTold script response answer
+  both-pass : {k : Known} {bs : List Body} → lengthAnswer script response ≡ nothing → scriptOutcome script ≡ said k → responseOutcome k response ≡ given bs
+      → TextsTold script response (refusal 0 3 0)
+
 -- The answer and the area afterwards. "Order: 1 ..; script words ..; commands ..; response words likewise; 10 and 11 ..; the response's commands likewise ..;
 -- then 13 .."
 pub data Checked (script response points : List ℕ) (budget : ℕ) (area : List ℕ) : Outcome → (areaAfter : List ℕ) → Type 0 where
   missized : {answer : Outcome} → sizeAnswer script response points area ≡ some answer → Checked script response points budget area answer (unshown area)
-  script-refused : {number offset : ℕ} → sizeAnswer script response points area ≡ nothing → scriptOutcome script ≡ ScriptOutcome.faulty number offset
-      → Checked script response points budget area (refusal number 0 offset) blankArea
-  response-refused : {k : Known} {number offset : ℕ} → sizeAnswer script response points area ≡ nothing → scriptOutcome script ≡ said k
-      → responseOutcome k response ≡ ResponseOutcome.faulty number offset
-      → Checked script response points budget area (refusal number 1 offset) blankArea
+  texts-refused : {answer : Outcome} → sizeAnswer script response points area ≡ nothing → TextsRefused script response answer
+      → Checked script response points budget area answer blankArea
   judged : {k : Known} {bs : List Body} {answer : Outcome} {areaAfter : List ℕ} → Passing script response points area k bs
       → Judgement response k bs points budget answer areaAfter → Checked script response points budget area answer areaAfter

@@ -3,6 +3,7 @@ pub mod Derived
 pub mod Evaluated
 pub mod Checked
 pub mod Located
+pub mod Agreed
 pub mod Units
 pub mod Demands
 pub mod Table

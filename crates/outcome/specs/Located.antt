@@ -9,7 +9,7 @@ use Rattle.forest.specs.Lists.{among}
 use Rattle.words.specs.Positions.{columnOf, endOf, lineOf}
 use Rattle.words.specs.Spans.{wordStarts}
 use Rattle.words.specs.Words.{wordAt}
-use Rattle.outcome.specs.Checked.{Checked}
+use Rattle.outcome.specs.Checked.{Checked, TextsTold}
 use Rattle.outcome.specs.declared.Answer.{Answer}
 use Rattle.outcome.specs.declared.Location.{Location}
 use Rattle.outcome.specs.declared.Outcome.{Outcome}
@@ -39,10 +39,19 @@ pub data EndAt (text : List ℕ) (place : ℕ) : (end : ℕ) → Type 0 where
   of-word : among place (wordStarts text) ≡ true → EndAt text place (wordAt text place .end)
   of-text : place ≡ length text → EndAt text place (length text)
 
+-- An answer carries what is to be carried of its place.
+abbrev pub Carrying : (script response : List ℕ) → Answer → Type 0
+Carrying script response answer = answer .location ≡ located script response (answer .outcome)
+
 -- The answer with what it carries, and the area afterwards.
 pub record AnswerGiven (script response points : List ℕ) (budget : ℕ) (area : List ℕ) (answer : Answer) (areaAfter : List ℕ) : Type 0 where
   pub checked : Checked script response points budget area (answer .outcome) areaAfter
-  pub carried : answer .location ≡ located script response (answer .outcome)
+  pub carried : Carrying script response answer
+
+-- The texts' own answer with what it carries.
+pub record TextsAnswerGiven (script response : List ℕ) (answer : Answer) : Type 0 where
+  pub told : TextsTold script response (answer .outcome)
+  pub carried : Carrying script response answer
 
 -- An answer in sixteen numbers: its number, text, place, second number and units; the end, the line and the column that it carries; and eight that are 0.
 abbrev pub answerNumbers : Answer → List ℕ
@@ -55,5 +64,12 @@ answerNumbers answer =
 pub record AnswerForC (script response points : List ℕ) (budget : ℕ) (area : List ℕ) (number : ℕ) (numbers areaAfter : List ℕ) : Type 0 where
   pub answer : Answer
   pub answered : AnswerGiven script response points budget area answer areaAfter
+  pub number-is : number ≡ answer .outcome .number
+  pub numbers-are : numbers ≡ answerNumbers answer
+
+-- The same of the texts' own answer.
+pub record TextsAnswerForC (script response : List ℕ) (number : ℕ) (numbers : List ℕ) : Type 0 where
+  pub answer : Answer
+  pub given : TextsAnswerGiven script response answer
   pub number-is : number ≡ answer .outcome .number
   pub numbers-are : numbers ≡ answerNumbers answer

@@ -9,7 +9,7 @@ use Rattle.words.specs.declared.Limits.{Limits}
 use Rattle.words.specs.declared.Reading.{Reading}
 use Rattle.words.specs.declared.Reading.the-variants.{Whole, Refused}
 use Rattle.script.specs.Script.{Known}
-use Rattle.script.specs.Outcome.{ResponseOutcome, ScriptOutcome, given, responseOutcome, said, scriptOutcome}
+use Rattle.script.specs.Outcome.{ResponseOutcome, ScriptOutcome, given, responseWithin, said, scriptOutcome}
 use Rattle.script.specs.Rows.{ResponseRow, ScriptRow, TextRow, bad-name, bad-word, closed-too-often, ends-early, fail, grammar-fault, header-differs}
 use Rattle.script.specs.Rows.{infeasible, never-closed, not-carried, past-limit, shape-unknown, sort-fault, too-long}
 use Rattle.script.proofs.Rows.{ReadingRow, ResponseKept, ScriptKept, reading-row, response-kept, says, script-kept}
@@ -75,8 +75,8 @@ inResponse (ResponseOutcome.faulty number offset) = number
 inResponse (given bs) = 1
 
 -- a response
-pub response-numbered : (k : Known) (text : List ℕ) → Numbered inResponse (responseOutcome k text)
-response-numbered k text = go (response-kept k text)
+pub response-numbered : (limits : Limits) (k : Known) (text : List ℕ) → Numbered inResponse (responseWithin limits k text)
+response-numbered limits k text = go (response-kept limits k text)
   where
     go : {r : ResponseOutcome} → ResponseKept text r → Numbered inResponse r
     go (ResponseKept.refuses row) = let h = response-row-number row in record { some = h .0; few = h .1 }

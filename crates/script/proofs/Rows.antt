@@ -18,7 +18,7 @@ use Rattle.words.specs.Reading.{closeFault, depthAfter, faultAt, foundFrom, les
 use Rattle.words.specs.Words.{Word, wordAt, wordsOf}
 use Rattle.words.specs.Table.{closes as closing, opens as opening}
 use Rattle.words.specs.Answers.{faultNumber}
-use Rattle.words.specs.Limits.{responseLimits, scriptLimits}
+use Rattle.words.specs.Limits.{scriptLimits}
 use Rattle.words.specs.declared.Limits.{Limits}
 use Rattle.words.specs.declared.Reading.{Reading}
 use Rattle.words.specs.declared.Reading.the-variants.{Whole, Refused}
@@ -37,7 +37,7 @@ use Rattle.script.specs.Script.{Known, Read, andThen, grammarPlace, judg
 use Rattle.script.specs.Script.{nothingKnown, tested}
 use Rattle.script.specs.Response.{Answered, Body, answered, bodies, nothingBehind, inScriptOrder, isAlone, judgedAll, judgedBody, judgedExtra}
 use Rattle.script.specs.Response.{refused as declined, responseView, withBody}
-use Rattle.script.specs.Outcome.{ResponseOutcome, ScriptOutcome, byAnswers, byCommands, byResponse, byWords, given, offsetOf, responseOutcome, said}
+use Rattle.script.specs.Outcome.{ResponseOutcome, ScriptOutcome, byAnswers, byCommands, byResponse, byWords, given, offsetOf, responseWithin, said}
 use Rattle.script.specs.Outcome.{scriptOutcome, startOf}
 use Rattle.script.specs.Rows.{AtWord, ResponseRow, ScriptRow, TextRow, bad-name, bad-word, closed-too-often, ends-early, fail, grammar-fault}
 use Rattle.script.specs.Rows.{header-differs, infeasible, never-closed, not-carried, past-limit, shape-unknown, sort-fault, too-long}
@@ -314,16 +314,16 @@ pub data ResponseKept (text : List ℕ) : ResponseOutcome → Type 0 where
   gives : {bs : List Body} → FirstWords text bs → ResponseKept text (given bs)
 
 -- every response
-pub response-kept : (k : Known) (text : List ℕ) → ResponseKept text (responseOutcome k text)
-unfolding responseOutcome
-response-kept k text = go (readingOf responseLimits text) refl (reading-row responseLimits text)
+pub response-kept : (limits : Limits) (k : Known) (text : List ℕ) → ResponseKept text (responseWithin limits k text)
+unfolding responseWithin
+response-kept limits k text = go (readingOf limits text) refl (reading-row limits text)
   where
     by : (r : Answered) → AnsweredRow text r → ResponseKept text (byAnswers text r)
     by (declined number place) (declines row) = refuses row
     by (bodies bs) (gives first) = gives first
 
-    go : (r : Reading) → readingOf responseLimits text ≡ r → ReadingRow text r → ResponseKept text (byResponse k text r)
+    go : (r : Reading) → readingOf limits text ≡ r → ReadingRow text r → ResponseKept text (byResponse k text r)
     go (Whole n) e whole =
-        by _ (answered-row text n (whole-count responseLimits text n e) allowed (k .defined) (inScriptOrder (k .functions)) (itemsOf text)
-        (stands-below n (text-stands responseLimits text n e) (omega arith)))
+        by _ (answered-row text n (whole-count limits text n e) allowed (k .defined) (inScriptOrder (k .functions)) (itemsOf text)
+        (stands-below n (text-stands limits text n e) (omega arith)))
     go (Refused fault place n) e (refuses row) = refuses (ResponseRow.of-text row)

@@ -8,6 +8,7 @@ use Rattle.words.specs.Reading.{readingOf}
 use Rattle.words.specs.Words.{Word, wordsOf}
 use Rattle.words.specs.Answers.{faultNumber}
 use Rattle.words.specs.Limits.{responseLimits, scriptLimits}
+use Rattle.words.specs.declared.Limits.{Limits}
 use Rattle.words.specs.declared.Reading.{Reading}
 use Rattle.words.specs.declared.Reading.the-variants.{Whole, Refused}
 use Rattle.lexemes.specs.Lists.{itemsOf}
@@ -59,6 +60,10 @@ abbrev pub byResponse : Known → (text : List ℕ) → Reading → ResponseOutc
 byResponse k text (Refused fault place n) = faulty (faultNumber fault) place
 byResponse k text (Whole n) = byAnswers text (answered allowed n (k .defined) (inScriptOrder (k .functions)) (itemsOf text))
 
--- The response to a script that says this: its words "likewise", then its commands.
-unfoldable pub responseOutcome : Known → (text : List ℕ) → ResponseOutcome
-responseOutcome k text = byResponse k text (readingOf responseLimits text)
+-- The response to a script that says this, read within these limits: its words "likewise", then its commands.
+unfoldable pub responseWithin : Limits → Known → (text : List ℕ) → ResponseOutcome
+responseWithin limits k text = byResponse k text (readingOf limits text)
+
+-- The same within the limits of a response: "response 8,192 and 2,048".
+abbrev pub responseOutcome : Known → (text : List ℕ) → ResponseOutcome
+responseOutcome k text = responseWithin responseLimits k text

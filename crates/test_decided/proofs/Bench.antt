@@ -45,7 +45,7 @@ use Rattle.derivation.proofs.Bench.{hole, only, ring, ring-only, ring-shown, ri
 use Rattle.derivation.proofs.Likeness.{any-not-hole, any-not-label}
 use Rattle.derivation.proofs.Same.{same-numbers}
 use Rattle.derivation.proofs.Simple.{empty}
-use Rattle.script.specs.Outcome.{responseOutcome, scriptOutcome}
+use Rattle.script.specs.Outcome.{responseWithin, scriptOutcome}
 use Rattle.script.specs.Response.{answered, inScriptOrder, judgedAll, judgedBody, judgedExtra}
 use Rattle.script.specs.Script.{Known, grammarPlace, judged, knownAfter, limitPlace, namePlace, readAll, sortingPlace, termsIn, tested}
 use Rattle.words.specs.Reading.{depthAfter, faultAt, foundFrom, readingOf}
@@ -177,7 +177,7 @@ ringFunction = overX (record { name = spelling "A"; sort = 32 } ∷ record { nam
 
 -- The swap case.
 swap-settled : Shown (spelling swapScript) (spelling swapResponse) (7 ∷ 15 ∷ 3 ∷ 8 ∷ [])
-unfolding after all allIn allNumerals answered anyUncarried argumentTokens bytesAt calledSort commandShape constantsPast count depthAfter differing faultAt formSorts formed formsOf foundFrom grammarPlace hashed inOrder inScriptOrder inside isKnown isNamed isOneOf isReserved item itemSort itemsOf join judged judgedAll judgedBody judgedExtra kindOf knownAfter labelSort leastIn levelsAt levelsBefore limitPlace listingMisfit literalKind namePlace named namedBy newPairs nodeWord nodesOf nodesPast notCarried numeralKind operatorAt operatorOf operatorSort operators placeIn rawTerms readAll readingOf reservedWords responseOutcome ruleMisfit rulePast rulesIn rulesOf runEnd sameBytes sameSorts scriptOutcome sides sortBy sortOver sortingPlace spelled startsFrom symbolKind symbolMeans termFault termShapes termsIn tested treesFrom unknownIn withSort wordAt wordEnd wordStarts wordsIn wordsOf
+unfolding after all allIn allNumerals answered anyUncarried argumentTokens bytesAt calledSort commandShape constantsPast count depthAfter differing faultAt formSorts formed formsOf foundFrom grammarPlace hashed inOrder inScriptOrder inside isKnown isNamed isOneOf isReserved item itemSort itemsOf join judged judgedAll judgedBody judgedExtra kindOf knownAfter labelSort leastIn levelsAt levelsBefore limitPlace listingMisfit literalKind namePlace named namedBy newPairs nodeWord nodesOf nodesPast notCarried numeralKind operatorAt operatorOf operatorSort operators placeIn rawTerms readAll readingOf reservedWords responseWithin ruleMisfit rulePast rulesIn rulesOf runEnd sameBytes sameSorts scriptOutcome sides sortBy sortOver sortingPlace spelled startsFrom symbolKind symbolMeans termFault termShapes termsIn tested treesFrom unknownIn withSort wordAt wordEnd wordStarts wordsIn wordsOf
 swap-settled =
     record {
       k = saying [] swapFunction;
@@ -192,7 +192,7 @@ swap-settled =
 
 -- The ring.
 ring-settled : Shown (spelling ringScript) (spelling ringResponse) (0 ∷ 2 ∷ [])
-unfolding after all allIn allNumerals answered anyUncarried argumentTokens bytesAt calledSort commandShape constantsPast count depthAfter differing faultAt formSorts formed formsOf foundFrom grammarPlace hashed inOrder inScriptOrder inside isKnown isNamed isOneOf isReserved item itemSort itemsOf join judged judgedAll judgedBody judgedExtra kindOf knownAfter labelSort leastIn levelsAt levelsBefore limitPlace listingMisfit literalKind namePlace named namedBy newPairs nodeWord nodesOf nodesPast notCarried numeralKind operatorAt operatorOf operatorSort operators placeIn rawTerms readAll readingOf reservedWords responseOutcome ruleMisfit rulePast rulesIn rulesOf runEnd sameBytes sameSorts scriptOutcome sides sortBy sortOver sortingPlace spelled startsFrom symbolKind symbolMeans termFault termShapes termsIn tested treesFrom unknownIn withSort wordAt wordEnd wordStarts wordsIn wordsOf
+unfolding after all allIn allNumerals answered anyUncarried argumentTokens bytesAt calledSort commandShape constantsPast count depthAfter differing faultAt formSorts formed formsOf foundFrom grammarPlace hashed inOrder inScriptOrder inside isKnown isNamed isOneOf isReserved item itemSort itemsOf join judged judgedAll judgedBody judgedExtra kindOf knownAfter labelSort leastIn levelsAt levelsBefore limitPlace listingMisfit literalKind namePlace named namedBy newPairs nodeWord nodesOf nodesPast notCarried numeralKind operatorAt operatorOf operatorSort operators placeIn rawTerms readAll readingOf reservedWords responseWithin ruleMisfit rulePast rulesIn rulesOf runEnd sameBytes sameSorts scriptOutcome sides sortBy sortOver sortingPlace spelled startsFrom symbolKind symbolMeans termFault termShapes termsIn tested treesFrom unknownIn withSort wordAt wordEnd wordStarts wordsIn wordsOf
 ring-settled =
     record {
       k = saying [] ringFunction;
@@ -223,7 +223,7 @@ always =
 
 -- The costs.
 costs-settled : Costing (spelling costScript) (3 ∷ 9 ∷ 21 ∷ [])
-unfolding after all allIn allNumerals answered anyUncarried argumentTokens bytesAt calledSort commandShape constantsPast count depthAfter differing faultAt formSorts formed formsOf foundFrom grammarPlace hashed inOrder inScriptOrder inside isKnown isNamed isOneOf isReserved item itemSort itemsOf join judged judgedAll judgedBody judgedExtra kindOf knownAfter labelSort leastIn levelsAt levelsBefore limitPlace listingMisfit literalKind namePlace named namedBy newPairs nodeWord nodesOf nodesPast notCarried numeralKind operatorAt operatorOf operatorSort operators placeIn rawTerms readAll readingOf reservedWords responseOutcome ruleMisfit rulePast rulesIn rulesOf runEnd sameBytes sameSorts scriptOutcome sides sortBy sortOver sortingPlace spelled startsFrom symbolKind symbolMeans termFault termShapes termsIn tested treesFrom unknownIn withSort wordAt wordEnd wordStarts wordsIn wordsOf summedCosts definedCost
+unfolding after all allIn allNumerals answered anyUncarried argumentTokens bytesAt calledSort commandShape constantsPast count depthAfter differing faultAt formSorts formed formsOf foundFrom grammarPlace hashed inOrder inScriptOrder inside isKnown isNamed isOneOf isReserved item itemSort itemsOf join judged judgedAll judgedBody judgedExtra kindOf knownAfter labelSort leastIn levelsAt levelsBefore limitPlace listingMisfit literalKind namePlace named namedBy newPairs nodeWord nodesOf nodesPast notCarried numeralKind operatorAt operatorOf operatorSort operators placeIn rawTerms readAll readingOf reservedWords responseWithin ruleMisfit rulePast rulesIn rulesOf runEnd sameBytes sameSorts scriptOutcome sides sortBy sortOver sortingPlace spelled startsFrom symbolKind symbolMeans termFault termShapes termsIn tested treesFrom unknownIn withSort wordAt wordEnd wordStarts wordsIn wordsOf summedCosts definedCost
 costs-settled = record { k = saying (called "d2" d2 ∷ called "d1" d1 ∷ called "d0" d0 ∷ []) always; says = refl; costs-are = refl }
 
 -- A value that is computed.

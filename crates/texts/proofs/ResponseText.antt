@@ -20,7 +20,7 @@ use Rattle.script.specs.declared.Progress.{Progress}
 use Rattle.script.specs.declared.Verdict.{Verdict}
 use Rattle.script.specs.Response.{Answered, answered, bodies, inScriptOrder, refused}
 use Rattle.response.specs.code.Answers.{Answers, Responded, Responding}
-use Rattle.script.specs.Outcome.{byAnswers, offsetOf, responseOutcome}
+use Rattle.script.specs.Outcome.{byAnswers, offsetOf, responseWithin}
 use Rattle.script.specs.code.Answers.{failAnswer, infeasibleAnswer}
 use Rattle.texts.specs.code.Responses.{Ready, ResponseRead, ResponseTold}
 use Rattle.texts.specs.code.Lexed.{Worded}
@@ -31,7 +31,7 @@ use Rattle.texts.proofs.TextLexemes.{only-lexemes, placed-alone}
 pub words-refused : {text names raw places nodes placesAfter nodesAfter : List ℕ} {p : Progress} (q : Ready names raw places nodes p)
     (r : Reading) {v : Verdict} → r ≡ readingOf responseLimits text → (numberOf r ≡ 0 → ⊥) → v .number ≡ numberOf r → v .place ≡ placeOf r
     → ResponseRead q text placesAfter nodesAfter v
-unfolding responseOutcome
+unfolding responseWithin
 words-refused q (Whole n) e some number place = absurd (some refl)
 words-refused q (Refused fault at n) e some number place = record { told = rw (← e) (number, place) }
 
@@ -57,7 +57,7 @@ module _ {text lexemes names raw places nodes : List ℕ} {p : Progress} {n : �
   pub commands-told : {placesAfter nodesAfter : List ℕ} {v : Verdict} {offset : ℕ} → Responded responding placesAfter nodesAfter v
       → offset ≡ cond (eqb (v .number) failAnswer || eqb (v .number) infeasibleAnswer) 0 (offsetOf text (v .place))
       → ResponseRead ready text placesAfter nodesAfter (record { number = v .number; place = offset; rows = v .rows })
-  unfolding responseOutcome
+  unfolding responseWithin
   commands-told {placesAfter} {nodesAfter} {v} {offset} done at =
       record { told = rw (w .whole) (go (answered allowed n (ready .known .defined) (inScriptOrder (ready .known .functions)) (itemsOf text)) (done .answers)) }
     where

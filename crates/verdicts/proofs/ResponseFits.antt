@@ -9,7 +9,7 @@ use borrow.Author.Tests.{ltb-false}
 use Rattle.forest.specs.Forest.{none, tree}
 use Rattle.words.specs.Reading.{readingOf}
 use Rattle.words.specs.Trees.{wordOf}
-use Rattle.words.specs.Limits.{responseLimits}
+use Rattle.words.specs.declared.Limits.{Limits}
 use Rattle.words.specs.declared.Reading.{Reading}
 use Rattle.words.specs.declared.Reading.the-variants.{Whole, Refused}
 use Rattle.lexemes.specs.Lists.{Items, closeOf, inside, is, isList, item, itemsOf}
@@ -29,7 +29,7 @@ use Rattle.outcome.proofs.BodiesPromised.{body-sorted}
 use Rattle.script.specs.Response.{Answered, Body, answered, bodies, nothingBehind, inScriptOrder, isAlone, judgedAll, judgedBody, judgedExtra, refused}
 use Rattle.script.specs.Response.{responseView, withBody}
 use Rattle.response.specs.code.Functions.{bodyOf}
-use Rattle.script.specs.Outcome.{ResponseOutcome, byAnswers, byResponse, given, responseOutcome}
+use Rattle.script.specs.Outcome.{ResponseOutcome, byAnswers, byResponse, given, responseWithin}
 use Rattle.script.specs.code.Answers.{failAnswer, headerAnswer, infeasibleAnswer, shapeAnswer}
 use Rattle.outcome.specs.code.Assured.{BodiesFit}
 use Rattle.outcome.proofs.Nodes.{few-nodes}
@@ -135,15 +135,15 @@ by-answers text (refused number place) e = not-given e
 by-answers text (bodies bs) e = cc
 
 -- The bodies of a response that passes fit the functions of the script.
-pub response-fits : (k : Known) (text : List ℕ) {bs : List Body} → responseOutcome k text ≡ given bs
+pub response-fits : (limits : Limits) (k : Known) (text : List ℕ) {bs : List Body} → responseWithin limits k text ≡ given bs
     → BodiesFit (k .defined) (inScriptOrder (k .functions)) bs
-unfolding responseOutcome
-response-fits k text {bs} e = go (readingOf responseLimits text) refl e
+unfolding responseWithin
+response-fits limits k text {bs} e = go (readingOf limits text) refl e
   where
-    go : (reading : Reading) → readingOf responseLimits text ≡ reading → byResponse k text reading ≡ given bs
+    go : (reading : Reading) → readingOf limits text ≡ reading → byResponse k text reading ≡ given bs
         → BodiesFit (k .defined) (inScriptOrder (k .functions)) bs
     go (Refused fault place n) whole h = not-given h
     go (Whole n) whole h =
-        let stands = text-stands responseLimits text n whole in
+        let stands = text-stands limits text n whole in
         let read = by-answers text (answered allowed n (k .defined) (inScriptOrder (k .functions)) (itemsOf text)) h in
         answered-fit n (k .defined) (inScriptOrder (k .functions)) (itemsOf text) bs (stands-below n stands (omega arith)) read

@@ -1,8 +1,8 @@
 //! Asks both checkers and holds their answers and areas against each other.
 
-use crate::enquiries;
 use crate::kinds::{kinds, KINDS};
 use crate::trial::Trial;
+use crate::{enquiries, texts};
 use simple::{replay, AREA_LENGTH};
 use std::{fmt, io};
 use sverdhyll::{Answer, Library};
@@ -20,7 +20,7 @@ pub struct Agreed {
 pub struct Disagreement {
     pub proved: Answer,
     pub simple: Answer,
-    /// What is wrong: with the area or an enquiry where the answers are the same.
+    /// What is wrong: with the area, an enquiry or the texts' own answer where the answers are the same.
     pub fault: String,
 }
 
@@ -57,7 +57,12 @@ fn simple_answer(trial: &Trial) -> (Answer, Vec<u16>) {
         case.budget,
         &mut area,
     );
-    let answer = Answer {
+    (given(answer), area)
+}
+
+/// An answer of the simple checker as the library gives it.
+pub fn given(answer: simple::Answer) -> Answer {
+    Answer {
         number: answer.number,
         text: answer.text,
         place: answer.place,
@@ -66,8 +71,7 @@ fn simple_answer(trial: &Trial) -> (Answer, Vec<u16>) {
         end: answer.end,
         line: answer.line,
         column: answer.column,
-    };
-    (answer, area)
+    }
 }
 
 /// What both say of a case, or where they part.
@@ -84,10 +88,11 @@ pub fn judged(library: &mut Library, trial: &Trial) -> io::Result<Result<Agreed,
     let (simple, simple_area) = simple_answer(trial);
     let fault = match proved == simple {
         false => Some("the answers differ".to_string()),
-        true => match area_fault(trial, &proved, &area) {
-            Some(fault) => Some(fault),
-            None => enquiries::fault(library, trial, &proved)?,
-        },
+        true => area_fault(trial, &proved, &area),
+    };
+    let fault = match fault {
+        Some(fault) => Some(fault),
+        None => other_fault(library, trial, &proved)?,
     };
     Ok(match fault {
         None => Ok(Agreed {
@@ -101,6 +106,18 @@ pub fn judged(library: &mut Library, trial: &Trial) -> io::Result<Result<Agreed,
             fault,
         }),
     })
+}
+
+/// What is wrong with the proved checker's other calls, if anything.
+fn other_fault(
+    library: &mut Library,
+    trial: &Trial,
+    answer: &Answer,
+) -> io::Result<Option<String>> {
+    match texts::fault(library, trial, answer)? {
+        Some(fault) => Ok(Some(fault)),
+        None => enquiries::fault(library, trial, answer),
+    }
 }
 
 /// What is wrong with the proved checker's area: "after any other answer each entry is 65,535, except that an area of

@@ -8,6 +8,7 @@ mod kinds;
 mod record;
 mod shrink;
 mod tally;
+mod texts;
 mod trial;
 
 use judge::{judged, Disagreement};

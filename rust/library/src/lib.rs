@@ -1,8 +1,8 @@
 //! The proved checker between a synthesis solver and the controller that its answer goes into, for Rust.
 //!
 //! [`Library::check`] takes a SyGuS script, the response that a solver printed, points and a budget, and gives one [`Answer`]; [`Answer::outcome`] says what it
-//! means as an enum, whose documentation is the table of answers. [`Library::word`] and [`Library::position`] say of any place of a text which word starts there,
-//! and in which line and column it stands.
+//! means as an enum, whose documentation is the table of answers. [`Library::read`] gives the answer of the two texts alone, where there are no points yet.
+//! [`Library::word`] and [`Library::position`] say of any place of a text which word starts there, and in which line and column it stands.
 //!
 //! ```no_run
 //! use sverdhyll::{Library, Outcome, AREA_LENGTH};
@@ -26,7 +26,7 @@
 //! sverdhyll = { path = "SVERDHYLL/rust/library" }
 //! ```
 //!
-//! The static library is x86-64 code. There it is linked and called, on the caller's stack, of which a call takes up to 1.5 MiB: a thread of 2 MiB, Rust's
+//! The static library is x86-64 code. There it is linked and called, on the caller's stack, of which a call takes up to 1.3 MiB: a thread of 2 MiB, Rust's
 //! default, suffices. On another machine one worker process for each [`Library`] holds it under an emulator, and this crate speaks with that process over
 //! pipes. The worker ends with the process that started it, however that ends.
 
@@ -154,6 +154,14 @@ impl Library {
         shown: &mut [u16],
     ) -> io::Result<Answer> {
         self.held.check(script, response, points, budget, shown)
+    }
+
+    /// The texts' own answer, for a script and a response alone. Fails only where the worker has gone.
+    ///
+    /// Where a text is refused, by 1 to 12, it is the answer of [`Library::check`]. Else its number is 0 and its text 3, which says that both texts pass and
+    /// no more: no derivation is searched and nothing is evaluated, so that [`Answer::outcome`], which speaks of checks, would say too much.
+    pub fn read(&mut self, script: &[u8], response: &[u8]) -> io::Result<Answer> {
+        self.held.read(script, response)
     }
 
     /// The length of the word that starts at an offset of a text, 0 if none does. Fails only where the worker has gone.

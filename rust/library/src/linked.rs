@@ -20,6 +20,14 @@ extern "C" {
         shown_len: usize,
         answer: *mut u64,
     ) -> u8;
+    /// The texts' own answer: returns its number, and puts the numbers of the answer where the last pointer leads.
+    fn sverdhyll_read(
+        script: *const u8,
+        script_len: usize,
+        response: *const u8,
+        response_len: usize,
+        answer: *mut u64,
+    ) -> u8;
     /// The enquiry for a word.
     fn sverdhyll_word(text: *const u8, text_len: usize, at: usize) -> usize;
     /// The enquiry for a place: puts its line and its column where the last two pointers lead.
@@ -63,6 +71,22 @@ impl Held {
                 budget,
                 shown.as_mut_ptr(),
                 shown.len(),
+                numbers.as_mut_ptr(),
+            )
+        };
+        Ok(Answer::of(numbers))
+    }
+
+    /// Calls `sverdhyll_read`.
+    pub fn read(&mut self, script: &[u8], response: &[u8]) -> io::Result<Answer> {
+        let mut numbers = [0; NUMBERS];
+        // SAFETY: each pointer is that of a slice with its length, which is only read, or of the sixteen numbers, and the library keeps none of them.
+        unsafe {
+            sverdhyll_read(
+                script.as_ptr(),
+                script.len(),
+                response.as_ptr(),
+                response.len(),
                 numbers.as_mut_ptr(),
             )
         };

@@ -19,6 +19,8 @@ const DIGITS: usize = 64;
 const MOST_SAID: u64 = 4_096;
 /// The frame that begins a check.
 const CHECK: &[u8] = b"check";
+/// The frame that asks for the texts' own answer.
+const READ: &[u8] = b"read";
 /// The frame that begins an enquiry for a word.
 const WORD: &[u8] = b"word";
 /// The frame that begins an enquiry for a place.
@@ -105,6 +107,12 @@ impl Held {
             *entry = u16::from_le_bytes([bytes[0], bytes[1]]);
         }
         Ok(Answer::of(numbers))
+    }
+
+    /// Asks the worker for `sverdhyll_read`.
+    pub fn read(&mut self, script: &[u8], response: &[u8]) -> io::Result<Answer> {
+        self.send(&[READ, script, response])?;
+        Ok(Answer::of(self.receive_numbers()?))
     }
 
     /// Asks the worker for `sverdhyll_word`.

@@ -1,4 +1,4 @@
-//! The library through its Rust interface: the swap case, refusals, places, the enquiries, its digest, and many checks by one process.
+//! The library through its Rust interface: the swap case, refusals, the texts' own answers, places, the enquiries, its digest, and many checks by one process.
 
 use sverdhyll::{Answer, Library, Position, AREA_LENGTH, UNUSED};
 
@@ -6,6 +6,8 @@ use sverdhyll::{Answer, Library, Position, AREA_LENGTH, UNUSED};
 const SCRIPT: &[u8] = include_bytes!("../../../examples/swap.sy");
 /// The response of the shipped example.
 const RESPONSE: &[u8] = include_bytes!("../../../examples/swap.response");
+/// One byte more than a script may have.
+const TOO_LONG: usize = 32_769;
 
 /// An answer without units and without a position.
 fn answer(number: u8, text: u8, place: u64, second: u64) -> Answer {
@@ -24,6 +26,11 @@ fn checked(library: &mut Library, script: &[u8], budget: u64) -> (Answer, [u16; 
     let answer = library.check(script, RESPONSE, &[], budget, &mut area);
     let first = [area[0], area[1], area[2], area[3], area[4]];
     (answer.expect("an answer"), first)
+}
+
+/// The own answer of two texts.
+fn read(library: &mut Library, script: &[u8], response: &[u8]) -> Answer {
+    library.read(script, response).expect("an answer")
 }
 
 #[test]
@@ -45,15 +52,63 @@ fn swap_case() {
 #[test]
 fn sizes() {
     let mut library = Library::open().expect("a library");
-    let long = vec![b' '; 32_769];
+    let long = vec![b' '; TOO_LONG];
     let (refused, shown) = checked(&mut library, &long, 0);
-    assert_eq!((refused, shown), (answer(1, 0, 32_769, 0), [UNUSED; 5]));
+    let expected = answer(1, 0, TOO_LONG as u64, 0);
+    assert_eq!((refused, shown), (expected, [UNUSED; 5]));
     let mut area = [7; 3];
     let refused = library.check(b"", b"", &[1, 2], u64::MAX, &mut area);
     assert_eq!(refused.expect("an answer"), answer(1, 3, 3, 0));
     assert_eq!(area, [7; 3]);
     let refused = library.check(SCRIPT, RESPONSE, &[1, 2], 0, &mut vec![0; AREA_LENGTH]);
     assert_eq!(refused.expect("an answer"), answer(16, 2, 2, 0));
+}
+
+#[test]
+fn texts_alone() {
+    let mut library = Library::open().expect("a library");
+    let (long, length) = (vec![b' '; TOO_LONG], TOO_LONG as u64);
+    let bad_word = Answer {
+        end: 3,
+        line: 2,
+        column: 1,
+        ..answer(2, 1, 1, 0)
+    };
+    for (script, response, expected) in [
+        (SCRIPT, RESPONSE, answer(0, 3, 0, 0)),
+        (SCRIPT, b"fail", answer(10, 1, 0, 0)),
+        (SCRIPT, b"\n00", bad_word),
+        (
+            b"\n00",
+            b"",
+            Answer {
+                text: 0,
+                ..bad_word
+            },
+        ),
+        (b"", &long, answer(1, 1, length, 0)),
+        (&long, &long, answer(1, 0, length, 0)),
+    ] {
+        assert_eq!(read(&mut library, script, response), expected);
+    }
+}
+
+#[test]
+fn texts_alone_and_checked() {
+    let mut library = Library::open().expect("a library");
+    for end in 0..=SCRIPT.len() {
+        let own = read(&mut library, &SCRIPT[..end], RESPONSE);
+        let (whole, _) = checked(&mut library, &SCRIPT[..end], 24);
+        let expected = match own.number {
+            0 => Answer {
+                second: 1,
+                units: 24,
+                ..own
+            },
+            _ => own,
+        };
+        assert_eq!(whole, expected, "of {end} bytes");
+    }
 }
 
 #[test]

@@ -1,8 +1,8 @@
 //! A simple reference checker, written straight from document 01 and the requests that change it. Each function names the sentence that it follows.
 //!
-//! `check` is the whole of it. Its parts are there for other programs that read the same texts: the words of a text (`words`), their ends with lines and columns
-//! (`places`), trees of words (`tree`), sorts (`operators`), the forms of commands, terms and constants (`commands`, `terms`, `constants`), what a script and a response
-//! say (`script`, `response`, `grammar`), and values and costs of terms (`eval`).
+//! `check` is the whole of it, and `read` what the two texts answer by themselves. Its parts are there for other programs that read the same texts: the words of
+//! a text (`words`), their ends with lines and columns (`places`), trees of words (`tree`), sorts (`operators`), the forms of commands, terms and constants
+//! (`commands`, `terms`, `constants`), what a script and a response say (`script`, `response`, `grammar`), and values and costs of terms (`eval`).
 
 pub mod commands;
 pub mod constants;
@@ -103,6 +103,18 @@ pub fn check(
     }
 }
 
+/// "the texts' own answers, 1 to 12, else 0": what a script and a response are refused for, and 0 about no text where neither is.
+pub fn read(script: &[u8], response: &[u8]) -> Answer {
+    let told = texts_fit(script, response).and_then(|()| texts_said(script, response));
+    match told {
+        Ok(_) => Answer {
+            text: NONE,
+            ..Answer::default()
+        },
+        Err(refusal) => located(refusal, script, response),
+    }
+}
+
 /// "Answers 2 to 9, 12 and 13 carry the new numbers; ... the other answers carry 0."
 fn located(answer: Answer, script: &[u8], response: &[u8]) -> Answer {
     let text = match (answer.number, answer.text) {
@@ -119,8 +131,7 @@ fn located(answer: Answer, script: &[u8], response: &[u8]) -> Answer {
     }
 }
 
-/// "Order: 1 ...; script words ...; commands ...; response words likewise; 10 and 11 ...; the response's commands
-/// likewise ...; then 13 (first such function), 16 (length first), and evaluation."
+/// "Order: 1 (script, response, points, area); ..., then 13 (first such function), 16 (length first), and evaluation."
 fn checked(
     script: &[u8],
     response: &[u8],
@@ -128,9 +139,9 @@ fn checked(
     budget: u64,
     area: &mut [u16],
 ) -> Result<Answer, Answer> {
-    lengths_fit(script, response, points, area)?;
-    let script = script::read(script).map_err(|fault| fault.in_text(SCRIPT))?;
-    let bodies = response::read(response, &script).map_err(|fault| fault.in_text(RESPONSE))?;
+    texts_fit(script, response)?;
+    lent_fit(points, area)?;
+    let (script, bodies) = texts_said(script, response)?;
     let derivations = derivations(&script, &bodies)?;
     if let Some(place) = eval::points_fault(points, &script.variables) {
         return Err(Fault::new(16, place).in_text(POINTS));
@@ -142,22 +153,33 @@ fn checked(
     Ok(last_answer(outcome, units))
 }
 
-/// "1 (script, response, points, area)": "its length".
-fn lengths_fit(script: &[u8], response: &[u8], points: &[u64], area: &[u16]) -> Result<(), Answer> {
-    let rows = [
-        (SCRIPT, script.len(), script.len() <= MOST_SCRIPT_BYTES),
-        (
-            RESPONSE,
-            response.len(),
-            response.len() <= MOST_RESPONSE_BYTES,
-        ),
-        (POINTS, points.len(), points.len() <= MOST_POINT_NUMBERS),
-        (NONE, area.len(), area.len() == AREA_LENGTH),
-    ];
-    match rows.into_iter().find(|(_, _, fits)| !fits) {
-        Some((text, length, _)) => Err(Fault::new(1, length).in_text(text)),
-        None => Ok(()),
+/// "1 (script, response, ...)".
+fn texts_fit(script: &[u8], response: &[u8]) -> Result<(), Answer> {
+    let (script, response) = (script.len(), response.len());
+    fits(SCRIPT, script, script <= MOST_SCRIPT_BYTES)?;
+    fits(RESPONSE, response, response <= MOST_RESPONSE_BYTES)
+}
+
+/// "1 (..., points, area)".
+fn lent_fit(points: &[u64], area: &[u16]) -> Result<(), Answer> {
+    fits(POINTS, points.len(), points.len() <= MOST_POINT_NUMBERS)?;
+    fits(NONE, area.len(), area.len() == AREA_LENGTH)
+}
+
+/// 1 for what does not fit: "its length".
+fn fits(text: u8, length: usize, fits: bool) -> Result<(), Answer> {
+    match fits {
+        true => Ok(()),
+        false => Err(Fault::new(1, length).in_text(text)),
     }
+}
+
+/// "script words ...; commands ...; response words likewise; 10 and 11 ...; the response's commands likewise": what the script says, and the bodies that the
+/// response gives.
+fn texts_said(script: &[u8], response: &[u8]) -> Result<(script::Script, Vec<tree::Tree>), Answer> {
+    let script = script::read(script).map_err(|fault| fault.in_text(SCRIPT))?;
+    let bodies = response::read(response, &script).map_err(|fault| fault.in_text(RESPONSE))?;
+    Ok((script, bodies))
 }
 
 /// The derivation of each body, or 13 for the first function without one: "body's first word; function".

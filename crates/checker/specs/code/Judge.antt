@@ -14,13 +14,13 @@ use Rattle.script.specs.Response.{Body, inScriptOrder}
 use Rattle.script.specs.Outcome.{given, offsetOf, responseOutcome, said, scriptOutcome}
 use Rattle.script.specs.code.Answers.{underivedAnswer, pointsAnswer}
 use Rattle.verdicts.specs.code.Held.{Held}
-use Rattle.outcome.specs.Checked.{Checked, sizeAnswer, unshown}
+use Rattle.outcome.specs.Checked.{TextsRefused, sizeAnswer, unshown}
 use Rattle.outcome.specs.Derived.{FirstUnderived, blankArea}
 use Rattle.outcome.specs.declared.Outcome.{Outcome}
 use Rattle.verdicts.specs.code.Derive.{AllShown, Derivable}
 use Rattle.verdicts.specs.code.Evaluate.{Evaluates}
 use Rattle.outcome.specs.code.Texts.{responseText}
-use Rattle.checker.specs.declared.judge.Told.{Told}
+use Rattle.checker.specs.declared.reading.Told.{Told}
 
 -- Every size is right, and the area shows nothing.
 pub record Judging (script response points area : List ℕ) : Type 0 where
@@ -42,11 +42,10 @@ pub record BothHeld (script response names places nodes forms : List ℕ) (p : P
   pub gives : responseOutcome known response ≡ given bodies
   pub held : Held response names places nodes forms p known bodies
 
--- Where the number is 0 the tables hold both texts; where it is another the answer is that for texts of right sizes.
+-- Where the number is 0 the tables hold both texts; where it is another the answer refuses one of them.
 pub record TextsRead (script response names places nodes forms : List ℕ) (r : Told) : Type 0 where
   pub both! : r .outcome .number ≡ 0 → BothHeld script response names places nodes forms (r .progress)
-  pub one! : (r .outcome .number ≡ 0 → ⊥) → {points area : List ℕ} {budget : ℕ} → sizeAnswer script response points area ≡ nothing
-      → Checked script response points budget area (r .outcome) blankArea
+  pub one! : (r .outcome .number ≡ 0 → ⊥) → TextsRefused script response (r .outcome)
 
 -- 13: function j is the first whose grammar derives its body by no list of rules; the answer names the function and the place of the body's first word, and the
 -- area shows nothing.

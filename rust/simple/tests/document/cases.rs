@@ -1,6 +1,7 @@
 //! A stored case with its answer, and what the checker does otherwise.
 
 use crate::places::assert_located;
+use crate::texts::assert_read;
 use simple::{check, replay, Answer, AREA_LENGTH};
 
 /// What is given, under a name, and its answer.
@@ -45,6 +46,7 @@ impl Case {
         let (script, response) = (&self.script, &self.response);
         let answer = check(script, response, &self.points, self.budget, &mut area);
         assert_located(&answer, script, response);
+        assert_read(&answer, script, response);
         let stored = self.answer.len();
         assert!(stored == 5 || stored == 8, "{}: {stored}", self.name);
         if numbers(&answer)[..stored] != self.answer {

@@ -1,6 +1,7 @@
 //! The random cases: the same for the same seed, sound ones sound, and every answer reached by mutations.
 
 use crate::places::assert_located;
+use crate::texts::assert_read;
 use simple::eval::whole_points;
 use simple::generate::{crowded, mutated, noise, sized, valid, Case};
 use simple::operators::{operator, OPERATORS};
@@ -8,7 +9,7 @@ use simple::script::Script;
 use simple::{check, replay, script, words, Answer, AREA_LENGTH, FIRST_ASSUMPTION};
 use std::collections::HashSet;
 
-/// The answer of a case, the area and what the answer carries of its place being judged as well.
+/// The answer of a case, the area, what the answer carries of its place and the texts' own answer being judged as well.
 fn answer(case: &Case) -> Answer {
     let mut area = vec![7; AREA_LENGTH];
     let (script, response) = (&case.script, &case.response);
@@ -16,6 +17,7 @@ fn answer(case: &Case) -> Answer {
     let fault = replay::area_fault(script, response, answer.number, &area);
     assert_eq!(fault, None);
     assert_located(&answer, script, response);
+    assert_read(&answer, script, response);
     answer
 }
 

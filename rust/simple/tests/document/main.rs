@@ -1,5 +1,5 @@
-//! Document 01 run: the readings, the vectors, the bench, constants, signed operators, assumptions, ends, lines and columns, every limit and every row of the table of
-//! answers.
+//! Document 01 run: the readings, the vectors, the bench, constants, signed operators, assumptions, ends, lines and columns, the texts' own answers, every limit and
+//! every row of the table of answers.
 
 mod answers;
 mod assumptions;
@@ -13,6 +13,7 @@ mod places;
 mod readings;
 mod reserved;
 mod signed;
+mod texts;
 mod vectors;
 mod words;
 
@@ -21,7 +22,7 @@ use simple::{check, replay, AREA_LENGTH, LIST_LENGTH, UNUSED};
 /// Answer number, text, place, second number and units.
 type Five = (u8, u8, u64, u64, u64);
 
-/// The answer for an area of the right size, which is judged as well as what the answer carries of its place, and the area.
+/// The answer for an area of the right size, which is judged as well as what the answer carries of its place and the texts' own answer, and the area.
 fn answer_and_area(script: &str, response: &str, points: &[u64], budget: u64) -> (Five, Vec<u16>) {
     let mut area = vec![7; AREA_LENGTH];
     let (script, response) = (script.as_bytes(), response.as_bytes());
@@ -29,6 +30,7 @@ fn answer_and_area(script: &str, response: &str, points: &[u64], budget: u64) ->
     let fault = replay::area_fault(script, response, answer.number, &area);
     assert_eq!(fault, None);
     places::assert_located(&answer, script, response);
+    texts::assert_read(&answer, script, response);
     let five = (
         answer.number,
         answer.text,

@@ -1,6 +1,6 @@
 use Rattle.checker.proofs.BothTexts.{blank-names}
-use Rattle.checker.proofs.judge.no_names.Statement.{statement}
-use Rattle.checker.proofs.judge.no_names.Tie as tie
+use Rattle.checker.proofs.reading.no_names.Statement.{statement}
+use Rattle.checker.proofs.reading.no_names.Tie as tie
 
 returns : tie.Need-returns
 returns c = blank-names

@@ -2,8 +2,8 @@ use native.Mathlib.Omega.{arith}
 use mathlib.Core.Path.{_∙_}
 use Rattle.checker.proofs.BothTexts.{ready, response-read, script-declined}
 use borrow.Author.Needs.{needs}
-use Rattle.checker.proofs.judge.read_texts.Statement.{statement}
-use Rattle.checker.proofs.judge.read_texts.Tie as tie
+use Rattle.checker.proofs.reading.read_texts.Statement.{statement}
+use Rattle.checker.proofs.reading.read_texts.Tie as tie
 
 word-room-requires : tie.Need-word-room-requires
 word-room-requires c κs = search needs
