@@ -3,7 +3,7 @@
    Every function may be called with any bytes and any numbers. A text or a list is a pointer and a length; where the length is 0 the pointer is not read.
 
    A call keeps nothing for the next one, so that several may run at once. It runs on the caller's stack: sverdhyll_answer and sverdhyll_check take up to
-   1.3 MiB of it, whatever they are given (measured at the limits of all inputs, docs/MEASUREMENTS.md), and sverdhyll_read, which evaluates nothing, takes
+   1.91 MiB of it, whatever they are given (measured at the limits of all inputs, docs/MEASUREMENTS.md), and sverdhyll_read, which evaluates nothing, takes
    less. A thread of 2 MiB suffices; one of 1 MiB does not for every input, and a call that needs more than there is ends the program.
 
    Which static library has which function (`rt staticlib NAME` makes target/staticlib/libNAME.a; link one of them):
@@ -57,7 +57,7 @@ enum {
     SVERDHYLL_AREA = 32768,         /* how many entries the area must have */
     SVERDHYLL_LIST = 4096,          /* how many of them are for the list of one function */
     SVERDHYLL_UNUSED = 65535,       /* an entry that no list uses */
-    SVERDHYLL_MOST_SCRIPT = 32768,  /* bytes */
+    SVERDHYLL_MOST_SCRIPT = 65536,  /* bytes */
     SVERDHYLL_MOST_RESPONSE = 8192, /* bytes */
     SVERDHYLL_MOST_POINTS = 1024,   /* numbers */
     SVERDHYLL_FIRST_ASSUMPTION = 64 /* answer 15 numbers assumptions from here */

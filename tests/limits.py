@@ -4,7 +4,11 @@ from cases import (
     AREA, MARK, TRUE, accepted, all_cases, beside, bits, case, constraint, defined, function, grammar_of, joined, named, negated, of_nodes, padded, refused,
     response, row, script, too_long, unmarked, variables, words_in)
 
-MOST_SCRIPT, MOST_RESPONSE, MOST_POINTS = 32768, 8192, 1024
+MOST_SCRIPT, MOST_RESPONSE, MOST_POINTS = 65536, 8192, 1024
+MOST_WORDS = 8192
+
+# The bytes that a script might have before request E10; of words it might have an eighth of these.
+BEFORE_E10 = 32768
 
 
 def at_and_past(name, most, make):
@@ -43,6 +47,7 @@ def many_points(count):
 def sizes():
     """Bytes of the texts and numbers of the points; the first that is too long counts."""
     yield from at_and_past("script-bytes", MOST_SCRIPT, padded_script)
+    yield padded_script(BEFORE_E10 + 1)._replace(name="script-bytes-%d" % (BEFORE_E10 + 1))
     yield from at_and_past("response-bytes", MOST_RESPONSE, padded_response)
     yield from at_and_past("point-numbers", MOST_POINTS, many_points)
     wide = beside(variables(*["Bool"] * 16), constraint("(or v15 (not v15))"))
@@ -74,9 +79,11 @@ def response_of_words():
 
 def words_and_nesting():
     """Words of the texts, and lists within lists."""
-    text, cost = script_of_words(4096)
-    yield case(text, TRUE, accepted(1, cost), budget=cost, name="script-words-4096")
-    yield case(text + " §x", TRUE, refused(4), name="script-words-4097")
+    for count in (BEFORE_E10 // 8 + 1, MOST_WORDS):
+        text, cost = script_of_words(count)
+        yield case(text, TRUE, accepted(1, cost), budget=cost, name="script-words-%d" % count)
+    yield case(text + " §x", TRUE, refused(4), name="script-words-%d" % (MOST_WORDS + 1))
+    yield case(padded(text, MOST_SCRIPT), TRUE, accepted(1, cost), budget=cost, name="script-words-and-bytes")
     text, answer = response_of_words()
     yield case(text, answer, accepted(), name="response-words-2048")
     yield case(text, answer + " §x", refused(4), name="response-words-2049")
@@ -182,9 +189,10 @@ def longest_lists():
 
 
 def deepest_evaluation():
-    """An evaluation of as many nodes on one path as words allow: `define-fun`s nested 63 deep, each applying the one before it, a function, a constraint."""
-    last = 18
-    chain = row(last + 1, lambda i: defined("d%d" % i, body=negated("d%d" % (i - 1) if i else "true", 63)))
+    """An evaluation of as many nodes on one path as there may be: 32 `define-fun`s nested as deep as lists may be, each applying the one before it, a function and
+    a constraint, in 6,500 words."""
+    last = 31
+    chain = row(last + 1, lambda i: defined("d%d" % i, body=negated("d%d" % (i - 1) if i else "false", 63)))
     given = script(chain, function(rules="d%d (not A)" % last), constraint(negated("f", 63)))
     body = response(defined(body=negated("d%d" % last, 62)))
     cost = 64 + 63 + 64 * (last + 1)

@@ -8,7 +8,7 @@ import re
 from collections import namedtuple
 
 Limits = namedtuple("Limits", "bytes words nesting")
-SCRIPT = Limits(32768, 4096, 64)
+SCRIPT = Limits(65536, 8192, 64)
 RESPONSE = Limits(8192, 2048, 64)
 
 # What is read of a text: the answer's number (0: none), its place, and of the words passed the rows and the values.

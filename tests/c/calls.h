@@ -111,7 +111,7 @@ static inline int is_blank(void)
 
 /* A text, and how many words it has. */
 struct text {
-    char bytes[40000];
+    char bytes[SVERDHYLL_MOST_SCRIPT + 4096];
     size_t size, words;
 };
 

@@ -1,11 +1,11 @@
-/* How much stack a call of the checker needs at document 01's limits: calls on a thread of 2 MiB, each of which must give its answer. Prints for each how much
+/* How much stack a call of the checker needs at the limits of all inputs: calls on a thread of 2 MiB, each of which must give its answer. Prints for each how much
    of the stack was touched, by `sverdhyll_check`, by `sverdhyll_answer` and by `sverdhyll_read`. */
 #include <pthread.h>
 
 #include "calls.h"
 
-enum { STACK = 2 << 20, PAINT = 0xa5, MOST_WORDS = 4096, DEEPEST = 63, FUNCTIONS = 8, NON_TERMINALS = 16, LEAVES = 61, OPERANDS = 8,
-       LEVELS = 31 };
+enum { STACK = 2 << 20, PAINT = 0xa5, MOST_WORDS = 8192, MOST_ANSWERED = 2048, DEEPEST = 63, DEFINED = 32, FUNCTIONS = 8, NON_TERMINALS = 16, LEAVES = 61,
+       OPERANDS = 8, LEVELS = 31 };
 
 static struct text script, response;
 static struct answer given;
@@ -98,21 +98,18 @@ static void joined(struct text *text, size_t leaves, const char *leaf)
     add(text, ")");
 }
 
-/* The deepest evaluation: `define-fun`s nested as deep as lists may be, each applying the one before it at its deepest place, as many as the words allow; a
-   function that applies the last of them, and a constraint that applies the function. All nodes are on one path. */
+/* The deepest evaluation: as many `define-fun`s as there may be, nested as deep as lists may be, each applying the one before it at its deepest place; a function
+   that applies the last of them, and a constraint that applies the function. All 2,175 nodes are on one path, in some 6,530 words. */
 static int deepest(void)
 {
-    const size_t beside = 8, after = 26 + 4 + 3 * DEEPEST + 3; /* words of a `define-fun` beside its `not`s; words of what follows the last */
-    size_t nots = 2 * DEEPEST - 1, count = 0;
+    const size_t nots = (DEFINED + 2) * DEEPEST - 1;
     char name[8] = "true";
     begin();
-    while (script.words + beside + 3 + after <= MOST_WORDS) {
-        const size_t room = (MOST_WORDS - after - script.words - beside) / 3, depth = room < DEEPEST ? room : DEEPEST;
-        add(&script, "(define-fun d%zu () Bool ", count);
-        negated(&script, depth, name);
+    for (int i = 0; i < DEFINED; i++) {
+        add(&script, "(define-fun d%d () Bool ", i);
+        negated(&script, DEEPEST, name);
         add(&script, ")");
-        sprintf(name, "d%zu", count++);
-        nots += depth;
+        sprintf(name, "d%d", i);
     }
     add(&script, "(synth-fun f () Bool ((A Bool)) ((A Bool (%s (not A)))))(constraint ", name);
     negated(&script, DEEPEST, "f");
@@ -121,7 +118,7 @@ static int deepest(void)
     negated(&response, DEEPEST - 1, name);
     add(&response, ")");
     end();
-    return measure("the deepest evaluation", nots % 2 == 0 ? SVERDHYLL_ACCEPTED : SVERDHYLL_FALSE, nots + count + 2);
+    return measure("the deepest evaluation", nots % 2 == 0 ? SVERDHYLL_ACCEPTED : SVERDHYLL_FALSE, nots + DEFINED + 2) && script.words <= MOST_WORDS;
 }
 
 /* Adds a name under so many `distinct`s of eight operands, of which it is the last: OPERANDS nodes and OPERANDS + 2 words each. */
@@ -136,7 +133,7 @@ static void distinguished(struct text *text, size_t times, const char *name)
 }
 
 /* The widest evaluation: as the deepest, but each body is as many `distinct`s of eight operands as its 256 nodes allow, so that the values of seven operands wait
-   at each node of the path. */
+   at each node of the path; there are as many `define-fun`s as the words allow. */
 static int widest(void)
 {
     const size_t beside = 8, level = OPERANDS + 2, after = 32 + 7 + LEVELS * level + 3;
@@ -184,7 +181,7 @@ static int most_words(void)
         units += 2 * leaves - 1;
     }
     end();
-    return measure("the most words", SVERDHYLL_ACCEPTED, units) && script.words == MOST_WORDS && response.words == MOST_WORDS / 2;
+    return measure("the most words", SVERDHYLL_ACCEPTED, units) && script.words == MOST_WORDS && response.words == MOST_ANSWERED;
 }
 
 /* As many functions, non-terminals and rules as there may be: every non-terminal is a chain rule of the one before it. */

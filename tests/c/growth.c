@@ -1,10 +1,12 @@
-/* How the time to read a text grows with its length: prints nanoseconds a byte for texts of 1 to 32 KiB, and the ratio to the first. */
+/* How the time to read a text grows with its length: prints nanoseconds a byte for texts of 1 to 64 KiB, and the ratio to the first. */
 #include <stdio.h>
 #include <stdlib.h>
 #include <string.h>
 #include <time.h>
 
 #include "sverdhyll.h"
+
+enum { MOST = SVERDHYLL_MOST_SCRIPT };
 
 static double now(void)
 {
@@ -20,7 +22,7 @@ static double shortest(const uint8_t *text, size_t size, uint32_t *table, uint64
     size_t place, count;
     for (int turn = 0; turn < 400; turn++) {
         double start = now();
-        uint8_t answer = sverdhyll_words(text, size, 32768, 32768, 64, table, 5 * 32768, values, 32768, &place, &count);
+        uint8_t answer = sverdhyll_words(text, size, MOST, MOST, 64, table, 5 * MOST, values, MOST, &place, &count);
         double time = now() - start;
         if (answer != 0) {
             printf("refused: %d at %zu\n", answer, place);
@@ -33,9 +35,9 @@ static double shortest(const uint8_t *text, size_t size, uint32_t *table, uint64
 
 static void measure(const char *name, const char *piece)
 {
-    static uint8_t text[32768];
-    static uint32_t table[5 * 32768];
-    static uint64_t values[32768];
+    static uint8_t text[MOST];
+    static uint32_t table[5 * MOST];
+    static uint64_t values[MOST];
     double first = 0;
     size_t part = strlen(piece);
     printf("%s\n", name);

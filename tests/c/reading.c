@@ -1,4 +1,4 @@
-/* How the time to read a script grows with its words: prints, for three kinds of script of 512 to 4,096 words, the time of each further word of a call of the
+/* How the time to read a script grows with its words: prints, for three kinds of script of 512 to 8,192 words, the time of each further word of a call of the
    checker, and its ratio to that of the first step. There is a variable and no point, so that nothing is evaluated. */
 #include <time.h>
 
@@ -12,7 +12,7 @@ static struct text script;
 static void add_function(int rules)
 {
     add(&script, "(synth-fun f ((a (_ BitVec 32))) (_ BitVec 32) ((S (_ BitVec 32))) ((S (_ BitVec 32) (a");
-    for (int i = 0; i < rules; i++) add(&script, " (bvadd S (bvnot a))");
+    for (int i = 0; i < rules; i++) add(&script, " (bvadd S (bvnot (bvadd a (bvnot a))))");
     add(&script, "))))");
 }
 
@@ -31,9 +31,9 @@ static void make(int kind, size_t most)
 {
     script.size = script.words = 0;
     add(&script, "(set-logic BV)");
-    add_function(kind == 1 ? (int)(most / 32) - 8 : 1);
+    add_function(kind == 1 ? (int)(most / 64) - 4 : 1);
     add(&script, "(declare-var x (_ BitVec 32))");
-    int sums = kind == 0 ? 12 : 50;
+    int sums = kind == 0 ? 30 : 50;
     size_t each = 11 + 4 * (size_t)sums;
     for (int i = 0; i < 64 && script.words + each + 3 <= most; i++) add_constraint(sums);
     add(&script, "(check-synth)");
@@ -72,7 +72,7 @@ int main(void)
         double first = 0, time_before = 0;
         size_t words_before = 0;
         printf("%s\n", names[kind]);
-        for (size_t most = 512; most <= 4096; most += 512) {
+        for (size_t most = 512; most <= 8192; most += 512) {
             make(kind, most);
             double time = shortest();
             if (words_before != 0) {

@@ -2,11 +2,15 @@
 use Prim.Native.Nat.{ℕ, _+_, _*_, _≤_}
 use native.Mathlib.Omega.{arith}
 use mathlib.Core.Path.{_≡_, refl, sym, ap, subst, _∙_}
+use mathlib.Core.Bool.{true, _&&_}
 use mathlib.Core.List.{List}
+use mathlib.Core.Option.{none as nothing}
+use lib.Dec.{leb}
+use borrow.Author.Tests.{leb-true}
+use Rattle.forest.proofs.Bools.{and-left, and-right}
 use lib.ListN.{getD-replicate, length, length-replicate, replicate}
 use Rattle.forest.specs.Limits.{responseWords, scriptWords}
 use Rattle.terms.specs.code.Nodes.{rowWidth as nodeWidth}
-use Rattle.term_nodes.specs.code.Table.{rowWidth as rawWidth}
 use Rattle.words.specs.Limits.{responseLimits}
 use Rattle.names.specs.code.Lookup.{Names}
 use Rattle.names.specs.code.Table.{rowCount, rowWidth as nameWidth}
@@ -16,19 +20,44 @@ use Rattle.script.specs.declared.Verdict.{Verdict}
 use Rattle.script_reader.specs.declared.Step.{Step}
 use Rattle.script.specs.Outcome.{ResponseOutcome, ScriptOutcome, given, responseOutcome, said, scriptOutcome}
 use Rattle.texts.specs.code.Responses.{Ready, ResponseRead, ResponseTold}
-use Rattle.texts.specs.code.Scripts.{ScriptRead, ScriptTold}
+use Rattle.texts.specs.code.Scripts.{Lent as ScriptLent, ScriptRead, ScriptTold}
+use Rattle.texts.specs.code.Texts.{shortResponse, shortScript}
+use Rattle.texts.proofs.Rooms.{full-room, short-room}
 use Rattle.script.proofs.Numbers.{Numbered, inResponse, inScript, response-numbered, script-numbered}
 use Rattle.outcome.specs.code.Texts.{noText, scriptText, responseText}
 use Rattle.checker.proofs.BothTables.{held}
 use Rattle.outcome.proofs.Script.{script-assured}
 use Rattle.outcome.specs.Checked.{Checked, Passing, TextsTold, both-pass, judged, refusal, refused, response-refused, script-refused, texts-refused}
-use Rattle.outcome.specs.Checked.{too-long}
+use Rattle.outcome.specs.Checked.{lengthAnswer, too-long}
 use Rattle.outcome.specs.declared.Outcome.{Outcome}
 use Rattle.verdicts.specs.code.Derive.{Derivable}
-use Rattle.checker.specs.code.Judge.{BodiesDerived, BothHeld, Judging, PointsJudged, TextsRead}
+use Rattle.checker.specs.code.Judge.{BodiesDerived, BothHeld, Judging, Lent, PointsJudged, Rooms, TextsRead}
 use Rattle.checker.specs.code.Sizes.{LengthsTold}
 use Rattle.checker.specs.declared.reading.Told.{Told}
 use Rattle.checker.proofs.Judgements.{all-derive, none-derives}
+
+module _ {script response nodes forms : List ℕ} where
+  -- the tables of short texts have room for them
+  pub short-rooms : length nodes ≡ nodeWidth * (shortScript + shortResponse) → length forms ≡ nodeWidth * shortScript
+      → (leb (length script) shortScript && leb (length response) shortResponse) ≡ true → Rooms script response nodes forms
+  short-rooms nodes-long forms-long t =
+      let one : length script ≤ shortScript = leb-true _ _ (and-left (leb (length script) shortScript) (leb (length response) shortResponse) t) in
+      let two : length response ≤ shortResponse = leb-true _ _ (and-right (leb (length script) shortScript) (leb (length response) shortResponse) t) in
+      record { nodes-room = λ n m a b c d. omega (arith, one, two); forms-room = short-room forms-long one }
+
+  -- and those of any
+  pub full-rooms : length nodes ≡ nodeWidth * (scriptWords + responseWords) → length forms ≡ nodeWidth * scriptWords → Rooms script response nodes forms
+  full-rooms nodes-long forms-long = record { nodes-room = λ n m a b c d. omega arith; forms-room = full-room {most = scriptWords} forms-long (omega arith) }
+
+-- what the reading of a script asks
+pub to-read : {script response names places nodes forms : List ℕ} → Lent script response names places nodes forms → ScriptLent script names places nodes forms
+to-read lent =
+    record {
+      table = lent .table;
+      long = lent .long;
+      nodes-room = record { room = λ n few short. omega (arith, lent .rooms .nodes-room n 0 few short (omega arith) (omega arith)) };
+      forms-room = lent .rooms .forms-room;
+    }
 
 -- a table of zeros is one of names
 pub blank-names : Names (replicate (nameWidth * rowCount) 0)
@@ -45,50 +74,50 @@ module _ {script names places nodes forms : List ℕ} {s : Step} (read : ScriptR
       → TextsRead script response names places nodes forms (record { outcome = o; progress = p })
   script-declined {response} {o} {p} e some = go (scriptOutcome script) refl (read .told)
     where
-      go : (t : ScriptOutcome) → scriptOutcome script ≡ t → ScriptTold t names places nodes forms s
+      go : (t : ScriptOutcome) → scriptOutcome script ≡ t → ScriptTold t script names places nodes forms s
           → TextsRead script response names places nodes forms (record { outcome = o; progress = p })
       go (ScriptOutcome.faulty number offset) is (n, at) =
           record {
             both! = λ zero. absurd (some (sym (ap (λ (x : Outcome). x .number) e) ∙ zero));
             one! = λ other. rw (e, n, at) (script-refused is);
           }
-      go (said k) is (n, holds, few) = absurd (some n)
+      go (said k) is (n, holds, few, short) = absurd (some n)
 
   module _ (none : s .number ≡ 0) where
     -- what a script that passes says
     pub record Passed : Type 0 where
       pub known : Known
       pub is : scriptOutcome script ≡ said known
-      pub told : ScriptTold (said known) names places nodes forms s
+      pub told : ScriptTold (said known) script names places nodes forms s
 
     -- a script without a number passes
     abbrev pub script-passed : Passed
     script-passed = go (scriptOutcome script) refl (read .told)
       where
-        go : (o : ScriptOutcome) → scriptOutcome script ≡ o → ScriptTold o names places nodes forms s → Passed
+        go : (o : ScriptOutcome) → scriptOutcome script ≡ o → ScriptTold o script names places nodes forms s → Passed
         go (ScriptOutcome.faulty number offset) e (f, g) =
             let h : Numbered inScript (ScriptOutcome.faulty number offset) = rw e at (script-numbered script) in
             absurd (omega (arith, h .some))
         go (said k) e told = record { known = k; is = e; told = told }
 
-    module _ {raw : List ℕ} (raw-room : rawWidth * responseWords ≤ length raw) (nodes-room : nodeWidth * (scriptWords + responseWords) ≤ length nodes) where
+    module _ {response nodesBefore formsBefore : List ℕ} (rooms : Rooms script response nodesBefore formsBefore)
+        (same : length nodes ≡ length nodesBefore) where
       -- the tables are ready for a response
-      abbrev pub ready : Ready names raw places nodes (s .progress)
+      abbrev pub ready : Ready response names places nodes (s .progress)
       ready =
           record {
             known = script-passed .known;
             forms = forms;
             tables = script-passed .told .1;
-            raw-room = raw-room;
-            nodes-room = omega (arith, script-passed .told .2);
+            nodes-room = λ n few short. rw same (rooms .nodes-room (s .progress .nodes) n (script-passed .told .2) (script-passed .told .3) few short);
           }
 
       -- a response to a script that passes
-      pub response-read : {response placesAfter nodesAfter : List ℕ} {v : Verdict} {o : Outcome}
-          → ((q : Ready names raw places nodes (s .progress)) → ResponseRead q response placesAfter nodesAfter v)
+      pub response-read : {placesAfter nodesAfter : List ℕ} {v : Verdict} {o : Outcome}
+          → ((q : Ready response names places nodes (s .progress)) → ResponseRead q placesAfter nodesAfter v)
           → o ≡ refusal (v .number) responseText (v .place)
           → TextsRead script response names placesAfter nodesAfter forms (record { outcome = o; progress = s .progress })
-      response-read {response} {placesAfter} {nodesAfter} {v} {o} answers e =
+      response-read {placesAfter} {nodesAfter} {v} {o} answers e =
           go (responseOutcome (script-passed .known) response) refl (answers ready .told)
         where
           go : (t : ResponseOutcome) → responseOutcome (script-passed .known) response ≡ t
@@ -113,19 +142,19 @@ module _ {script names places nodes forms : List ℕ} {s : Step} (read : ScriptR
                 one! = λ other. absurd (other (ap (λ (x : Outcome). x .number) e ∙ told .0));
               }
 
-module _ {script response : List ℕ} {t : Outcome} (lengths : LengthsTold script response t) where
-  -- the texts' own answer, where one is too long
-  pub texts-long : (t .number ≡ 0 → ⊥) → TextsTold script response t
-  texts-long other = too-long (lengths .refused other)
+-- the texts' own answer, where one is too long
+pub texts-long : {script response : List ℕ} {t : Outcome} → LengthsTold script response t → (t .number ≡ 0 → ⊥) → TextsTold script response t
+texts-long lengths other = too-long (lengths .refused other)
 
-  module _ (short : t .number ≡ 0) {names places nodes forms : List ℕ} {r : Told} (read : TextsRead script response names places nodes forms r) where
-    -- where one is refused
-    pub one-told : (r .outcome .number ≡ 0 → ⊥) → TextsTold script response (r .outcome)
-    one-told other = refused (lengths .passes short) (read .one! other)
+module _ {script response : List ℕ} (short : lengthAnswer script response ≡ nothing) {names places nodes forms : List ℕ} {r : Told}
+    (read : TextsRead script response names places nodes forms r) where
+  -- where one is refused
+  pub one-told : (r .outcome .number ≡ 0 → ⊥) → TextsTold script response (r .outcome)
+  one-told other = refused short (read .one! other)
 
-    -- and where both pass
-    pub both-told : {o : Outcome} → r .outcome .number ≡ 0 → o ≡ refusal 0 noText 0 → TextsTold script response o
-    both-told zero e = let both = read .both! zero in rw e (both-pass (lengths .passes short) (both .says) (both .gives))
+  -- and where both pass
+  pub both-told : {o : Outcome} → r .outcome .number ≡ 0 → o ≡ refusal 0 noText 0 → TextsTold script response o
+  both-told zero e = let both = read .both! zero in rw e (both-pass short (both .says) (both .gives))
 
 module _ {script response points area : List ℕ} (sizes : Judging script response points area) {names places nodes forms : List ℕ} where
   -- a text that is refused

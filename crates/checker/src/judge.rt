@@ -5,6 +5,8 @@ use crate::reading::no_names;
 use crate::reading::no_places;
 use crate::reading::node_room;
 use crate::reading::read_texts;
+use crate::reading::short_forms;
+use crate::reading::short_nodes;
 use outcome::Outcome;
 use outcome::RESPONSE;
 use script::Progress;
@@ -12,12 +14,14 @@ use script::answers::ACCEPTED;
 use script::answers::NO_DERIVATION;
 use script::answers::POINTS;
 use script::places::offset_of;
+use texts::SHORT_RESPONSE;
+use texts::SHORT_SCRIPT;
 use verdicts::derive::derive_all;
 use verdicts::evaluate::evaluate;
 ghost use Rattle.outcome.specs.Checked.{Checked};
 ghost use Rattle.verdicts.specs.code.Derive.{Derivable};
 ghost use Rattle.verdicts.specs.code.Evaluate.{Evaluable};
-ghost use Rattle.checker.specs.code.Judge.{Judging, BodiesDerived, PointsJudged};
+ghost use Rattle.checker.specs.code.Judge.{Judging, BodiesDerived, PointsJudged, Rooms};
 
 // The answer on the bodies of texts that pass: 13 at the first word of the first body that its grammar does not derive, after which the area shows nothing; or
 // 0, after which it shows a derivation of each.
@@ -72,7 +76,35 @@ fn judge_points(
     answer
 }
 
-// The answer for texts, points and an area of right sizes, where the area shows nothing.
+// The answer for texts, points and an area of right sizes, where the area shows nothing, in tables with room for the nodes and the forms of both texts.
+fn judge_in(
+    script: &[u8],
+    response: &[u8],
+    points: &[u64],
+    budget: u64,
+    shown: &mut [u16],
+    nodes: &mut [u64],
+    forms: &mut [u64],
+) -> Outcome
+    requires { ⌜ Judging (now script) (now response) (now points) (now shown) ⌝ }
+    requires { ⌜ Rooms (now script) (now response) (now nodes) (now forms) ⌝ }
+    ensures { λ r. ⌜ Checked (now (script .entry)) (now (response .entry)) (now (points .entry)) budget (now (shown .entry)) r (now (shown .exit)) ⌝ }
+{
+    let mut names = no_names();
+    let mut places = no_places();
+    let told = read_texts(script, response, &mut names, &mut places, nodes, forms);
+    if told.outcome.number != ACCEPTED {
+        return told.outcome;
+    }
+    let said = told.progress;
+    let derived = derive_bodies(&places, nodes, forms, said, shown);
+    if derived.number != ACCEPTED {
+        return derived;
+    }
+    judge_points(&names, &places, nodes, said, points, budget, shown)
+}
+
+// The answer for texts, points and an area of right sizes, where the area shows nothing; short texts are judged in small tables.
 pub fn judge_texts(
     script: &[u8],
     response: &[u8],
@@ -83,25 +115,28 @@ pub fn judge_texts(
     requires { ⌜ Judging (now script) (now response) (now points) (now shown) ⌝ }
     ensures { λ r. ⌜ Checked (now (script .entry)) (now (response .entry)) (now (points .entry)) budget (now (shown .entry)) r (now (shown .exit)) ⌝ }
 {
-    let mut names = no_names();
-    let mut places = no_places();
+    if (script.len() <= SHORT_SCRIPT) & (response.len() <= SHORT_RESPONSE) {
+        let mut nodes = short_nodes();
+        let mut forms = short_forms();
+        return judge_in(
+            script,
+            response,
+            points,
+            budget,
+            shown,
+            &mut nodes,
+            &mut forms,
+        );
+    }
     let mut nodes = node_room();
     let mut forms = form_room();
-    let told = read_texts(
+    judge_in(
         script,
         response,
-        &mut names,
-        &mut places,
+        points,
+        budget,
+        shown,
         &mut nodes,
         &mut forms,
-    );
-    if told.outcome.number != ACCEPTED {
-        return told.outcome;
-    }
-    let said = told.progress;
-    let derived = derive_bodies(&places, &nodes, &forms, said, shown);
-    if derived.number != ACCEPTED {
-        return derived;
-    }
-    judge_points(&names, &places, &nodes, said, points, budget, shown)
+    )
 }

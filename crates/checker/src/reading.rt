@@ -11,6 +11,8 @@ use outcome::refusal;
 use script::Progress;
 use script::answers::ACCEPTED;
 use script::places::PLACES;
+use texts::SHORT_RESPONSE;
+use texts::SHORT_SCRIPT;
 use texts::responses::read_response_text;
 use texts::scripts::read_script_text;
 ghost use mathlib.Core.Path.{_≡_};
@@ -19,10 +21,11 @@ ghost use Prim.Native.Nat.{_+_, _*_};
 ghost use Rattle.forest.specs.Limits.{responseWords, scriptWords};
 ghost use Rattle.script.specs.code.Places.{placesLength};
 ghost use Rattle.terms.specs.code.Nodes.{rowWidth as nodeWidth};
-ghost use Rattle.term_nodes.specs.code.Table.{rowWidth as rawWidth};
+ghost use Rattle.texts.specs.code.Texts.{shortResponse, shortScript};
 ghost use Rattle.names.specs.code.Lookup.{Names};
-ghost use Rattle.outcome.specs.Checked.{TextsTold};
-ghost use Rattle.checker.specs.code.Judge.{Lent, TextsRead};
+ghost use mathlib.Core.Option.{none as nothing};
+ghost use Rattle.outcome.specs.Checked.{TextsTold, lengthAnswer};
+ghost use Rattle.checker.specs.code.Judge.{Lent, Rooms, TextsRead};
 
 // The answer on two texts, whose number is 0 where both pass; and what the script has said.
 pub struct Told {
@@ -44,13 +47,6 @@ pub(crate) fn no_places() -> [u64; PLACES]
     [0; PLACES]
 }
 
-// A row for each word of a script.
-fn word_room() -> [u64; term_nodes::ROW * SCRIPT_WORDS]
-    ensures { λ r. ⌜ length r ≡ rawWidth * scriptWords ⌝ }
-{
-    [0; term_nodes::ROW * SCRIPT_WORDS]
-}
-
 // A row of nodes for each word of a script and of a response.
 pub(crate) fn node_room() -> [u64; terms::ROW * (SCRIPT_WORDS + RESPONSE_WORDS)]
     ensures { λ r. ⌜ length r ≡ nodeWidth * (scriptWords + responseWords) ⌝ }
@@ -65,6 +61,20 @@ pub(crate) fn form_room() -> [u64; terms::ROW * SCRIPT_WORDS]
     [0; terms::ROW * SCRIPT_WORDS]
 }
 
+// The same of a short script and a short response.
+pub(crate) fn short_nodes() -> [u64; terms::ROW * (SHORT_SCRIPT + SHORT_RESPONSE)]
+    ensures { λ r. ⌜ length r ≡ nodeWidth * (shortScript + shortResponse) ⌝ }
+{
+    [0; terms::ROW * (SHORT_SCRIPT + SHORT_RESPONSE)]
+}
+
+// A row of forms for each word of a short script.
+pub(crate) fn short_forms() -> [u64; terms::ROW * SHORT_SCRIPT]
+    ensures { λ r. ⌜ length r ≡ nodeWidth * shortScript ⌝ }
+{
+    [0; terms::ROW * SHORT_SCRIPT]
+}
+
 // Reads a script and a response to it: the tables hold both, or one is refused at an offset.
 pub(crate) fn read_texts(
     script: &[u8],
@@ -74,12 +84,11 @@ pub(crate) fn read_texts(
     nodes: &mut [u64],
     forms: &mut [u64],
 ) -> Told
-    requires { ⌜ Lent (now names) (now places) (now nodes) (now forms) ⌝ }
+    requires { ⌜ Lent (now script) (now response) (now names) (now places) (now nodes) (now forms) ⌝ }
     ensures { λ r. ⌜ TextsRead (now (script .entry)) (now (response .entry)) (now (names .exit)) (now (places .exit)) (now (nodes .exit))
         (now (forms .exit)) r ⌝ }
 {
-    let mut raw = word_room();
-    let step = read_script_text(script, names, &mut raw, places, nodes, forms);
+    let step = read_script_text(script, names, places, nodes, forms);
     let progress = step.progress;
     if step.number != ACCEPTED {
         return Told {
@@ -87,14 +96,29 @@ pub(crate) fn read_texts(
             progress,
         };
     }
-    let verdict = read_response_text(response, names, &mut raw, places, nodes, progress);
+    let verdict = read_response_text(response, names, places, nodes, progress);
     Told {
         outcome: refusal(verdict.number, RESPONSE, verdict.place),
         progress,
     }
 }
 
-// The texts' own answer: 1 to 12, or 0 where both pass.
+// The own answer of texts that are not too long, in tables with room for the nodes and the forms of both.
+fn told_in(script: &[u8], response: &[u8], nodes: &mut [u64], forms: &mut [u64]) -> Outcome
+    requires { ⌜ lengthAnswer (now script) (now response) ≡ nothing ⌝ }
+    requires { ⌜ Rooms (now script) (now response) (now nodes) (now forms) ⌝ }
+    ensures { λ r. ⌜ TextsTold (now (script .entry)) (now (response .entry)) r ⌝ }
+{
+    let mut names = no_names();
+    let mut places = no_places();
+    let told = read_texts(script, response, &mut names, &mut places, nodes, forms);
+    if told.outcome.number != ACCEPTED {
+        return told.outcome;
+    }
+    refusal(ACCEPTED, NONE, 0)
+}
+
+// The texts' own answer: 1 to 12, or 0 where both pass; short texts are read into small tables.
 pub(crate) fn texts_told(script: &[u8], response: &[u8]) -> Outcome
     ensures { λ r. ⌜ TextsTold (now (script .entry)) (now (response .entry)) r ⌝ }
 {
@@ -102,20 +126,12 @@ pub(crate) fn texts_told(script: &[u8], response: &[u8]) -> Outcome
     if long.number != ACCEPTED {
         return long;
     }
-    let mut names = no_names();
-    let mut places = no_places();
+    if (script.len() <= SHORT_SCRIPT) & (response.len() <= SHORT_RESPONSE) {
+        let mut nodes = short_nodes();
+        let mut forms = short_forms();
+        return told_in(script, response, &mut nodes, &mut forms);
+    }
     let mut nodes = node_room();
     let mut forms = form_room();
-    let told = read_texts(
-        script,
-        response,
-        &mut names,
-        &mut places,
-        &mut nodes,
-        &mut forms,
-    );
-    if told.outcome.number != ACCEPTED {
-        return told.outcome;
-    }
-    refusal(ACCEPTED, NONE, 0)
+    told_in(script, response, &mut nodes, &mut forms)
 }

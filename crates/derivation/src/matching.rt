@@ -29,11 +29,13 @@ fn alike(forms: &[u64], place: usize, body: &[u64], here: usize) -> bool
 {
     let code = code_at(forms, place);
     let found = code_at(body, here);
-    let same = (code == found) & (value_at(forms, place) == value_at(body, here));
-    let literal = leaf_fits(ANY_LITERAL, LITERAL, code, found);
-    let argument = leaf_fits(ANY_ARGUMENT, NAME, code, found);
-    let fits = same | literal | argument;
-    (operands_at(forms, place) == operands_at(body, here)) & fits
+    if operands_at(forms, place) != operands_at(body, here) {
+        return false;
+    }
+    if (code == found) & (value_at(forms, place) == value_at(body, here)) {
+        return true;
+    }
+    leaf_fits(ANY_LITERAL, LITERAL, code, found) | leaf_fits(ANY_ARGUMENT, NAME, code, found)
 }
 
 // Whether a rule that is no chain rule derives the tree at a node of the body, given the masks past it.

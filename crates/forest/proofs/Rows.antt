@@ -1,6 +1,6 @@
 -- Laws of tables, for rows of any width: reading a number, writing one, and adding a row.
-use Prim.Native.Nat.{ℕ, zero, suc, _+_, _*_, _≤_, _<_}
-use native.Mathlib.Nat.{mul-le-mul-right, mul-suc, mul-zero, suc-add, zero-add}
+use Prim.Native.Nat.{ℕ, zero, suc, _+_, _*_, _/_, _≤_, _<_}
+use native.Mathlib.Nat.{le-div-iff-mul-le, mul-comm, mul-le-mul-right, mul-suc, mul-zero, suc-add, zero-add}
 use native.Mathlib.Omega.{arith}
 use mathlib.Core.Path.{_≡_, refl, sym, ap, _∙_}
 use mathlib.Core.List.{List, [], _∷_, _++_, append-assoc}
@@ -20,6 +20,13 @@ row-low width row column h = let one : 1 ≤ width = omega arith in omega (arith
 
 pub row-high : (width row column : ℕ) → column < width → width ≤ widest → width * row + column < widest * (row + 1)
 row-high width row column h w = omega (arith, mul-le-mul-right row w)
+
+-- a column of a row that a table has whole stands in it
+pub row-within : (width row column long : ℕ) → column < width → row < long / width → width * row + column < long
+row-within width row column long h below =
+    let some : 0 < width = omega arith in
+    let up : suc row ≤ long / width = omega arith in
+    omega (arith, le-div-iff-mul-le {k = width} {x = suc row} {y = long} some .0 up, mul-comm (suc row) width, mul-suc width row)
 
 -- nothing is put past the end of a list
 pub set-past : {A : Type 0} (l : List A) (i : ℕ) (v : A) → length l ≤ i → l ≡ set l i v

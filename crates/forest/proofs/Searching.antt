@@ -14,7 +14,7 @@ use Rattle.forest.specs.Lists.{sameBytes}
 use Rattle.forest.proofs.Bools.{and-left, and-right, apart, each, every}
 use Rattle.forest.proofs.Lists.{drop-next}
 use Rattle.forest.specs.Search.{placeIn}
-use Rattle.forest.specs.code.Search.{Rising, Slotted, slotCount, slotFrom, slotOf, wordsIn}
+use Rattle.forest.specs.code.Search.{Rising, Slotted, SlotsOf, TablesOf, endsFrom, joined, slotCount, slotFrom, slotOf, startsOf, wordsIn}
 
 -- lists of bytes that are the same are equal
 pub same-bytes : (u v : List ℕ) → sameBytes u v ≡ true → u ≡ v
@@ -178,20 +178,6 @@ module _ {names starts slots : List ℕ} (s : Slotted names starts slots) (word 
 
 -- ---- words by their own lists
 
--- the words, one after the other
-abbrev pub joined : (words : List (List ℕ)) → List ℕ
-joined [] = []
-joined (w ∷ words) = w ++ joined words
-
--- where each of the words ends, the first of which starts at `start`
-abbrev pub endsFrom : (start : ℕ) → (words : List (List ℕ)) → List ℕ
-endsFrom start [] = []
-endsFrom start (w ∷ words) = (start + length w) ∷ endsFrom (start + length w) words
-
--- where each of the words starts, and where the last of them ends
-abbrev pub startsOf : (words : List (List ℕ)) → List ℕ
-startsOf words = 0 ∷ endsFrom 0 words
-
 length-ends : (start : ℕ) (words : List (List ℕ)) → length (endsFrom start words) ≡ length words
 length-ends start [] = refl
 length-ends start (w ∷ words) = ap suc (length-ends (start + length w) words)
@@ -231,7 +217,7 @@ words-are words = words-behind [] words
 -- the slots are theirs, if the slot of each has its place
 pub slotted : (words : List (List ℕ)) (slots : List ℕ) → length slots ≡ slotCount
     → T (every (length words) (λ (k : ℕ). eqb (getD slots (slotOf (getD words k [])) 0) k))
-    → Slotted (joined words) (startsOf words) slots
+    → SlotsOf words slots
 slotted words slots long t =
     record {
       rising = rising words;
@@ -240,6 +226,15 @@ slotted words slots long t =
           rw (words-are words)
           (eqb-true _ k (each (length words) (λ (k : ℕ). eqb (getD slots (slotOf (getD words k [])) 0) k) t k (omega (arith, length-ends 0 words))));
     }
+
+module _ {words : List (List ℕ)} {names starts slots : List ℕ} (tables : TablesOf words names starts slots) where
+  -- the search may be asked of their tables
+  pub tables-slotted : Slotted names starts slots
+  tables-slotted = rw (tables .names-are, tables .starts-are) (tables .slots-are)
+
+  -- and goes through them
+  pub tables-words : wordsIn names starts ≡ words
+  tables-words = rw (tables .names-are, tables .starts-are) (words-are words)
 
 -- ---- the search through words that stand behind others
 

@@ -1,13 +1,13 @@
 -- "Numbers the checker holds to", each once. "The limit itself passes; one more is refused."
 use Prim.Native.Nat.{ℕ, _*_}
 
--- "Script 32,768 bytes"
+-- "Allow 65,536 bytes" (E10)
 abbrev pub scriptBytes : ℕ
-scriptBytes = 32768
+scriptBytes = 65536
 
--- "and 4,096 words, brackets counted"
+-- "and 8,192 words of script" (E10), "brackets counted"
 abbrev pub scriptWords : ℕ
-scriptWords = 4096
+scriptWords = 8192
 
 -- "response 8,192"
 abbrev pub responseBytes : ℕ

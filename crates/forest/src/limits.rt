@@ -1,9 +1,9 @@
 //! Numbers the checker holds to, each once.
 
 // How many bytes and words a script may have.
-pub const SCRIPT_BYTES: usize = 32768;
+pub const SCRIPT_BYTES: usize = 65536;
 
-pub const SCRIPT_WORDS: usize = 4096;
+pub const SCRIPT_WORDS: usize = 8192;
 
 // How many bytes and words a response may have.
 pub const RESPONSE_BYTES: usize = 8192;

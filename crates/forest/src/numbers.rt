@@ -36,6 +36,9 @@ pub fn number_at(table: &[u64], width: usize, row: usize, column: usize) -> u64
     requires { ⌜ width ≤ widest ⌝ }
     ensures { λ r. ⌜ r ≡ numberAt width (now (table .entry)) row column ⌝ }
 {
+    if row < table.len() / width {
+        return table[width * row + column];
+    }
     if row >= table.len() {
         return 0;
     }

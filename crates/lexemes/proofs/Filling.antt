@@ -2,10 +2,11 @@
 use Prim.Native.Nat.{ℕ, suc, _+_, _-_, _*_, _≤_, _<_}
 use native.Mathlib.Nat.{add-zero}
 use native.Mathlib.Omega.{arith}
-use mathlib.Core.Path.{_≡_, refl, sym, _∙_}
+use mathlib.Core.Path.{_≡_, refl, sym, ap, _∙_}
 use mathlib.Core.List.{List, [], _∷_, _++_}
-use lib.ListN.{drop, getD, length, set, take, length-append, length-map, length-set, List·getD-append}
-use lib.Seq.{getD-drop, length-take-le, take-all}
+use lib.ListN.{drop, getD, length, set, take, length-append, length-map, List·getD-append}
+use lib.Seq.{getD-drop, length-sets, length-take-le, take-all}
+use borrow.Author.Tests.{le-ltb, lt-ltb}
 use Rattle.forest.specs.code.Rows.{numberAt}
 use Rattle.forest.specs.Tables.{over, rows}
 use Rattle.forest.proofs.Lists.{drop-map, stands, take-more}
@@ -13,34 +14,42 @@ use Rattle.forest.proofs.Rows.{length-rows, over-more, rows-append}
 use Rattle.lexemes.specs.code.Reserved.{wordNumber}
 use Rattle.word_kinds.specs.declared.Kind.{Kind}
 use Rattle.word_kinds.specs.declared.Kind.the-variants.{Open, Close, Numeral, Literal, Symbol, Faulty}
-use Rattle.words.specs.Table.{Entry, entries, kindNumber, row, rowWidth as wordWidth, valueOf, wordValues}
+use Rattle.words.specs.Table.{Entry, entries, kindNumber, row, rowWidth as wordWidth, valueOf, wordTable, wordValues}
 use Rattle.words.specs.code.Table.{endAt, kindAt, nextAt, startAt, widthAt}
-use Rattle.words.specs.Words.{wordsOf}
+use Rattle.words.specs.Trees.{bytesOf}
+use Rattle.words.specs.Words.{Word, wordsOf}
 use Rattle.words.proofs.Chains.{entries-long}
 use Rattle.lexemes.specs.code.Codes.{firstCode}
-use Rattle.lexemes.specs.code.Numbering.{Coded, Numbering, WordsOf}
+use Rattle.lexemes.specs.code.Numbering.{Numbering, RowPut, RowRoom, codeBy}
 use Rattle.lexemes.specs.code.Table.{kindCode, lexemeRow, lexemeTable, rowWidth}
 use Rattle.lexemes.proofs.Said.{entryOf, entry-here, part-fits, word-says}
 
 -- ---- the code of a word
 
--- the code of a word that is no symbol is the number of its kind
-low-code : (kind : Kind) (bytes : List ℕ) → kindNumber kind < firstCode → kindNumber kind ≡ kindCode kind bytes
-low-code Open bytes h = refl
-low-code Close bytes h = refl
-low-code (Numeral v) bytes h = refl
-low-code (Literal width v) bytes h = refl
-low-code Symbol bytes h = absurd (omega arith)
-low-code (Faulty fault) bytes h = refl
+-- word i of a text is among those that its word table holds
+pub record WordsOf (text words : List ℕ) (i : ℕ) : Type 0 where
+  pub rest : List ℕ
+  pub is-words : words ≡ wordTable (wordsOf text) ++ rest
+  pub word : Word
+  pub later : List Word
+  pub here : drop i (wordsOf text) ≡ word ∷ later
 
--- that of a symbol is by its bytes
-symbol-code : (kind : Kind) (bytes : List ℕ) → firstCode ≤ kindNumber kind → firstCode + wordNumber bytes ≡ kindCode kind bytes
-symbol-code Open bytes h = absurd (omega arith)
-symbol-code Close bytes h = absurd (omega arith)
-symbol-code (Numeral v) bytes h = absurd (omega arith)
-symbol-code (Literal width v) bytes h = absurd (omega arith)
-symbol-code Symbol bytes h = refl
-symbol-code (Faulty fault) bytes h = absurd (omega arith)
+-- the code of a word by the number of its kind is that by its kind
+code-by : (kind : Kind) (bytes : List ℕ) → codeBy (kindNumber kind) bytes ≡ kindCode kind bytes
+code-by Open bytes = refl
+code-by Close bytes = refl
+code-by (Numeral v) bytes = refl
+code-by (Literal width v) bytes = refl
+code-by Symbol bytes = refl
+code-by (Faulty fault) bytes = refl
+
+-- a number below those of symbols is the code
+pub code-low : (bytes : List ℕ) {kind : ℕ} → kind < firstCode → kind ≡ codeBy kind bytes
+code-low bytes {kind} h = rw (lt-ltb kind firstCode h)
+
+-- the code of a symbol is by its bytes
+pub code-symbol : (bytes : List ℕ) {kind number : ℕ} → firstCode ≤ kind → number ≡ wordNumber bytes → firstCode + number ≡ codeBy kind bytes
+code-symbol bytes {kind} h e = rw (le-ltb kind firstCode h, e)
 
 module _ {text words : List ℕ} {i : ℕ} (given : WordsOf text words i) where
   -- the word with the index past it
@@ -51,14 +60,6 @@ module _ {text words : List ℕ} {i : ℕ} (given : WordsOf text words i) where
   words-say : (column : ℕ) → column < wordWidth → numberAt wordWidth words i column ≡ getD (row entry) column 0
   words-say = word-says text i (given .word) (given .later) (given .here) (given .rest) (given .is-words)
 
-  -- what the word is, by its number
-  kind-said : {kind : ℕ} → kind ≡ kindAt words i → kind ≡ kindNumber (given .word .kind)
-  kind-said ek = ek ∙ words-say 0 (omega arith)
-
-  -- the code of a word that is no symbol
-  pub code-low : {kind : ℕ} → kind ≡ kindAt words i → kind < firstCode → Coded given kind
-  code-low ek h = let e = kind-said ek in e ∙ low-code (given .word .kind) _ (omega arith)
-
   module _ {start end : ℕ} (es : start ≡ startAt words i) (ee : end ≡ endAt words i) where
     -- where the word stands in the text
     start-said : start ≡ given .word .start
@@ -68,18 +69,16 @@ module _ {text words : List ℕ} {i : ℕ} (given : WordsOf text words i) where
     end-said = ee ∙ words-say 2 (omega arith)
 
     -- which is a part of the text
-    pub part-start : start ≤ end
+    part-start : start ≤ end
     part-start = omega (arith, start-said, end-said, part-fits text i (given .word) (given .later) (given .here) .0)
 
-    pub part-end : end ≤ length text
+    part-end : end ≤ length text
     part-end = omega (arith, end-said, part-fits text i (given .word) (given .later) (given .here) .1)
 
-    -- the code of a symbol
-    pub code-symbol : {kind : ℕ} → kind ≡ kindAt words i → firstCode ≤ kind → {number : ℕ} → number ≡ wordNumber (take (end - start) (drop start text))
-        → Coded given (firstCode + number)
-    code-symbol ek h en =
-        let e = kind-said ek in
-        rw (en, start-said, end-said) (symbol-code (given .word .kind) _ (omega arith))
+    -- the code of the word
+    code-said : {kind code : ℕ} → kind ≡ kindAt words i → code ≡ codeBy kind (take (end - start) (drop start text))
+        → code ≡ kindCode (given .word .kind) (bytesOf text (given .word))
+    code-said ek ec = ec ∙ rw (ek ∙ words-say 0 (omega arith), start-said, end-said) (code-by (given .word .kind) (bytesOf text (given .word)))
 
 -- ---- one row after the other
 
@@ -94,16 +93,40 @@ pub filling-begins : (text lexemes : List ℕ) (count : ℕ) → Filling text le
 unfolding rows
 filling-begins text lexemes count = record { reached = omega arith; long = refl; is = refl }
 
+-- a row is put number by number
+pub row-put : (words values lexemes : List ℕ) (word code : ℕ) {next start end width : ℕ} → next ≡ nextAt words word → start ≡ startAt words word
+    → end ≡ endAt words word → width ≡ widthAt words word
+    → RowPut words values word code lexemes
+    (set (set (set (set (set (set lexemes (rowWidth * word) code) (rowWidth * word + 1) next) (rowWidth * word + 2) (getD values word 0)) (rowWidth * word + 3) start)
+    (rowWidth * word + 4)
+    end)
+    (rowWidth * word + 5)
+    width)
+row-put words values lexemes word code en es ee ew =
+    let one : rowWidth * word + 1 ≡ suc (rowWidth * word) = omega arith in
+    let two : rowWidth * word + 2 ≡ suc (suc (rowWidth * word)) = omega arith in
+    let three : rowWidth * word + 3 ≡ suc (suc (suc (rowWidth * word))) = omega arith in
+    let four : rowWidth * word + 4 ≡ suc (suc (suc (suc (rowWidth * word)))) = omega arith in
+    let five : rowWidth * word + 5 ≡ suc (suc (suc (suc (suc (rowWidth * word))))) = omega arith in
+    rw (one, two, three, four, five, en, es, ee, ew)
+
 module _ {text words values lexemes₀ : List ℕ} {count : ℕ} (numbering : Numbering text words values lexemes₀ count) where
   module _ {word : ℕ} (h : word < count) where
     -- word `word` stands in the word table
-    pub filling-asks : WordsOf text words word
+    filling-asks : WordsOf text words word
     filling-asks =
         let st = stands (wordsOf text) word (omega (arith, numbering .counted)) in
         record { rest = numbering .rest; is-words = numbering .is-words; word = st .here; later = drop (word + 1) (wordsOf text); here = st .is }
 
-    -- and in the list of values
-    pub value-there : word < length values
+    -- it is a part of the text
+    pub word-start : {start end : ℕ} → start ≡ startAt words word → end ≡ endAt words word → start ≤ end
+    word-start es ee = part-start filling-asks es ee
+
+    pub word-end : {start end : ℕ} → start ≡ startAt words word → end ≡ endAt words word → end ≤ length text
+    word-end es ee = part-end filling-asks es ee
+
+    -- and stands in the list of values
+    value-there : word < length values
     unfolding wordValues
     value-there = rw (numbering .is-values, length-append, length-map) (omega (arith, numbering .counted))
 
@@ -126,28 +149,22 @@ module _ {text words values lexemes₀ : List ℕ} {count : ℕ} (numbering : Nu
           let few : word ≤ length (entries (wordsOf text) 0) = omega (arith, numbering .counted, entries-long (wordsOf text) 0) in
           rw (length-rows (lexemeRow text) rowWidth (λ e. refl) (take word (entries (wordsOf text) 0)), length-take-le word _ few)
 
+      -- there is room for its row
+      pub row-room : RowRoom values lexemes word
+      row-room = record { valued = value-there; room = omega (arith, filling .long, numbering .room) }
+
       -- one row more
-      pub filling-goes : {code : ℕ} → ((given : WordsOf text words word) → Coded given code) → {next start end width : ℕ} → next ≡ nextAt words word
-          → start ≡ startAt words word → end ≡ endAt words word → width ≡ widthAt words word
-          → Filling text lexemes₀ count
-          (set (set (set (set (set (set lexemes (rowWidth * word) code) (rowWidth * word + 1) next) (rowWidth * word + 2) (getD values word 0)) (rowWidth * word + 3) start)
-          (rowWidth * word + 4)
-          end)
-          (rowWidth * word + 5)
-          width) (word + 1)
+      pub filling-goes : {start end kind code : ℕ} {after : List ℕ} → start ≡ startAt words word → end ≡ endAt words word → kind ≡ kindAt words word
+          → code ≡ codeBy kind (take (end - start) (drop start text)) → RowPut words values word code lexemes after → Filling text lexemes₀ count after (word + 1)
       unfolding front rows
-      filling-goes {code} ec {next} {start} {end} {width} en es ee ew =
+      filling-goes {code = code} es ee ek ec put =
           let given = filling-asks in
           let all = entries (wordsOf text) 0 in
           let said = words-say given in
-          let numbers : List ℕ = code ∷ next ∷ getD values word 0 ∷ start ∷ end ∷ width ∷ [] in
+          let numbers : List ℕ =
+          code ∷ nextAt words word ∷ getD values word 0 ∷ startAt words word ∷ endAt words word ∷ widthAt words word ∷ [] in
           let row : numbers ≡ lexemeRow text (entry given) =
-          rw (ec given, en ∙ said 4 (omega arith), value-said given, es ∙ said 1 (omega arith), ee ∙ said 2 (omega arith), ew ∙ said 3 (omega arith)) in
-          let one : rowWidth * word + 1 ≡ suc (rowWidth * word) = omega arith in
-          let two : rowWidth * word + 2 ≡ suc (suc (rowWidth * word)) = omega arith in
-          let three : rowWidth * word + 3 ≡ suc (suc (suc (rowWidth * word))) = omega arith in
-          let four : rowWidth * word + 4 ≡ suc (suc (suc (suc (rowWidth * word)))) = omega arith in
-          let five : rowWidth * word + 5 ≡ suc (suc (suc (suc (suc (rowWidth * word))))) = omega arith in
+          rw (code-said given es ee ek ec, said 4 (omega arith), value-said given, said 1 (omega arith), said 2 (omega arith), said 3 (omega arith)) in
           let room : length front + 6 ≤ length lexemes₀ = omega (arith, front-long, numbering .room) in
           let more : rows (lexemeRow text) (take (word + 1) all) ≡ front ++ lexemeRow text (entry given) =
           rw (
@@ -156,8 +173,8 @@ module _ {text words values lexemes₀ : List ℕ} {count : ℕ} (numbering : Nu
           ) in
           record {
             reached = omega arith;
-            long = simp length-set (filling .long);
-            is = rw (one, two, three, four, five, filling .is, ← front-long) (over-more front numbers lexemes₀ room ∙ rw (row, more));
+            long = ap length put ∙ length-sets lexemes (rowWidth * word) numbers ∙ filling .long;
+            is = put ∙ rw (filling .is, ← front-long) (over-more front numbers lexemes₀ room ∙ rw (row, more));
           }
 
   -- all rows are written

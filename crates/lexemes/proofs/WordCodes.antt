@@ -3,12 +3,11 @@ use mathlib.Core.Path.{_≡_, refl}
 use mathlib.Core.List.{[], _∷_, map}
 use lib.ListN.{length}
 use Rattle.operators.specs.Operators.{operators}
-use Rattle.lexemes.specs.code.Reserved.{knownWords}
+use Rattle.lexemes.specs.code.Reserved.{firstWords, knownWords}
 use Rattle.lexemes.specs.code.Codes.{assumeCode, bangCode, bitVecCode, boolCode, bvCode, checkSynthCode, constantCode, constraintCode, declareVarCode}
 use Rattle.lexemes.specs.code.Codes.{defineFunCode, existsCode, extractCode, failCode, falseCode, firstOperatorCode, forallCode, infeasibleCode, letCode}
 use Rattle.lexemes.specs.code.Codes.{otherCommandCode, setLogicCode, synthFunCode, trueCode, underscoreCode, variableCode, knownCount, wordsBefore}
 use Rattle.lexemes.proofs.ByCode.{codeFor}
-use Rattle.lexemes.proofs.WordNumbers.{firstWords}
 
 -- each code is that of its word
 pub codes-are : map codeFor

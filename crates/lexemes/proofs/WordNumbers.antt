@@ -2,30 +2,22 @@
 use Prim.Native.Nat.{ℕ, _+_, _-_, _≤_, _<_}
 use native.Mathlib.Omega.{arith}
 use Prim.Native.String.{String}
-use mathlib.Core.Path.{_≡_, refl, sym, _∙_}
+use mathlib.Core.Path.{_≡_, refl, sym, ap, _∙_}
 use mathlib.Core.Bool.{Bool, true, false, cond}
 use mathlib.Core.List.{List, [], _∷_, _++_, map}
 use lib.Dec.{ltb}
 use borrow.Author.Tests.{le-ltb, lt-ltb}
 use Rattle.forest.specs.Lists.{spelling}
 use Rattle.forest.specs.Search.{placeIn}
-use Rattle.forest.specs.code.Search.{wordsIn}
-use Rattle.forest.proofs.Searching.{joined, place-append, place-later, startsOf, words-are}
+use Rattle.forest.specs.code.Search.{TablesOf, wordsIn}
+use Rattle.forest.proofs.Searching.{place-append, place-later, tables-words}
 use Rattle.word_kinds.specs.Decimals.{isDecimal, isLong}
 use Rattle.operators.specs.Operators.{operatorOf, operators}
-use Rattle.operators.proofs.Naming.{named-spellings, spellings}
-use Rattle.lexemes.specs.Reserved.{carriedCommands, otherCommands, otherWords}
+use Rattle.operators.specs.code.Operators.{spellings}
+use Rattle.operators.proofs.Naming.{named-spellings}
 use Rattle.lexemes.specs.code.Codes.{decimalCode, firstCode, knownCount, longDecimalCode, wordsBefore}
-use Rattle.lexemes.specs.code.Reserved.{knownWords, placeAmong, unreservedWords, wordNumber}
+use Rattle.lexemes.specs.code.Reserved.{firstSpellings, knownWords, placeAmong, wordNumber}
 use Rattle.lexemes.proofs.Numbers.{place-low}
-
--- the words before the operators
-abbrev pub firstWords : List String
-firstWords = unreservedWords ++ carriedCommands ++ otherCommands ++ otherWords
-
--- their bytes
-abbrev pub firstSpellings : List (List ℕ)
-firstSpellings = map spelling firstWords
 
 -- the place among words is that of their bytes
 among-spellings : (words : List String) (k : ℕ) (name : List ℕ) → placeAmong words k name ≡ placeIn (map spelling words) k name
@@ -53,13 +45,13 @@ module _ (name : List ℕ) {d long : Bool} (decimal : d ≡ isDecimal name) (dig
   unfolding wordNumber knownWords operators
   number-decimal h = rw (sym decimal ∙ is, sym digits ∙ h)
 
-module _ (name : List ℕ) {d : Bool} (decimal : d ≡ isDecimal name) (is : d ≡ false) (place : ℕ)
-    (found : place ≡ placeIn (wordsIn (joined firstSpellings) (startsOf firstSpellings)) 0 name) where
+module _ {names starts slots : List ℕ} (tables : TablesOf firstSpellings names starts slots) (name : List ℕ) {d : Bool} (decimal : d ≡ isDecimal name)
+    (is : d ≡ false) (place : ℕ) (found : place ≡ placeIn (wordsIn names starts) 0 name) where
   -- the two searches, one after the other
   number-parts : wordNumber name ≡ cond (ltb place wordsBefore) place (placeIn (spellings operators) wordsBefore name)
-  unfolding wordNumber knownWords operators
+  unfolding wordNumber firstSpellings knownWords operators
   number-parts =
-      let first : placeIn firstSpellings 0 name ≡ place = sym (found ∙ rw (words-are firstSpellings)) in
+      let first : placeIn firstSpellings 0 name ≡ place = sym (found ∙ ap (λ (words : List (List ℕ)). placeIn words 0 name) (tables-words tables)) in
       rw (sym decimal ∙ is) (among-spellings knownWords 0 name ∙ place-append firstSpellings (spellings operators) 0 name ∙ rw first)
 
   -- the word is one of those before the operators

@@ -1,7 +1,13 @@
 //! The table of lexemes of a text, filled from its word table.
 use crate::ROW;
 use crate::SYMBOL;
+use crate::reserved::first_names;
+use crate::reserved::first_slots;
+use crate::reserved::first_starts;
 use crate::reserved::word_number;
+use operators::operators::operator_names;
+use operators::operators::operator_slots;
+use operators::operators::operator_starts;
 use words::table::end_at;
 use words::table::kind_at;
 use words::table::next_at;
@@ -9,36 +15,80 @@ use words::table::start_at;
 use words::table::width_at;
 ghost use mathlib.Core.Path.{_≡_};
 ghost use Rattle.forest.specs.Tables.{over};
-ghost use Rattle.lexemes.specs.code.Numbering.{Coded, Numbering, WordsOf};
+ghost use Rattle.lexemes.specs.code.Numbering.{Numbering, RowPut, RowRoom, codeBy};
+ghost use Rattle.lexemes.specs.code.Reserved.{KnownTables};
 ghost use Rattle.lexemes.specs.code.Table.{lexemeTable};
 ghost use Rattle.words.specs.Words.{wordsOf};
 
-// The code of a word of a text.
-fn code_of(text: &[u8], words: &[u32], word: usize) -> u64
-    requires { ⌜ WordsOf (now text) (now words) word ⌝ }
-    ensures { λ r. ⌜ ((given : WordsOf (now (text .entry)) (now (words .entry)) word) → Coded given r) ⌝ }
+// The code of a word by the number of its kind and its bytes.
+fn code_of(
+    kind: u64,
+    word: &[u8],
+    names: &[u8],
+    starts: &[usize],
+    slots: &[u8],
+    operator_names: &[u8],
+    operator_starts: &[usize],
+    operator_slots: &[u8],
+) -> u64
+    requires { ⌜ KnownTables (now names) (now starts) (now slots) (now «operator_names») (now «operator_starts») (now «operator_slots») ⌝ }
+    ensures { λ r. ⌜ r ≡ codeBy kind (now (word .entry)) ⌝ }
 {
-    let kind = kind_at(words, word) as u64;
     if kind < SYMBOL {
         return kind;
     }
-    SYMBOL + word_number(&text[start_at(words, word)..end_at(words, word)]) as u64
+    let number = word_number(
+        word,
+        names,
+        starts,
+        slots,
+        operator_names,
+        operator_starts,
+        operator_slots,
+    );
+    SYMBOL + number as u64
 }
 
-// Fills the table of lexemes of a text from its word table and its values.
+// Puts the row of a word that has a code into the table of lexemes.
+fn put_row(words: &[u32], values: &[u64], word: usize, code: u64, lexemes: &mut [u64])
+    requires { ⌜ RowRoom (now values) (now lexemes) word ⌝ }
+    ensures { λ r. ⌜ RowPut (now (words .entry)) (now (values .entry)) word code (now (lexemes .entry)) (now (lexemes .exit)) ⌝ }
+{
+    let at = ROW * word;
+    lexemes[at] = code;
+    lexemes[at + 1] = next_at(words, word) as u64;
+    lexemes[at + 2] = values[word];
+    lexemes[at + 3] = start_at(words, word) as u64;
+    lexemes[at + 4] = end_at(words, word) as u64;
+    lexemes[at + 5] = width_at(words, word) as u64;
+}
+
+// Fills the table of lexemes of a text from its word table and its values; the tables of known words are made once.
 pub fn number_words(text: &[u8], words: &[u32], values: &[u64], count: usize, lexemes: &mut [u64])
     requires { ⌜ Numbering (now text) (now words) (now values) (now lexemes) count ⌝ }
     ensures { λ r. ⌜ now (lexemes .exit) ≡ over (lexemeTable (now (text .entry)) (wordsOf (now (text .entry)))) (now (lexemes .entry)) ⌝ }
 {
+    let names = first_names();
+    let starts = first_starts();
+    let slots = first_slots();
+    let operators = operator_names();
+    let places = operator_starts();
+    let others = operator_slots();
     let mut word = 0;
     while word < count {
-        let at = ROW * word;
-        lexemes[at] = code_of(text, words, word);
-        lexemes[at + 1] = next_at(words, word) as u64;
-        lexemes[at + 2] = values[word];
-        lexemes[at + 3] = start_at(words, word) as u64;
-        lexemes[at + 4] = end_at(words, word) as u64;
-        lexemes[at + 5] = width_at(words, word) as u64;
+        let start = start_at(words, word);
+        let end = end_at(words, word);
+        let code = code_of(
+            kind_at(words, word) as u64,
+            &text[start..end],
+            &names,
+            &starts,
+            &slots,
+            &operators,
+            &places,
+            &others,
+        );
+        put_row(words, values, word, code, lexemes);
         word += 1;
     }
 }

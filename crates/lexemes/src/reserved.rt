@@ -9,7 +9,8 @@ use operators::operators::operator_of;
 use word_kinds::decimals::is_decimal;
 use word_kinds::decimals::is_long;
 ghost use mathlib.Core.Path.{_≡_};
-ghost use Rattle.lexemes.specs.code.Reserved.{wordNumber};
+ghost use Rattle.forest.specs.code.Search.{SlotsOf, joined, startsOf};
+ghost use Rattle.lexemes.specs.code.Reserved.{KnownTables, firstSpellings, wordNumber};
 
 // How many words there are before the operators.
 const BEFORE_OPERATORS: usize = (FIRST_OPERATOR - SYMBOL) as usize;
@@ -80,8 +81,38 @@ const SLOTS_OF: [u8; SLOTS] =
       ~~~~~~~~~\x26\x07~~~~\x21\x13\x09~~~~~~~~~~~~\x0f~~~~~~~~~~~~\x1c~~~~~~~~~~~\x04~~~~\x22~~~~~~~~~~~~~~~~~\x25~~~~~~~~~~~~~~~~~~~~~~~~~~~~~~~\x03~~~~~~~~~~~\x05~\x14~~~\
       ~~~~~~~~~~~~~\x02\x0e~~~~~~~~~~~~~\x19~\x1b~~~~~~~\x1d~~~~~~~~~~~~~~~~\x1a~~~~~~~~~~~~~~~~\x11~~~~~\x0c~~~\x17~~~~~~~~~~~~~~~~~~~~~~~~\x15~~~~~\x29~~~~~~~\x0d~~~~~~";
 
+// The table of the words before the operators.
+pub(crate) fn first_names() -> [u8; 504]
+    ensures { λ r. ⌜ r ≡ joined firstSpellings ⌝ }
+{
+    NAMES
+}
+
+// The table of where they start.
+pub(crate) fn first_starts() -> [usize; BEFORE_OPERATORS + 1]
+    ensures { λ r. ⌜ r ≡ startsOf firstSpellings ⌝ }
+{
+    STARTS
+}
+
+// The table of their slots.
+pub(crate) fn first_slots() -> [u8; SLOTS]
+    ensures { λ r. ⌜ SlotsOf firstSpellings r ⌝ }
+{
+    SLOTS_OF
+}
+
 // The number of a symbol among the known words; past the last of them where it is none, and beyond that for the word of a constant.
-pub fn word_number(word: &[u8]) -> usize
+pub(crate) fn word_number(
+    word: &[u8],
+    names: &[u8],
+    starts: &[usize],
+    slots: &[u8],
+    operator_names: &[u8],
+    operator_starts: &[usize],
+    operator_slots: &[u8],
+) -> usize
+    requires { ⌜ KnownTables (now names) (now starts) (now slots) (now «operator_names») (now «operator_starts») (now «operator_slots») ⌝ }
     ensures { λ r. ⌜ r ≡ wordNumber (now (word .entry)) ⌝ }
 {
     if is_decimal(word) {
@@ -90,9 +121,9 @@ pub fn word_number(word: &[u8]) -> usize
         }
         return CONSTANT;
     }
-    let place = find_word(&NAMES, &STARTS, &SLOTS_OF, word);
+    let place = find_word(names, starts, slots, word);
     if place < BEFORE_OPERATORS {
         return place;
     }
-    BEFORE_OPERATORS + operator_of(word)
+    BEFORE_OPERATORS + operator_of(operator_names, operator_starts, operator_slots, word)
 }

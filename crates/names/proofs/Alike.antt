@@ -13,7 +13,8 @@ use Rattle.forest.proofs.Searching.{place-later, same-bytes}
 use Rattle.forest.specs.Lists.{sameBytes, spelling}
 use Rattle.forest.specs.Search.{placeIn}
 use Rattle.operators.specs.Operators.{operatorCount, operatorOf, operators}
-use Rattle.operators.proofs.Naming.{named-spellings, spellings}
+use Rattle.operators.specs.code.Operators.{spellings}
+use Rattle.operators.proofs.Naming.{named-spellings}
 use Rattle.terms.specs.Labels.{Label, defined, function, literal, name, operator}
 use Rattle.derivation.specs.Derivation.{Item, anyArgument, anyLiteral, nonTerminal, the}
 use Rattle.lexemes.specs.Reserved.{isWord}

@@ -2,15 +2,11 @@
 use Prim.Native.Nat.{ℕ, _+_, _≤_}
 use mathlib.Core.Path.{_≡_, refl, sym, _∙_}
 use mathlib.Core.List.{List, [], _∷_, map}
-use Rattle.forest.specs.Lists.{spelling}
 use Rattle.forest.specs.Search.{placeIn}
-use Rattle.forest.specs.code.Search.{wordsIn}
-use Rattle.forest.proofs.Searching.{joined, place-bound, startsOf, words-are}
+use Rattle.forest.specs.code.Search.{TablesOf, wordsIn}
+use Rattle.forest.proofs.Searching.{place-bound, tables-words}
 use Rattle.operators.specs.Operators.{Operator, named, operatorCount, operatorOf, operators}
-
--- The bytes of the names of the rows.
-abbrev pub spellings : List Operator → List (List ℕ)
-spellings rows = map spelling (map (λ (o : Operator). o .name) rows)
+use Rattle.operators.specs.code.Operators.{spellings}
 
 -- The place of the row that has a name is the name's place among those bytes.
 pub named-spellings : (rows : List Operator) (k : ℕ) (name : List ℕ) → named rows k name ≡ placeIn (spellings rows) k name
@@ -23,8 +19,8 @@ pub operator-bound : (name : List ℕ) {number : ℕ} → number ≡ operatorOf 
 unfolding operatorOf operators
 operator-bound name e = rw (e, named-spellings operators 0 name) (place-bound (spellings operators) 0 name)
 
--- The search finds the operator.
-pub operator-found : (name : List ℕ) {place : ℕ} → place ≡ placeIn (wordsIn (joined (spellings operators)) (startsOf (spellings operators))) 0 name
-    → place ≡ operatorOf name
+-- The search through the names finds the operator.
+pub operator-found : {names starts slots : List ℕ} → TablesOf (spellings operators) names starts slots → (name : List ℕ) {place : ℕ}
+    → place ≡ placeIn (wordsIn names starts) 0 name → place ≡ operatorOf name
 unfolding operatorOf
-operator-found name e = e ∙ rw (words-are (spellings operators)) (sym (named-spellings operators 0 name))
+operator-found tables name e = e ∙ rw (tables-words tables) (sym (named-spellings operators 0 name))

@@ -41,10 +41,11 @@ use crate::vectors::extract;
 use forest::search::SLOTS;
 use forest::search::find_word;
 ghost use mathlib.Core.Path.{_≡_};
-ghost use Rattle.operators.specs.Operators.{operatorAt, operatorOf, takes};
+ghost use Rattle.forest.specs.code.Search.{SlotsOf, TablesOf, joined, startsOf};
+ghost use Rattle.operators.specs.Operators.{operatorAt, operatorOf, operators, takes};
 ghost use Rattle.operators.specs.code.RuleNumbers.{ruleNumber};
 ghost use Rattle.operators.specs.code.Operators.{Applied, FixedApplied, FixedOperable, LaterApplied, LaterOperable, Operable};
-ghost use Rattle.operators.specs.code.Operators.{ResultSort, Sortable};
+ghost use Rattle.operators.specs.code.Operators.{ResultSort, Sortable, spellings};
 
 // How many operators there are; also the number that stands for none.
 pub const OPERATORS: usize = 34;
@@ -216,11 +217,33 @@ const RULES: [u64; OPERATORS] = [
     ORDER, // bvuge
 ];
 
-// The number of the operator that a word names; past the last operator where it names none.
-pub fn operator_of(word: &[u8]) -> usize
+// The table of the names of the operators.
+pub fn operator_names() -> [u8; 164]
+    ensures { λ r. ⌜ r ≡ joined (spellings operators) ⌝ }
+{
+    NAMES
+}
+
+// The table of where they start.
+pub fn operator_starts() -> [usize; OPERATORS + 1]
+    ensures { λ r. ⌜ r ≡ startsOf (spellings operators) ⌝ }
+{
+    STARTS
+}
+
+// The table of their slots.
+pub fn operator_slots() -> [u8; SLOTS]
+    ensures { λ r. ⌜ SlotsOf (spellings operators) r ⌝ }
+{
+    SLOTS_OF
+}
+
+// The number of the operator that a word names, by the three tables; past the last operator where it names none.
+pub fn operator_of(names: &[u8], starts: &[usize], slots: &[u8], word: &[u8]) -> usize
+    requires { ⌜ TablesOf (spellings operators) (now names) (now starts) (now slots) ⌝ }
     ensures { λ r. ⌜ r ≡ operatorOf (now (word .entry)) ⌝ }
 {
-    find_word(&NAMES, &STARTS, &SLOTS_OF, word)
+    find_word(names, starts, slots, word)
 }
 
 // How many operands an operator has, or has at least; 0 past the last operator.

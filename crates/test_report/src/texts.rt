@@ -13,24 +13,24 @@ ghost use mathlib.Core.Path.{_≡_};
 ghost use lib.ListN.{length};
 
 // Room for a text that is too long by one byte, and for one byte more.
-pub fn text_room() -> [u8; 32770]
-    ensures { λ r. ⌜ 32770 ≡ length r ⌝ }
+pub fn text_room() -> [u8; 65540]
+    ensures { λ r. ⌜ 65540 ≡ length r ⌝ }
 {
-    [0; 32770]
+    [0; 65540]
 }
 
 // Room for the rows of more words than a text may have.
-fn table_room() -> [u32; 20500]
-    ensures { λ r. ⌜ 20500 ≡ length r ⌝ }
+fn table_room() -> [u32; 41000]
+    ensures { λ r. ⌜ 41000 ≡ length r ⌝ }
 {
-    [0; 20500]
+    [0; 41000]
 }
 
 // Room for the values of more words than a text may have.
-fn values_room() -> [u64; 4100]
-    ensures { λ r. ⌜ 4100 ≡ length r ⌝ }
+fn values_room() -> [u64; 8200]
+    ensures { λ r. ⌜ 8200 ≡ length r ⌝ }
 {
-    [0; 4100]
+    [0; 8200]
 }
 
 // Writes a number in decimal after its name.

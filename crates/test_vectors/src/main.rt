@@ -10,10 +10,10 @@ ghost use mathlib.Core.Path.{_≡_};
 ghost use lib.ListN.{length};
 
 // Room for all of standard input.
-fn input_room() -> [u8; 2800000]
-    ensures { λ r. ⌜ 2800000 ≡ length r ⌝ }
+fn input_room() -> [u8; 5000000]
+    ensures { λ r. ⌜ 5000000 ≡ length r ⌝ }
 {
-    [0; 2800000]
+    [0; 5000000]
 }
 
 // Reads all of standard input and reports each record of it.

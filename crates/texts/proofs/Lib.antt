@@ -1,3 +1,4 @@
+pub mod Rooms
 pub mod Offsets
 pub mod TextLexemes
 pub mod ScriptText

@@ -22,21 +22,23 @@ use Rattle.script.specs.Response.{Answered, answered, bodies, inScriptOrder, re
 use Rattle.response.specs.code.Answers.{Answers, Responded, Responding}
 use Rattle.script.specs.Outcome.{byAnswers, offsetOf, responseWithin}
 use Rattle.script.specs.code.Answers.{failAnswer, infeasibleAnswer}
+use Rattle.term_nodes.specs.code.Table.{rowWidth as rawWidth}
+use Rattle.texts.specs.code.Texts.{RowEach}
 use Rattle.texts.specs.code.Responses.{Ready, ResponseRead, ResponseTold}
 use Rattle.texts.specs.code.Lexed.{Worded}
 use Rattle.texts.proofs.Offsets.{offset-there}
 use Rattle.texts.proofs.TextLexemes.{only-lexemes, placed-alone}
 
 -- a word is refused
-pub words-refused : {text names raw places nodes placesAfter nodesAfter : List ℕ} {p : Progress} (q : Ready names raw places nodes p)
+pub words-refused : {text names places nodes placesAfter nodesAfter : List ℕ} {p : Progress} (q : Ready text names places nodes p)
     (r : Reading) {v : Verdict} → r ≡ readingOf responseLimits text → (numberOf r ≡ 0 → ⊥) → v .number ≡ numberOf r → v .place ≡ placeOf r
-    → ResponseRead q text placesAfter nodesAfter v
+    → ResponseRead q placesAfter nodesAfter v
 unfolding responseWithin
 words-refused q (Whole n) e some number place = absurd (some refl)
 words-refused q (Refused fault at n) e some number place = record { told = rw (← e) (number, place) }
 
 module _ {text lexemes names raw places nodes : List ℕ} {p : Progress} {n : ℕ} (w : Worded responseLimits text lexemes n)
-    (ready : Ready names raw places nodes p) where
+    (ready : Ready text names places nodes p) (raw-room : RowEach responseLimits text rawWidth raw) where
   -- what the reading of a response's commands asks
   abbrev pub responding : Responding text (take (lexemeWidth * n) lexemes) names raw places nodes p n
   responding =
@@ -49,14 +51,14 @@ module _ {text lexemes names raw places nodes : List ℕ} {p : Progress} {n : �
         known = ready .known;
         forms = ready .forms;
         tables = ready .tables;
-        raw-room = omega (arith, w .few, ready .raw-room);
-        nodes-room = omega (arith, w .few, ready .nodes-room);
+        raw-room = raw-room .room n (w .few) (w .short);
+        nodes-room = ready .nodes-room n (w .few) (w .short);
       }
 
   -- the commands are read
   pub commands-told : {placesAfter nodesAfter : List ℕ} {v : Verdict} {offset : ℕ} → Responded responding placesAfter nodesAfter v
       → offset ≡ cond (eqb (v .number) failAnswer || eqb (v .number) infeasibleAnswer) 0 (offsetOf text (v .place))
-      → ResponseRead ready text placesAfter nodesAfter (record { number = v .number; place = offset; rows = v .rows })
+      → ResponseRead ready placesAfter nodesAfter (record { number = v .number; place = offset; rows = v .rows })
   unfolding responseWithin
   commands-told {placesAfter} {nodesAfter} {v} {offset} done at =
       record { told = rw (w .whole) (go (answered allowed n (ready .known .defined) (inScriptOrder (ready .known .functions)) (itemsOf text)) (done .answers)) }

@@ -19,6 +19,8 @@ use Rattle.script_reader.specs.code.Commands.{Reads}
 use Rattle.script_reader.specs.code.Scripts.{ScriptAt, ScriptRead as CommandsRead}
 use Rattle.script_reader.specs.declared.Step.{Step}
 use Rattle.script.specs.Outcome.{byCommands, offsetOf, scriptOutcome}
+use Rattle.term_nodes.specs.code.Table.{rowWidth as rawWidth}
+use Rattle.texts.specs.code.Texts.{RowEach}
 use Rattle.texts.specs.code.Scripts.{Lent, ScriptRead, ScriptTold}
 use Rattle.texts.specs.code.Lexed.{Worded}
 use Rattle.texts.proofs.TextLexemes.{only-lexemes}
@@ -30,7 +32,8 @@ unfolding scriptOutcome
 words-refused (Whole n) e some told = absurd (some refl)
 words-refused (Refused fault place n) e some told = record { told = rw (← e) told }
 
-module _ {text lexemes names raw places nodes forms : List ℕ} {n : ℕ} (w : Worded scriptLimits text lexemes n) (lent : Lent names raw places nodes forms) where
+module _ {text lexemes names raw places nodes forms : List ℕ} {n : ℕ} (w : Worded scriptLimits text lexemes n) (lent : Lent text names places nodes forms)
+    (raw-room : RowEach scriptLimits text rawWidth raw) where
   -- what the reading of commands asks
   abbrev pub script-at : ScriptAt text (take (lexemeWidth * n) lexemes) names raw places nodes forms n
   script-at =
@@ -42,9 +45,9 @@ module _ {text lexemes names raw places nodes forms : List ℕ} {n : ℕ} (w : W
         table = lent .table;
         long = lent .long;
         roomy = record {
-          raw-room = omega (arith, w .few, lent .raw-room);
-          nodes-room = omega (arith, w .few, lent .nodes-room);
-          forms-room = omega (arith, w .few, lent .forms-room);
+          raw-room = raw-room .room n (w .few) (w .short);
+          nodes-room = lent .nodes-room .room n (w .few) (w .short);
+          forms-room = lent .forms-room .room n (w .few) (w .short);
         };
       }
 
@@ -57,6 +60,7 @@ module _ {text lexemes names raw places nodes forms : List ℕ} {n : ℕ} (w : W
       record { told = rw (w .whole) (go (readAll allowed n nothingKnown (itemsOf text)) (done .reads)) }
     where
       go : (r : Read) → Reads r namesAfter placesAfter nodesAfter formsAfter s
-          → ScriptTold (byCommands text r) namesAfter placesAfter nodesAfter formsAfter (record { number = s .number; place = offset; progress = s .progress })
+          → ScriptTold (byCommands text r) text namesAfter placesAfter nodesAfter formsAfter
+          (record { number = s .number; place = offset; progress = s .progress })
       go (refused number place) (e, f) = (e, at ∙ ap (offsetOf text) f)
-      go (passed k) (e, held) = (e, held, omega (arith, done .nodes-within e, w .few))
+      go (passed k) (e, held) = let within = done .nodes-within e in (e, held, omega (arith, within, w .few), omega (arith, within, w .short))

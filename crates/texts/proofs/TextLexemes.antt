@@ -1,6 +1,5 @@
 -- A text's words and lexemes, as the calls leave them.
-use Prim.Native.Nat.{ℕ, _*_, _/_, _≤_, min}
-use native.Mathlib.Nat.{min-eq-left}
+use Prim.Native.Nat.{ℕ, _*_, _≤_}
 use native.Mathlib.Omega.{arith}
 use mathlib.Core.Path.{_≡_, refl, sym, ap, _∙_}
 use mathlib.Core.List.{List, [], append-nil}
@@ -8,7 +7,7 @@ use lib.ListN.{length, take}
 use lib.Seq.{take-at}
 use Rattle.forest.specs.Tables.{over}
 use Rattle.forest.proofs.Rows.{length-rows}
-use Rattle.words.specs.Reading.{ReadWords, readingOf, roomFor, wordsRead}
+use Rattle.words.specs.Reading.{ReadWords, readingOf, wordsRead}
 use Rattle.words.specs.Table.{entries, wordTable, wordValues, rowWidth as wordWidth}
 use Rattle.words.specs.Words.{Word, wordsOf}
 use Rattle.words.proofs.Chains.{entries-long}
@@ -20,35 +19,45 @@ use Rattle.forest.specs.Limits.{scriptWords}
 use Rattle.lexemes.specs.code.Table.{lexemeRow, lexemeTable, rowWidth as lexemeWidth}
 use Rattle.lexemes.specs.code.Numbering.{Numbering}
 use Rattle.lexemes.proofs.WholeText.{whole-count, whole-few, whole-words}
-use Rattle.texts.specs.code.Texts.{Placed}
-use Rattle.texts.specs.code.Lexed.{Lexed, Room, Worded}
+use Rattle.texts.specs.code.Texts.{Placed, RowEach}
+use Rattle.texts.specs.code.Lexed.{Lexed, Room, Rooms, Worded}
+use Rattle.texts.proofs.Rooms.{found-roomy, full-room, short-room, words-few}
 use Rattle.script.proofs.Numbers.{read-whole}
 
--- a table of the size that the limits ask for
-pub room-of : {limits asked : Limits} {lexemes : List ℕ} → limits ≡ asked → asked .words ≤ scriptWords → length lexemes ≡ lexemeWidth * asked .words → Room limits lexemes
-room-of e few long = rw e (record { few-words = few; lexemes-room = omega arith })
+-- a table with room within the limits that are asked for
+pub room-of : {limits asked : Limits} {text lexemes : List ℕ} → limits ≡ asked → asked .words ≤ scriptWords → RowEach asked text lexemeWidth lexemes
+    → Room limits text lexemes
+room-of e few room = rw e (record { few-words = few; lexemes-room = room })
 
 -- the length of a table of lexemes
 lexemes-long : (text : List ℕ) (ws : List Word) → length (lexemeTable text ws) ≡ lexemeWidth * length ws
 unfolding lexemeTable
 lexemes-long text ws = rw (length-rows (lexemeRow text) lexemeWidth (λ e. refl) (entries ws 0), entries-long ws 0)
 
-module _ {limits : Limits} {text words values lexemes wordsAfter valuesAfter : List ℕ} {r : Reading} (room : Room limits lexemes) (rows : length words ≡ wordWidth * scriptWords)
-    (long : length values ≡ scriptWords) (read : ReadWords limits text words values r wordsAfter valuesAfter) where
-  -- the room is that of the limits
-  pub room-same : roomFor limits (length words / wordWidth) (length values) ≡ limits
-  room-same =
-      let all : min (limits .words) (min (length words / wordWidth) (length values)) ≡ limits .words = rw (rows, long) (min-eq-left (room .few-words)) in
-      rw all
+module _ {limits : Limits} {text words values lexemes : List ℕ} (room : Room limits text lexemes) where
+  -- the tables of a short text have room for its words
+  pub short-rooms : {most : ℕ} → length words ≡ wordWidth * most → length values ≡ 1 * most → length text ≤ most → Rooms limits text words values lexemes
+  short-rooms rows long h = record { words-room = short-room rows h; values-room = short-room long h; lexemes-room = room .lexemes-room }
 
+  -- and those of any
+  pub full-rooms : length words ≡ wordWidth * scriptWords → length values ≡ 1 * scriptWords → Rooms limits text words values lexemes
+  full-rooms rows long =
+      record { words-room = full-room rows (room .few-words); values-room = full-room long (room .few-words); lexemes-room = room .lexemes-room }
+
+module _ {limits : Limits} {text words values lexemes wordsAfter valuesAfter : List ℕ} {r : Reading} (room : Rooms limits text words values lexemes)
+    (read : ReadWords limits text words values r wordsAfter valuesAfter) where
   -- what was found is what is found within the limits
   pub found-same : r ≡ readingOf limits text
-  found-same = read .found ∙ ap (λ (l : Limits). readingOf l text) room-same
+  found-same = read .found ∙ found-roomy (room .words-room) (room .values-room)
 
   module _ (none : numberOf r ≡ 0) where
     -- the text is read whole
     pub whole : readingOf limits text ≡ Whole (passed r)
     whole = sym found-same ∙ read-whole limits text r found-same none
+
+    -- it has no more words than bytes
+    pub few-bytes : passed r ≤ length text
+    few-bytes = omega (arith, whole-count limits text (passed r) whole, words-few text)
 
     -- all of its words were read
     pub all-words : wordsRead text r ≡ wordsOf text
@@ -71,7 +80,7 @@ module _ {limits : Limits} {text words values lexemes wordsAfter valuesAfter : L
           is-words = rows-in-front;
           is-values = values-in-front;
           counted = e ∙ whole-count limits text (passed r) whole;
-          room = omega (arith, whole-few limits text (passed r) whole, room .lexemes-room);
+          room = rw e (room .lexemes-room .room (passed r) (whole-few limits text (passed r) whole) few-bytes);
         }
 
     -- a text that is read whole
@@ -80,7 +89,7 @@ module _ {limits : Limits} {text words values lexemes wordsAfter valuesAfter : L
     lexed-whole e =
         record {
           found = found-same;
-          worded = λ z. record { whole = whole; few = whole-few limits text (passed r) whole; rest = _; is-lexemes = e };
+          worded = λ z. record { whole = whole; few = whole-few limits text (passed r) whole; short = few-bytes; rest = _; is-lexemes = e };
         }
 
   -- a text of which a word is refused

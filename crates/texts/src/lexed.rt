@@ -1,4 +1,5 @@
 //! The words and lexemes of one text, and the offsets of its words.
+use crate::SHORT_SCRIPT;
 use forest::limits::SCRIPT_WORDS;
 use lexemes::numbering::number_words;
 use lexemes::start_at;
@@ -14,8 +15,22 @@ ghost use lib.ListN.{length};
 ghost use Rattle.forest.specs.Limits.{scriptWords};
 ghost use Rattle.words.specs.Table.{rowWidth};
 ghost use Rattle.script.specs.Outcome.{offsetOf};
-ghost use Rattle.texts.specs.code.Texts.{Placed};
-ghost use Rattle.texts.specs.code.Lexed.{Lexed, Room};
+ghost use Rattle.texts.specs.code.Texts.{Placed, shortScript};
+ghost use Rattle.texts.specs.code.Lexed.{Lexed, Room, Rooms};
+
+// Room for the rows of a short text's words.
+fn short_rows() -> [u32; table::ROW * SHORT_SCRIPT]
+    ensures { λ r. ⌜ length r ≡ rowWidth * shortScript ⌝ }
+{
+    [0; table::ROW * SHORT_SCRIPT]
+}
+
+// Room for the values of a short text's words.
+fn short_values() -> [u64; SHORT_SCRIPT]
+    ensures { λ r. ⌜ length r ≡ 1 * shortScript ⌝ }
+{
+    [0; SHORT_SCRIPT]
+}
 
 // Room for the rows of a text's words.
 fn word_rows() -> [u32; table::ROW * SCRIPT_WORDS]
@@ -26,23 +41,42 @@ fn word_rows() -> [u32; table::ROW * SCRIPT_WORDS]
 
 // Room for the values of a text's words.
 fn word_values() -> [u64; SCRIPT_WORDS]
-    ensures { λ r. ⌜ length r ≡ scriptWords ⌝ }
+    ensures { λ r. ⌜ length r ≡ 1 * scriptWords ⌝ }
 {
     [0; SCRIPT_WORDS]
 }
 
-// Reads the words of a text and, where none is refused, fills the table of its lexemes.
-pub fn read_lexemes(text: &[u8], limits: Limits, lexemes: &mut [u64]) -> Reading
-    requires { ⌜ Room limits (now lexemes) ⌝ }
+// Reads the words of a text into tables that have room for them and, where none is refused, fills the table of its lexemes.
+fn lexemes_in(
+    text: &[u8],
+    limits: Limits,
+    words: &mut [u32],
+    values: &mut [u64],
+    lexemes: &mut [u64],
+) -> Reading
+    requires { ⌜ Rooms limits (now text) (now words) (now values) (now lexemes) ⌝ }
     ensures { λ r. ⌜ Lexed limits (now (text .entry)) (now (lexemes .exit)) r ⌝ }
 {
-    let mut words = word_rows();
-    let mut values = word_values();
-    let reading = read_words(text, limits, &mut words, &mut values);
+    let reading = read_words(text, limits, words, values);
     if number_of(reading) == 0 {
-        number_words(text, &words, &values, passed_of(reading), lexemes);
+        number_words(text, words, values, passed_of(reading), lexemes);
     }
     reading
+}
+
+// Reads the words of a text and, where none is refused, fills the table of its lexemes.
+pub fn read_lexemes(text: &[u8], limits: Limits, lexemes: &mut [u64]) -> Reading
+    requires { ⌜ Room limits (now text) (now lexemes) ⌝ }
+    ensures { λ r. ⌜ Lexed limits (now (text .entry)) (now (lexemes .exit)) r ⌝ }
+{
+    if text.len() <= SHORT_SCRIPT {
+        let mut words = short_rows();
+        let mut values = short_values();
+        return lexemes_in(text, limits, &mut words, &mut values, lexemes);
+    }
+    let mut words = word_rows();
+    let mut values = word_values();
+    lexemes_in(text, limits, &mut words, &mut values, lexemes)
 }
 
 // The offset of a word of a text; the text's length where it has not so many words.

@@ -2,3 +2,8 @@
 mod lexed;
 pub mod responses;
 pub mod scripts;
+
+// How many bytes a short script and a short response have at most: tables of so many rows have room for their words.
+pub const SHORT_SCRIPT: usize = 2048;
+
+pub const SHORT_RESPONSE: usize = 512;

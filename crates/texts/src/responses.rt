@@ -1,4 +1,5 @@
 //! A response, from its bytes.
+use crate::SHORT_RESPONSE;
 use crate::lexed::offset_of;
 use crate::lexed::read_lexemes;
 use forest::limits::RESPONSE_WORDS;
@@ -17,10 +18,12 @@ ghost use Prim.Native.Nat.{_*_};
 ghost use lib.ListN.{length};
 ghost use Rattle.forest.specs.Limits.{responseWords};
 ghost use Rattle.lexemes.specs.code.Table.{rowWidth};
+ghost use Rattle.term_nodes.specs.code.Table.{rowWidth as rawWidth};
+ghost use Rattle.words.specs.Limits.{responseLimits};
 ghost use mathlib.Core.Bool.{_||_, cond};
 ghost use lib.Dec.{eqb};
 ghost use Rattle.script.specs.Outcome.{offsetOf};
-ghost use Rattle.texts.specs.code.Texts.{Placed};
+ghost use Rattle.texts.specs.code.Texts.{Placed, RowEach, shortResponse};
 ghost use Rattle.texts.specs.code.Responses.{ReadsResponse, Ready};
 
 // Room for the lexemes of a response.
@@ -28,6 +31,27 @@ fn lexeme_rows() -> [u64; ROW * RESPONSE_WORDS]
     ensures { λ r. ⌜ length r ≡ rowWidth * responseWords ⌝ }
 {
     [0; ROW * RESPONSE_WORDS]
+}
+
+// Room for the lexemes of a short response.
+fn short_lexemes() -> [u64; ROW * SHORT_RESPONSE]
+    ensures { λ r. ⌜ length r ≡ rowWidth * shortResponse ⌝ }
+{
+    [0; ROW * SHORT_RESPONSE]
+}
+
+// Room for what is gathered of a response.
+fn raw_rows() -> [u64; term_nodes::ROW * RESPONSE_WORDS]
+    ensures { λ r. ⌜ length r ≡ rawWidth * responseWords ⌝ }
+{
+    [0; term_nodes::ROW * RESPONSE_WORDS]
+}
+
+// Room for what is gathered of a short response.
+fn short_raw() -> [u64; term_nodes::ROW * SHORT_RESPONSE]
+    ensures { λ r. ⌜ length r ≡ rawWidth * shortResponse ⌝ }
+{
+    [0; term_nodes::ROW * SHORT_RESPONSE]
 }
 
 // The offset of a refusal of a response, by its number and its word; 10 and 11 have the offset 0.
@@ -41,21 +65,23 @@ fn refusal_offset(text: &[u8], lexemes: &[u64], count: usize, number: usize, wor
     offset_of(text, lexemes, count, word)
 }
 
-// Reads a response to a script whose tables are given: its bodies stand in the tables, or it is refused at an offset.
-pub fn read_response_text(
+// Reads a response with tables that have room for its lexemes and for what is gathered of it: its bodies stand in the others, or it is refused at an offset.
+fn response_in(
     text: &[u8],
+    lexemes: &mut [u64],
     names: &[u8],
     raw: &mut [u64],
     places: &mut [u64],
     nodes: &mut [u64],
     progress: Progress,
 ) -> Verdict
-    requires { ⌜ Ready (now names) (now raw) (now places) (now nodes) progress ⌝ }
-    ensures { λ r. ⌜ ReadsResponse (now (text .entry)) (now (names .entry)) (now (raw .entry)) (now (places .entry)) (now (nodes .entry)) progress
+    requires { ⌜ Ready (now text) (now names) (now places) (now nodes) progress ⌝ }
+    requires { ⌜ RowEach responseLimits (now text) rowWidth (now lexemes) ⌝ }
+    requires { ⌜ RowEach responseLimits (now text) rawWidth (now raw) ⌝ }
+    ensures { λ r. ⌜ ReadsResponse (now (text .entry)) (now (names .entry)) (now (places .entry)) (now (nodes .entry)) progress
         (now (places .exit)) (now (nodes .exit)) r ⌝ }
 {
-    let mut lexemes = lexeme_rows();
-    let reading = read_lexemes(text, response_limits(), &mut lexemes);
+    let reading = read_lexemes(text, response_limits(), lexemes);
     if number_of(reading) != 0 {
         return Verdict {
             number: number_of(reading) as usize,
@@ -76,7 +102,29 @@ pub fn read_response_text(
     );
     Verdict {
         number: verdict.number,
-        place: refusal_offset(text, &lexemes, count, verdict.number, verdict.place),
+        place: refusal_offset(text, lexemes, count, verdict.number, verdict.place),
         rows: verdict.rows,
     }
+}
+
+// Reads a response to a script whose tables are given: its bodies stand in the tables, or it is refused at an offset.
+pub fn read_response_text(
+    text: &[u8],
+    names: &[u8],
+    places: &mut [u64],
+    nodes: &mut [u64],
+    progress: Progress,
+) -> Verdict
+    requires { ⌜ Ready (now text) (now names) (now places) (now nodes) progress ⌝ }
+    ensures { λ r. ⌜ ReadsResponse (now (text .entry)) (now (names .entry)) (now (places .entry)) (now (nodes .entry)) progress
+        (now (places .exit)) (now (nodes .exit)) r ⌝ }
+{
+    if text.len() <= SHORT_RESPONSE {
+        let mut lexemes = short_lexemes();
+        let mut raw = short_raw();
+        return response_in(text, &mut lexemes, names, &mut raw, places, nodes, progress);
+    }
+    let mut lexemes = lexeme_rows();
+    let mut raw = raw_rows();
+    response_in(text, &mut lexemes, names, &mut raw, places, nodes, progress)
 }

@@ -1,4 +1,5 @@
 //! A script, from its bytes.
+use crate::SHORT_SCRIPT;
 use crate::lexed::offset_of;
 use crate::lexed::read_lexemes;
 use forest::limits::SCRIPT_WORDS;
@@ -15,6 +16,9 @@ ghost use Prim.Native.Nat.{_*_};
 ghost use lib.ListN.{length};
 ghost use Rattle.forest.specs.Limits.{scriptWords};
 ghost use Rattle.lexemes.specs.code.Table.{rowWidth};
+ghost use Rattle.term_nodes.specs.code.Table.{rowWidth as rawWidth};
+ghost use Rattle.words.specs.Limits.{scriptLimits};
+ghost use Rattle.texts.specs.code.Texts.{RowEach, shortScript};
 ghost use Rattle.texts.specs.code.Scripts.{Lent, ScriptRead};
 
 // Room for the lexemes of a script.
@@ -22,6 +26,27 @@ fn lexeme_rows() -> [u64; ROW * SCRIPT_WORDS]
     ensures { λ r. ⌜ length r ≡ rowWidth * scriptWords ⌝ }
 {
     [0; ROW * SCRIPT_WORDS]
+}
+
+// Room for the lexemes of a short script.
+fn short_lexemes() -> [u64; ROW * SHORT_SCRIPT]
+    ensures { λ r. ⌜ length r ≡ rowWidth * shortScript ⌝ }
+{
+    [0; ROW * SHORT_SCRIPT]
+}
+
+// Room for what is gathered of a script.
+fn raw_rows() -> [u64; term_nodes::ROW * SCRIPT_WORDS]
+    ensures { λ r. ⌜ length r ≡ rawWidth * scriptWords ⌝ }
+{
+    [0; term_nodes::ROW * SCRIPT_WORDS]
+}
+
+// Room for what is gathered of a short script.
+fn short_raw() -> [u64; term_nodes::ROW * SHORT_SCRIPT]
+    ensures { λ r. ⌜ length r ≡ rawWidth * shortScript ⌝ }
+{
+    [0; term_nodes::ROW * SHORT_SCRIPT]
 }
 
 // The refusal of a word of a script, by its number and its offset.
@@ -36,20 +61,22 @@ fn refused_word(number: usize, place: usize) -> Step
     }
 }
 
-// Reads a script: the tables hold what it says, or it is refused at an offset.
-pub fn read_script_text(
+// Reads a script with tables that have room for its lexemes and for what is gathered of it: the others hold what it says, or it is refused at an offset.
+fn script_in(
     text: &[u8],
+    lexemes: &mut [u64],
     names: &mut [u8],
     raw: &mut [u64],
     places: &mut [u64],
     nodes: &mut [u64],
     forms: &mut [u64],
 ) -> Step
-    requires { ⌜ Lent (now names) (now raw) (now places) (now nodes) (now forms) ⌝ }
+    requires { ⌜ Lent (now text) (now names) (now places) (now nodes) (now forms) ⌝ }
+    requires { ⌜ RowEach scriptLimits (now text) rowWidth (now lexemes) ⌝ }
+    requires { ⌜ RowEach scriptLimits (now text) rawWidth (now raw) ⌝ }
     ensures { λ r. ⌜ ScriptRead (now (text .entry)) (now (names .exit)) (now (places .exit)) (now (nodes .exit)) (now (forms .exit)) r ⌝ }
 {
-    let mut lexemes = lexeme_rows();
-    let reading = read_lexemes(text, script_limits(), &mut lexemes);
+    let reading = read_lexemes(text, script_limits(), lexemes);
     if number_of(reading) != 0 {
         return refused_word(number_of(reading) as usize, place_of(reading));
     }
@@ -67,7 +94,28 @@ pub fn read_script_text(
     let progress = step.progress;
     Step {
         number: step.number,
-        place: offset_of(text, &lexemes, count, step.place),
+        place: offset_of(text, lexemes, count, step.place),
         progress,
     }
+}
+
+// Reads a script: the tables hold what it says, or it is refused at an offset.
+pub fn read_script_text(
+    text: &[u8],
+    names: &mut [u8],
+    places: &mut [u64],
+    nodes: &mut [u64],
+    forms: &mut [u64],
+) -> Step
+    requires { ⌜ Lent (now text) (now names) (now places) (now nodes) (now forms) ⌝ }
+    ensures { λ r. ⌜ ScriptRead (now (text .entry)) (now (names .exit)) (now (places .exit)) (now (nodes .exit)) (now (forms .exit)) r ⌝ }
+{
+    if text.len() <= SHORT_SCRIPT {
+        let mut lexemes = short_lexemes();
+        let mut raw = short_raw();
+        return script_in(text, &mut lexemes, names, &mut raw, places, nodes, forms);
+    }
+    let mut lexemes = lexeme_rows();
+    let mut raw = raw_rows();
+    script_in(text, &mut lexemes, names, &mut raw, places, nodes, forms)
 }

@@ -64,5 +64,8 @@ fn is_mark(byte: u8) -> bool
 pub fn in_symbol(byte: u8) -> bool
     ensures { λ r. ⌜ r ≡ symbolByte byte ⌝ }
 {
-    is_letter(byte) | is_digit(byte) | is_mark(byte)
+    if is_letter(byte) {
+        return true;
+    }
+    is_digit(byte) | is_mark(byte)
 }

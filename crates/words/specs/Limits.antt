@@ -2,7 +2,7 @@
 use Rattle.forest.specs.Limits.{mostNesting, responseBytes, responseWords, scriptBytes, scriptWords}
 use Rattle.words.specs.declared.Limits.{Limits}
 
--- "Script 32,768 bytes and 4,096 words, brackets counted; .. nesting 64"
+-- "Allow 65,536 bytes and 8,192 words of script" (E10), "brackets counted; .. nesting 64"
 abbrev pub scriptLimits : Limits
 scriptLimits = record { bytes = scriptBytes; words = scriptWords; nesting = mostNesting }
 

@@ -11,9 +11,9 @@ pub struct Input {
 /// The most blocks of a script: so many reach the limits of functions, `define-fun`s, constraints, words and bytes.
 pub const MOST_BLOCKS: usize = 8;
 /// The words of a block; the first one makes room for those of the script's frame.
-pub const BLOCK_WORDS: usize = 512;
+pub const BLOCK_WORDS: usize = 1_024;
 /// The bytes of a block.
-const BLOCK_BYTES: usize = 4_096;
+const BLOCK_BYTES: usize = 8_192;
 /// The most numbers of points.
 pub const MOST_POINTS: usize = 1_024;
 /// What begins a script of blocks.
@@ -71,13 +71,24 @@ fn count_words(text: &str) -> usize {
     apart.split_whitespace().count()
 }
 
+/// A term of 32 bits that is so many operators deep and applies each to a name, by turns.
+fn chain(depth: usize, names: [&str; 2]) -> String {
+    let begin = repeated(depth, |level| {
+        let (operator, name) = (OPERATORS[level % OPERATORS.len()], names[level % 2]);
+        format!("({operator} {name}\n  ")
+    });
+    format!("{begin}#x{depth:08X}{}", ")".repeat(depth))
+}
+
 /// Four `define-fun`s, a `synth-fun` and eight constraints with so many words.
 fn block(index: usize, words: usize) -> String {
     let definitions = repeated(4, |number| {
-        format!("(define-fun combine_{index}_{number} {ARGUMENTS}\n  (bvxor first_word (bvadd second_word #x0000000{number})))\n")
+        let body = chain(number + 10, ["first_word", "second_word"]);
+        format!("(define-fun combine_{index}_{number} {ARGUMENTS}\n  {body})\n")
     });
     let constraints = repeated(8, |number| {
-        format!("(constraint (= (compute_{index} left_reading left_reading)\n  (bvadd left_reading #x0000000{number})))\n")
+        let sum = chain(number + 4, ["left_reading"; 2]);
+        format!("(constraint (= (compute_{index} left_reading left_reading)\n  {sum}))\n")
     });
     let missing = words - count_words(&definitions) - count_words(&constraints);
     definitions + &function(index, missing) + &constraints
@@ -94,9 +105,13 @@ fn function(index: usize, words: usize) -> String {
         "first_word second_word (ite Condition Word Word)\n    (bvnot Word) (bvneg Word)\n    ";
     let end = "))\n   (Condition Bool ((= Word Word) (bvult Word Word) (and Condition Condition) (not Condition)))))\n";
     let text = format!("{begin}{}{calls}{rules}", binary.concat());
-    let literals = words - count_words(&text) - count_words(end);
+    let missing = words - count_words(&text) - count_words(end);
+    let terms = repeated(missing / 6, |number| {
+        format!("(bvadd Word #x{number:08X})\n    ")
+    });
+    let literals = missing - count_words(&terms);
     let literals = repeated(literals, |number| format!("#x{number:08X} "));
-    format!("{text}{literals}{end}")
+    format!("{text}{terms}{literals}{end}")
 }
 
 /// A body that such a function's grammar derives, so many operators deep.
@@ -196,11 +211,14 @@ mod tests {
     #[test]
     fn the_largest_script_is_as_large_as_may_be() {
         let input = blocks(MOST_BLOCKS);
+        let mut area = vec![0; AREA_LENGTH];
+        let answer = check(&input.script, &input.response, &[], 0, &mut area);
+        assert_eq!((answer.number, answer.place), (0, 0));
         let text = String::from_utf8(input.script).expect("a text");
         let lines = text.lines().map(|line| line.split(';').next());
         let words = lines.map(|line| count_words(line.expect("a part")));
-        assert_eq!(words.sum::<usize>(), 4_096);
-        assert!((32_700..=32_768).contains(&text.len()), "{}", text.len());
+        assert_eq!(words.sum::<usize>(), 8_192);
+        assert!((65_500..=65_536).contains(&text.len()), "{}", text.len());
         assert!((4_000..=8_192).contains(&input.response.len()));
         assert!((1_024..=2_048).contains(&typical().script.len()));
     }

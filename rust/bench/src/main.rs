@@ -5,8 +5,8 @@
 mod inputs;
 
 use inputs::{
-    applications, assumptions, blocks, constraints, typical, unknown, Input, BLOCK_WORDS, MOST_BLOCKS,
-    MOST_POINTS,
+    applications, assumptions, blocks, constraints, typical, unknown, Input, BLOCK_WORDS,
+    MOST_BLOCKS, MOST_POINTS,
 };
 use std::io;
 use std::process::ExitCode;
@@ -20,6 +20,10 @@ const RUNS: usize = 200;
 const LONGEST: Duration = Duration::from_secs(4);
 /// The last operator of the table, and an earlier one of as many letters and of the same sort rule.
 const OPERATORS: [&str; 2] = ["bvuge", "bvult"];
+/// How many times as long as the simple checker the proved one may take for the largest script: "at most four times", by request E10.
+const REQUESTED: f64 = 4.0;
+/// What is held instead of that, for the largest script, for a typical one and for evaluation.
+const GOALS: [f64; 3] = [0.5, 0.4, 0.3];
 /// How many times as long as with the earlier operator a script may take with the last one.
 const MOST_APART: f64 = 1.05;
 /// A literal, an operator's name and another name, of which a further word is read.
@@ -209,20 +213,25 @@ fn run() -> io::Result<bool> {
         );
         return Ok(true);
     }
-    println!("time of the proved checker, ratio to that of the simple one");
+    println!("time of the proved checker, ratio to that of the simple one; request E10 asks for at most {REQUESTED} of the largest script");
+    let [largest, common, evaluation] = GOALS;
     let met = [
         found_alike,
-        judge("largest script", &scripts[scripts.len() - 1].1, 2.0),
-        judge("typical script", &measured(&mut library, &typical())?, 4.0),
+        judge("largest script", &scripts[scripts.len() - 1].1, largest),
+        judge(
+            "typical script",
+            &measured(&mut library, &typical())?,
+            common,
+        ),
         judge(
             "64 constraints at 1,024 points",
             &evaluations[evaluations.len() - 1].1,
-            2.0,
+            evaluation,
         ),
         judge(
             "32 assumptions and 64 constraints at 1,024 points",
             &assumed(&mut library)?,
-            2.0,
+            evaluation,
         ),
     ];
     Ok(met.into_iter().all(|met| met))

@@ -5,8 +5,8 @@ use crate::points::{bits, Origin, MOST_NUMBERS};
 use crate::stated::Stated;
 use simple::grammar::Sorted;
 
-/// "Script 32,768 bytes".
-pub const MOST_SCRIPT_BYTES: usize = 32_768;
+/// "Allow 65,536 bytes ... of script".
+pub const MOST_SCRIPT_BYTES: usize = 65_536;
 /// "response 8,192".
 pub const MOST_RESPONSE_BYTES: usize = 8_192;
 

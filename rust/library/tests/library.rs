@@ -7,7 +7,7 @@ const SCRIPT: &[u8] = include_bytes!("../../../examples/swap.sy");
 /// The response of the shipped example.
 const RESPONSE: &[u8] = include_bytes!("../../../examples/swap.response");
 /// One byte more than a script may have.
-const TOO_LONG: usize = 32_769;
+const TOO_LONG: usize = 65_537;
 
 /// An answer without units and without a position.
 fn answer(number: u8, text: u8, place: u64, second: u64) -> Answer {

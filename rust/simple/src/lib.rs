@@ -24,8 +24,8 @@ pub use places::{position, Position};
 pub use terms::operands;
 pub use words::word;
 
-/// "Script 32,768 bytes".
-pub const MOST_SCRIPT_BYTES: usize = 32_768;
+/// "Allow 65,536 bytes ... of script".
+pub const MOST_SCRIPT_BYTES: usize = 65_536;
 /// "response 8,192".
 pub const MOST_RESPONSE_BYTES: usize = 8_192;
 /// "1,024 point numbers".

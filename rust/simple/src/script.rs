@@ -10,8 +10,8 @@ use crate::terms::{
 use crate::tree::{trees, Tree};
 use crate::{words, Fault};
 
-/// "Script 32,768 bytes and 4,096 words, brackets counted".
-pub const MOST_WORDS: usize = 4_096;
+/// "Allow 65,536 bytes and 8,192 words of script", "brackets counted".
+pub const MOST_WORDS: usize = 8_192;
 /// "8 synthesized functions".
 const MOST_SYNTHESIZED: usize = 8;
 /// "32 `define-fun`s".

@@ -75,6 +75,6 @@ abbrev pub NamesBody : (text lexemes names raw nodes : List ℕ) → Seen → Ta
 NamesBody text lexemes names raw nodes seen target rawAfter nodesAfter r =
     (p : Naming text lexemes names raw nodes seen (target .count) (target .base) (target .nowhere)) → Named p rawAfter nodesAfter r
 
--- The column of sorts before it is filled: "4,096 words".
+-- The column of sorts before it is filled: "8,192 words of script" (E10).
 unfoldable pub noSorts : List ℕ
 noSorts = replicate scriptWords 0

@@ -7,6 +7,8 @@ use lib.ListN.{length}
 use Rattle.forest.specs.Limits.{responseWords, scriptWords}
 use Rattle.terms.specs.code.Nodes.{rowWidth as nodeWidth}
 use Rattle.names.specs.code.Lookup.{Names}
+use Rattle.words.specs.Limits.{scriptLimits}
+use Rattle.texts.specs.code.Texts.{RowEach}
 use Rattle.script.specs.Script.{Known}
 use Rattle.script.specs.code.Places.{placesLength}
 use Rattle.script.specs.declared.Progress.{Progress}
@@ -27,12 +29,16 @@ pub record Judging (script response points area : List ℕ) : Type 0 where
   pub sized : sizeAnswer script response points area ≡ nothing
   pub blank : area ≡ blankArea
 
--- Tables of names and of places, a row for each word of a script and of a response among the nodes, and one for each word of a script among the forms.
-pub record Lent (names places nodes forms : List ℕ) : Type 0 where
+-- A row for each word of a script and of a response among the nodes, and one for each word of the script among the forms.
+pub record Rooms (script response nodes forms : List ℕ) : Type 0 where
+  pub nodes-room : (n m : ℕ) → n ≤ scriptWords → n ≤ length script → m ≤ responseWords → m ≤ length response → nodeWidth * (n + m) ≤ length nodes
+  pub forms-room : RowEach scriptLimits script nodeWidth forms
+
+-- And tables of names and of places.
+pub record Lent (script response names places nodes forms : List ℕ) : Type 0 where
   pub table : Names names
   pub long : length places ≡ placesLength
-  pub nodes-room : nodeWidth * (scriptWords + responseWords) ≤ length nodes
-  pub forms-room : nodeWidth * scriptWords ≤ length forms
+  pub rooms : Rooms script response nodes forms
 
 -- Both texts pass: the tables hold what the script says and the bodies that the response gives.
 pub record BothHeld (script response names places nodes forms : List ℕ) (p : Progress) : Type 0 where

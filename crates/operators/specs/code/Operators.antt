@@ -1,12 +1,13 @@
 -- What the functions of the operator table ask and give.
 use Prim.Native.Nat.{ℕ, _<_}
 use mathlib.Core.Bool.{cond, false}
-use mathlib.Core.List.{List, [], _∷_}
+use mathlib.Core.List.{List, [], _∷_, map}
 use mathlib.Core.Option.{some}
 use mathlib.Core.Path.{_≡_}
 use lib.Dec.{eqb}
 use lib.ListN.{getD}
-use Rattle.operators.specs.Operators.{operatorAt, operatorSort, operatorValue}
+use Rattle.forest.specs.Lists.{spelling}
+use Rattle.operators.specs.Operators.{Operator, operatorAt, operatorSort, operatorValue}
 use Rattle.operators.specs.Sorts.{AllFit}
 use Rattle.operators.specs.Values.{andValue, orValue, xorValue}
 use Rattle.operators.specs.code.Vectors.{Words}
@@ -22,6 +23,10 @@ orNumber = 2
 -- The number of `extract`.
 abbrev pub extractNumber : ℕ
 extractNumber = 22
+
+-- The bytes of the names of the rows.
+abbrev pub spellings : List Operator → List (List ℕ)
+spellings rows = map spelling (map (λ (o : Operator). o .name) rows)
 
 -- `and`, `or` and, by any other number, `xor` of two operands.
 abbrev pub pairValue : (operator a b : ℕ) → ℕ

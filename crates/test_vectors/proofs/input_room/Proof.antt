@@ -5,7 +5,7 @@ use Rattle.test_vectors.proofs.input_room.Statement.{statement}
 use Rattle.test_vectors.proofs.input_room.Tie as tie
 
 returns : tie.Need-returns
-returns c = sym (length-replicate {A = ℕ} 2800000 0)
+returns c = sym (length-replicate {A = ℕ} 5000000 0)
 
 pub input-room-spec : {M : Type 1} → statement M
 input-room-spec = tie.close (tie.spec returns)

@@ -1,9 +1,10 @@
 -- What the reading of the words and lexemes of one text asks and gives.
-use Prim.Native.Nat.{ℕ, _+_, _*_, _≤_}
+use Prim.Native.Nat.{ℕ, _≤_}
 use mathlib.Core.List.{List, _++_}
 use mathlib.Core.Path.{_≡_}
 use lib.ListN.{length}
 use Rattle.words.specs.Reading.{readingOf}
+use Rattle.words.specs.Table.{rowWidth as wordWidth}
 use Rattle.words.specs.Words.{wordsOf}
 use Rattle.forest.specs.Limits.{scriptWords}
 use Rattle.lexemes.specs.code.Table.{lexemeTable, rowWidth as lexemeWidth}
@@ -11,16 +12,24 @@ use Rattle.words.specs.Answers.{numberOf, passed}
 use Rattle.words.specs.declared.Limits.{Limits}
 use Rattle.words.specs.declared.Reading.{Reading}
 use Rattle.words.specs.declared.Reading.the-variants.{Whole}
+use Rattle.texts.specs.code.Texts.{RowEach}
 
--- The limits are not past those of a script, and there is a row for each word that they allow.
-pub record Room (limits : Limits) (lexemes : List ℕ) : Type 0 where
+-- The limits are not past those of a script, and there is a row for each word.
+pub record Room (limits : Limits) (text lexemes : List ℕ) : Type 0 where
   pub few-words : limits .words ≤ scriptWords
-  pub lexemes-room : lexemeWidth * limits .words ≤ length lexemes
+  pub lexemes-room : RowEach limits text lexemeWidth lexemes
+
+-- There is a row, a value and a lexeme for each word.
+pub record Rooms (limits : Limits) (text words values lexemes : List ℕ) : Type 0 where
+  pub words-room : RowEach limits text wordWidth words
+  pub values-room : RowEach limits text 1 values
+  pub lexemes-room : RowEach limits text lexemeWidth lexemes
 
 -- A text is read whole, and the table begins with its lexemes.
 pub record Worded (limits : Limits) (text lexemes : List ℕ) (n : ℕ) : Type 0 where
   pub whole : readingOf limits text ≡ Whole n
   pub few : n ≤ limits .words
+  pub short : n ≤ length text
   pub rest : List ℕ
   pub is-lexemes : lexemes ≡ lexemeTable text (wordsOf text) ++ rest
 

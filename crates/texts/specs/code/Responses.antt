@@ -5,7 +5,6 @@ use mathlib.Core.Path.{_≡_}
 use lib.ListN.{drop, length}
 use Rattle.forest.specs.Limits.{responseWords}
 use Rattle.terms.specs.code.Nodes.{rowWidth as nodeWidth}
-use Rattle.term_nodes.specs.code.Table.{rowWidth as rawWidth}
 use Rattle.script.specs.Script.{Known}
 use Rattle.script.specs.code.Tables.{GrammarsHold, TablesHold}
 use Rattle.script.specs.code.Places.{functionsPlace}
@@ -14,13 +13,12 @@ use Rattle.script.specs.declared.Verdict.{Verdict}
 use Rattle.response.specs.code.Answers.{BodiesHeld}
 use Rattle.script.specs.Outcome.{ResponseOutcome, faulty, given, responseOutcome}
 
--- The tables hold what a script says, and there is a row for each of the "2,048" words of a response, among the nodes behind those of the script.
-pub record Ready (names raw places nodes : List ℕ) (p : Progress) : Type 0 where
+-- The tables hold what a script says, and there is a row for each word of a response, among the nodes behind those of the script.
+pub record Ready (text names places nodes : List ℕ) (p : Progress) : Type 0 where
   pub known : Known
   pub forms : List ℕ
   pub tables : TablesHold names places nodes forms p known
-  pub raw-room : rawWidth * responseWords ≤ length raw
-  pub nodes-room : nodeWidth * (p .nodes + responseWords) ≤ length nodes
+  pub nodes-room : (n : ℕ) → n ≤ responseWords → n ≤ length text → nodeWidth * (p .nodes + n) ≤ length nodes
 
 -- What was read of a response: a refusal with its number and offset; or the bodies, which the tables hold with the grammars that they held before.
 abbrev pub ResponseTold : ResponseOutcome → Known → (text places nodes forms : List ℕ) → Progress → Verdict → Type 0
@@ -29,10 +27,10 @@ ResponseTold (given bs) k text places nodes forms p v =
     (v .number ≡ 0) × BodiesHeld text places nodes (p .nodes + v .rows) k bs × GrammarsHold (drop functionsPlace places) forms (p .forms) (k .functions)
 
 -- The same, by the response's text.
-pub record ResponseRead {names raw places nodes : List ℕ} {p : Progress} (q : Ready names raw places nodes p) (text placesAfter nodesAfter : List ℕ)
+pub record ResponseRead {text names places nodes : List ℕ} {p : Progress} (q : Ready text names places nodes p) (placesAfter nodesAfter : List ℕ)
     (v : Verdict) : Type 0 where
   pub told : ResponseTold (responseOutcome (q .known) text) (q .known) text placesAfter nodesAfter (q .forms) p v
 
 -- What the reading of a response's text gives.
-abbrev pub ReadsResponse : (text names raw places nodes : List ℕ) → Progress → (placesAfter nodesAfter : List ℕ) → Verdict → Type 0
-ReadsResponse text names raw places nodes p placesAfter nodesAfter v = (q : Ready names raw places nodes p) → ResponseRead q text placesAfter nodesAfter v
+abbrev pub ReadsResponse : (text names places nodes : List ℕ) → Progress → (placesAfter nodesAfter : List ℕ) → Verdict → Type 0
+ReadsResponse text names places nodes p placesAfter nodesAfter v = (q : Ready text names places nodes p) → ResponseRead q placesAfter nodesAfter v

@@ -797,7 +797,7 @@ pub fn mutate_bytes(random: &mut Random, text: &mut Vec<u8>) {
     match random.below(8) {
         0 | 1 if at < text.len() => text[at] ^= 1 << random.below(8),
         2 | 3 if at < text.len() => drop(text.remove(at)),
-        4 if random.percent(10) => text.resize(random.between(8_190, 33_000), b' '),
+        4 if random.percent(10) => text.resize(random.between(8_190, 66_000), b' '),
         5 => text.insert(at, random.number() as u8),
         _ => text.insert(at, random.pick(b" \n\r\t\x0b\x0c\x00();\"|:#x0'\x80\xff")),
     }

@@ -108,9 +108,9 @@ const LIMITS: [Limit; 28] = [
     (|counts| &mut counts.binary_digits, 64),
     (|counts| &mut counts.decimal_digits, 20),
     (|counts| &mut counts.constant_width, 64),
-    (|counts| &mut counts.script_words, 4_096),
+    (|counts| &mut counts.script_words, 8_192),
     (|counts| &mut counts.response_words, 2_048),
-    (|counts| &mut counts.script_bytes, 32_768),
+    (|counts| &mut counts.script_bytes, 65_536),
     (|counts| &mut counts.response_bytes, 8_192),
     (|counts| &mut counts.point_numbers, 1_024),
 ];

@@ -26,8 +26,10 @@ fn number(script: &str, response: &str) -> u8 {
 fn script_bytes() {
     let script = script_with("");
     let padded = |length: usize| script.clone() + &" ".repeat(length - script.len());
-    assert_eq!(answer(&padded(32_768), TRUE, &[], 0), ACCEPTED);
-    assert_eq!(answer(&padded(32_769), TRUE, &[], 0), in_script(1, 32_769));
+    for length in [32_769, 65_536] {
+        assert_eq!(answer(&padded(length), TRUE, &[], 0), ACCEPTED);
+    }
+    assert_eq!(answer(&padded(65_537), TRUE, &[], 0), in_script(1, 65_537));
 }
 
 #[test]
@@ -43,16 +45,16 @@ fn response_bytes() {
 
 #[test]
 fn script_words() {
-    let mut commands = repeated(7, |_| {
+    let mut commands = repeated(15, |_| {
         format!("(constraint {})\n", conjunction("true", 128))
     });
-    let left = 4_096 - count_words(&script_with(&commands));
+    let left = 8_192 - count_words(&script_with(&commands));
     let negations = 3 * left % 4;
     let leaves = (left - 3 * negations) / 4;
     let double = conjunction("true", leaves).replacen("true", &negated("true", negations), 1);
     commands += &format!("(constraint {double})");
     let script = script_with(&commands);
-    assert_eq!(count_words(&script), 4_096);
+    assert_eq!(count_words(&script), 8_192);
     assert!(matches!(number(&script, TRUE), 0 | 14));
     let longer = script.clone() + " x";
     let place = script.len() + 1;
@@ -356,7 +358,7 @@ fn area_length() {
 #[test]
 fn lengths_come_first_in_their_order() {
     for (lengths, (text, place)) in [
-        ([40_000, 9_000, 2_000], (0, 40_000)),
+        ([70_000, 9_000, 2_000], (0, 70_000)),
         ([0, 9_000, 2_000], (1, 9_000)),
         ([0, 0, 2_000], (2, 2_000)),
         ([0, 0, 0], (3, 3)),

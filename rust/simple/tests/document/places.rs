@@ -177,7 +177,7 @@ fn the_other_answers_carry_0() {
     assert_eq!(carried(response, &[1], 9), (0, 0, 0, 0, 0));
     assert_eq!(carried(&[b'\n'; 8_193], &[], 0), (1, 8_193, 0, 0, 0));
     assert_eq!(carried(response, &[1; 1_025], 0), (1, 1_025, 0, 0, 0));
-    assert_eq!(in_script(&[b'\n'; 40_000]), (1, 40_000, 0, 0, 0));
+    assert_eq!(in_script(&[b'\n'; 70_000]), (1, 70_000, 0, 0, 0));
     let mut short = [7; 9];
     let refused = check(script.as_bytes(), response, &[], 0, &mut short);
     assert_eq!(of(&refused), (1, 9, 0, 0, 0));

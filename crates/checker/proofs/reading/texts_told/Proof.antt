@@ -1,4 +1,4 @@
-use Rattle.checker.proofs.BothTexts.{both-told, one-told, texts-long}
+use Rattle.checker.proofs.BothTexts.{full-rooms, short-rooms, texts-long}
 use borrow.Author.Needs.{needs}
 use Rattle.checker.proofs.reading.texts_told.Statement.{statement}
 use Rattle.checker.proofs.reading.texts_told.Tie as tie
@@ -7,13 +7,25 @@ length-answer-requires : tie.Need-length-answer-requires
 length-answer-requires c κs = search needs
 
 returns : tie.Need-returns
-returns c = search texts-long
+returns c = texts-long (c .before .before .length-answer .ensures) (c .if1 .taken)
 
-no-names-requires : tie.Need-no-names-requires
-no-names-requires c κs = search needs
+short-nodes-requires : tie.Need-short-nodes-requires
+short-nodes-requires c κs = search needs
 
-no-places-requires : tie.Need-no-places-requires
-no-places-requires c κs = search needs
+short-forms-requires : tie.Need-short-forms-requires
+short-forms-requires c κs = search needs
+
+slice-aggregate-told-in : tie.Need-slice-aggregate-told-in
+slice-aggregate-told-in c = search needs
+
+slice-aggregate-told-in-2 : tie.Need-slice-aggregate-told-in-2
+slice-aggregate-told-in-2 c = search needs
+
+told-in-requires : tie.Need-told-in-requires
+told-in-requires c κs = (c .before .before .before .before .before .before .before .length-answer .ensures .passes (c .before .before .before .before .before .if1 .left), short-rooms (c .before .before .before .short-nodes .ensures) (c .before .before .short-forms .ensures) (c .before .before .before .before .if2 .taken))
+
+returns-2 : tie.Need-returns-2
+returns-2 c = c .before .before .told-in .ensures
 
 node-room-requires : tie.Need-node-room-requires
 node-room-requires c κs = search needs
@@ -21,30 +33,17 @@ node-room-requires c κs = search needs
 form-room-requires : tie.Need-form-room-requires
 form-room-requires c κs = search needs
 
-slice-aggregate-read-texts : tie.Need-slice-aggregate-read-texts
-slice-aggregate-read-texts c = search needs
+slice-aggregate-told-in-3 : tie.Need-slice-aggregate-told-in-3
+slice-aggregate-told-in-3 c = search needs
 
-slice-aggregate-read-texts-2 : tie.Need-slice-aggregate-read-texts-2
-slice-aggregate-read-texts-2 c = search needs
+slice-aggregate-told-in-4 : tie.Need-slice-aggregate-told-in-4
+slice-aggregate-told-in-4 c = search needs
 
-slice-aggregate-read-texts-3 : tie.Need-slice-aggregate-read-texts-3
-slice-aggregate-read-texts-3 c = search needs
-
-slice-aggregate-read-texts-4 : tie.Need-slice-aggregate-read-texts-4
-slice-aggregate-read-texts-4 c = search needs
-
-read-texts-requires : tie.Need-read-texts-requires
-read-texts-requires c κs = search needs
-
-returns-2 : tie.Need-returns-2
-returns-2 c = one-told (c .before .before .before .before .before .before .before .before .before .before .before .before .before .before .before .before .before .before .length-answer .ensures) (c .before .before .before .before .before .before .before .before .before .before .before .before .before .before .before .before .if1 .left) (c .before .before .before .before .before .before .before .read-texts .ensures) (c .before .if2 .taken)
-
-refusal-requires : tie.Need-refusal-requires
-refusal-requires c κs = search needs
+told-in-requires-2 : tie.Need-told-in-requires-2
+told-in-requires-2 c κs = (c .before .before .before .before .before .before .before .length-answer .ensures .passes (c .before .before .before .before .before .if1 .left), full-rooms (c .before .before .before .node-room .ensures) (c .before .before .form-room .ensures))
 
 returns-3 : tie.Need-returns-3
-returns-3 c =
-    both-told (c .before .before .before .before .before .before .before .before .before .before .before .before .before .before .before .before .before .before .length-answer .ensures) (c .before .before .before .before .before .before .before .before .before .before .before .before .before .before .before .before .if1 .left) (c .before .before .before .before .before .before .before .read-texts .ensures) (c .before .if2 .left) (c .refusal .ensures)
+returns-3 c = c .before .before .told-in2 .ensures
 
 pub texts-told-spec : {M : Type 1} → statement M
 texts-told-spec =
@@ -52,15 +51,15 @@ texts-told-spec =
     (tie.spec
     length-answer-requires
     returns
-    no-names-requires
-    no-places-requires
+    short-nodes-requires
+    short-forms-requires
+    slice-aggregate-told-in
+    slice-aggregate-told-in-2
+    told-in-requires
+    returns-2
     node-room-requires
     form-room-requires
-    slice-aggregate-read-texts
-    slice-aggregate-read-texts-2
-    slice-aggregate-read-texts-3
-    slice-aggregate-read-texts-4
-    read-texts-requires
-    returns-2
-    refusal-requires
+    slice-aggregate-told-in-3
+    slice-aggregate-told-in-4
+    told-in-requires-2
     returns-3)

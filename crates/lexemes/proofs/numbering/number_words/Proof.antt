@@ -1,106 +1,96 @@
 use native.Mathlib.Omega.{arith}
 use Prim.Native.Nat.{_-_}
-use lib.ListN.{length-set}
 use borrow.Author.Needs.{needs}
-use Rattle.lexemes.proofs.Filling.{Filling, filling-asks, filling-begins, filling-ends, filling-goes, value-there}
+use Rattle.lexemes.proofs.Filling.{Filling, filling-begins, filling-ends, filling-goes, row-room, word-end, word-start}
 use Rattle.lexemes.proofs.numbering.number_words.Statement.{statement}
 use Rattle.lexemes.proofs.numbering.number_words.Tie as tie
 
 abbrev Inv-loop : tie.InvT-loop
-Inv-loop text words values count lexemes₀ word₀ lexemes word = Filling text lexemes₀ count lexemes word
+Inv-loop text words values count lexemes₀ names starts slots operators places others word₀ lexemes word =
+    Filling text lexemes₀ count lexemes word
 
 abbrev μ-loop : tie.MeasureT-loop
-μ-loop text words values count lexemes₀ word₀ lexemes word = count - word
+μ-loop text words values count lexemes₀ names starts slots operators places others word₀ lexemes word =
+    count - word
+
+first-names-requires : tie.Need-first-names-requires Inv-loop μ-loop
+first-names-requires c κs = search needs
+
+first-starts-requires : tie.Need-first-starts-requires Inv-loop μ-loop
+first-starts-requires c κs = search needs
+
+first-slots-requires : tie.Need-first-slots-requires Inv-loop μ-loop
+first-slots-requires c κs = search needs
+
+operator-names-requires : tie.Need-operator-names-requires Inv-loop μ-loop
+operator-names-requires c κs = search needs
+
+operator-starts-requires : tie.Need-operator-starts-requires Inv-loop μ-loop
+operator-starts-requires c κs = search needs
+
+operator-slots-requires : tie.Need-operator-slots-requires Inv-loop μ-loop
+operator-slots-requires c κs = search needs
 
 loop-holds : tie.Need-loop-holds Inv-loop μ-loop
 loop-holds c = filling-begins _ _ _
 
-mul-at : tie.Need-mul-at Inv-loop μ-loop
-mul-at c = omega arith
-
-code-of-requires : tie.Need-code-of-requires Inv-loop μ-loop
-code-of-requires c κs = search filling-asks
-
-mul-lexemes : tie.Need-mul-lexemes Inv-loop μ-loop
-mul-lexemes c = search needs
-
-slice-write-lexemes : tie.Need-slice-write-lexemes Inv-loop μ-loop
-slice-write-lexemes c = omega arith
-
-next-at-requires : tie.Need-next-at-requires Inv-loop μ-loop
-next-at-requires c κs = search needs
-
-add-lexemes : tie.Need-add-lexemes Inv-loop μ-loop
-add-lexemes c = omega arith
-
-mul-lexemes-2 : tie.Need-mul-lexemes-2 Inv-loop μ-loop
-mul-lexemes-2 c = search needs
-
-slice-write-lexemes-2 : tie.Need-slice-write-lexemes-2 Inv-loop μ-loop
-slice-write-lexemes-2 c = rw length-set (omega arith)
-
-mul-lexemes-3 : tie.Need-mul-lexemes-3 Inv-loop μ-loop
-mul-lexemes-3 c = search needs
-
-shared-slice-read-lexemes : tie.Need-shared-slice-read-lexemes Inv-loop μ-loop
-shared-slice-read-lexemes c = search value-there
-
-add-lexemes-2 : tie.Need-add-lexemes-2 Inv-loop μ-loop
-add-lexemes-2 c = omega arith
-
-mul-lexemes-4 : tie.Need-mul-lexemes-4 Inv-loop μ-loop
-mul-lexemes-4 c = search needs
-
-slice-write-lexemes-3 : tie.Need-slice-write-lexemes-3 Inv-loop μ-loop
-slice-write-lexemes-3 c = simp length-set (omega arith)
-
 start-at-requires : tie.Need-start-at-requires Inv-loop μ-loop
 start-at-requires c κs = search needs
-
-add-lexemes-3 : tie.Need-add-lexemes-3 Inv-loop μ-loop
-add-lexemes-3 c = omega arith
-
-mul-lexemes-5 : tie.Need-mul-lexemes-5 Inv-loop μ-loop
-mul-lexemes-5 c = search needs
-
-slice-write-lexemes-4 : tie.Need-slice-write-lexemes-4 Inv-loop μ-loop
-slice-write-lexemes-4 c = simp length-set (omega arith)
 
 end-at-requires : tie.Need-end-at-requires Inv-loop μ-loop
 end-at-requires c κs = search needs
 
-add-lexemes-4 : tie.Need-add-lexemes-4 Inv-loop μ-loop
-add-lexemes-4 c = omega arith
+kind-at-requires : tie.Need-kind-at-requires Inv-loop μ-loop
+kind-at-requires c κs = search needs
 
-mul-lexemes-6 : tie.Need-mul-lexemes-6 Inv-loop μ-loop
-mul-lexemes-6 c = search needs
+cast-code-of : tie.Need-cast-code-of Inv-loop μ-loop
+cast-code-of c = search needs
 
-slice-write-lexemes-5 : tie.Need-slice-write-lexemes-5 Inv-loop μ-loop
-slice-write-lexemes-5 c = simp length-set (omega arith)
+sub-code-of : tie.Need-sub-code-of Inv-loop μ-loop
+sub-code-of c = search word-start
 
-width-at-requires : tie.Need-width-at-requires Inv-loop μ-loop
-width-at-requires c κs = search needs
+part-code-of-start : tie.Need-part-code-of-start Inv-loop μ-loop
+part-code-of-start c = search word-start
 
-cast-lexemes : tie.Need-cast-lexemes Inv-loop μ-loop
-cast-lexemes c = search needs
+part-code-of-end : tie.Need-part-code-of-end Inv-loop μ-loop
+part-code-of-end c = search word-end
 
-add-lexemes-5 : tie.Need-add-lexemes-5 Inv-loop μ-loop
-add-lexemes-5 c = omega arith
+slice-aggregate-code-of : tie.Need-slice-aggregate-code-of Inv-loop μ-loop
+slice-aggregate-code-of c = search needs
 
-mul-lexemes-7 : tie.Need-mul-lexemes-7 Inv-loop μ-loop
-mul-lexemes-7 c = search needs
+slice-aggregate-code-of-2 : tie.Need-slice-aggregate-code-of-2 Inv-loop μ-loop
+slice-aggregate-code-of-2 c = search needs
 
-slice-write-lexemes-6 : tie.Need-slice-write-lexemes-6 Inv-loop μ-loop
-slice-write-lexemes-6 c = simp length-set (omega arith)
+slice-aggregate-code-of-3 : tie.Need-slice-aggregate-code-of-3 Inv-loop μ-loop
+slice-aggregate-code-of-3 c = search needs
+
+slice-aggregate-code-of-4 : tie.Need-slice-aggregate-code-of-4 Inv-loop μ-loop
+slice-aggregate-code-of-4 c = search needs
+
+slice-aggregate-code-of-5 : tie.Need-slice-aggregate-code-of-5 Inv-loop μ-loop
+slice-aggregate-code-of-5 c = search needs
+
+slice-aggregate-code-of-6 : tie.Need-slice-aggregate-code-of-6 Inv-loop μ-loop
+slice-aggregate-code-of-6 c = search needs
+
+code-of-requires : tie.Need-code-of-requires Inv-loop μ-loop
+code-of-requires c κs =
+    record {
+      first = record { names-are = c .before .before .before .before .before .before .before .before .before .before .before .before .before .before .before .before .before .first-names .ensures; starts-are = c .before .before .before .before .before .before .before .before .before .before .before .before .before .before .before .before .first-starts .ensures; slots-are = c .before .before .before .before .before .before .before .before .before .before .before .before .before .before .before .first-slots .ensures };
+      operators-behind = record { names-are = c .before .before .before .before .before .before .before .before .before .before .before .before .before .before .operator-names .ensures; starts-are = c .before .before .before .before .before .before .before .before .before .before .before .before .before .operator-starts .ensures; slots-are = c .before .before .before .before .before .before .before .before .before .before .before .before .operator-slots .ensures };
+    }
+
+put-row-requires : tie.Need-put-row-requires Inv-loop μ-loop
+put-row-requires c κs = row-room (c .before .before .before .before .before .before .before .before .before .before .before .before .before .before .before .before .before .before .before .before .before .before .before .before .pre) (c .before .before .before .before .before .before .before .before .before .before .before .before .loop-test .taken) (c .before .before .before .before .before .before .before .before .before .before .before .before .before .loop .inv)
 
 add-word : tie.Need-add-word Inv-loop μ-loop
-add-word c = omega arith
+add-word c = let h = c .before .before .before .before .before .before .before .before .before .before .before .before .before .before .before .loop-test .taken in let g = c .before .before .before .before .before .before .before .before .before .before .before .before .before .before .before .before .before .before .before .before .before .before .before .before .before .before .before .good in omega arith
 
 loop-less : tie.Need-loop-less Inv-loop μ-loop
 loop-less c = omega arith
 
 loop-again : tie.Need-loop-again Inv-loop μ-loop
-loop-again c = search filling-goes
+loop-again c = filling-goes (c .before .before .before .before .before .before .before .before .before .before .before .before .before .before .before .before .before .before .before .before .before .before .before .before .before .before .before .pre) (c .before .before .before .before .before .before .before .before .before .before .before .before .before .before .before .loop-test .taken) (c .before .before .before .before .before .before .before .before .before .before .before .before .before .before .before .before .loop .inv) (c .before .before .before .before .before .before .before .before .before .before .before .before .before .before .start-at .ensures) (c .before .before .before .before .before .before .before .before .before .before .before .before .before .end-at .ensures) (c .before .before .before .before .before .before .before .before .before .before .before .before .kind-at .ensures) (c .before .before .before .before .code-of .ensures) (c .before .before .put-row .ensures)
 
 same-length : tie.Need-same-length Inv-loop μ-loop
 same-length c = c .before .loop .inv .long
@@ -114,33 +104,28 @@ number-words-spec =
     (tie.spec
     Inv-loop
     μ-loop
+    first-names-requires
+    first-starts-requires
+    first-slots-requires
+    operator-names-requires
+    operator-starts-requires
+    operator-slots-requires
     loop-holds
-    mul-at
-    code-of-requires
-    mul-lexemes
-    slice-write-lexemes
-    next-at-requires
-    add-lexemes
-    mul-lexemes-2
-    slice-write-lexemes-2
-    mul-lexemes-3
-    shared-slice-read-lexemes
-    add-lexemes-2
-    mul-lexemes-4
-    slice-write-lexemes-3
     start-at-requires
-    add-lexemes-3
-    mul-lexemes-5
-    slice-write-lexemes-4
     end-at-requires
-    add-lexemes-4
-    mul-lexemes-6
-    slice-write-lexemes-5
-    width-at-requires
-    cast-lexemes
-    add-lexemes-5
-    mul-lexemes-7
-    slice-write-lexemes-6
+    kind-at-requires
+    cast-code-of
+    sub-code-of
+    part-code-of-start
+    part-code-of-end
+    slice-aggregate-code-of
+    slice-aggregate-code-of-2
+    slice-aggregate-code-of-3
+    slice-aggregate-code-of-4
+    slice-aggregate-code-of-5
+    slice-aggregate-code-of-6
+    code-of-requires
+    put-row-requires
     add-word
     loop-less
     loop-again

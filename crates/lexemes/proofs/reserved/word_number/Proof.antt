@@ -1,9 +1,7 @@
-use mathlib.Core.Path.{refl}
 use native.Mathlib.Omega.{arith}
-use Rattle.forest.specs.code.Search.{slotFrom}
-use Rattle.forest.proofs.Searching.{slotted}
+use Rattle.forest.proofs.Searching.{tables-slotted}
 use Rattle.operators.proofs.Naming.{operator-bound}
-use Rattle.lexemes.proofs.WordNumbers.{firstSpellings, number-decimal, number-first, number-long, number-operator}
+use Rattle.lexemes.proofs.WordNumbers.{number-decimal, number-first, number-long, number-operator}
 use borrow.Author.Needs.{needs}
 use Rattle.lexemes.proofs.reserved.word_number.Statement.{statement}
 use Rattle.lexemes.proofs.reserved.word_number.Tie as tie
@@ -20,21 +18,11 @@ returns c = search number-long
 returns-2 : tie.Need-returns-2
 returns-2 c = search number-decimal
 
-slice-aggregate-find-word : tie.Need-slice-aggregate-find-word
-slice-aggregate-find-word c = search needs
-
-slice-aggregate-find-word-2 : tie.Need-slice-aggregate-find-word-2
-slice-aggregate-find-word-2 c = search needs
-
-slice-aggregate-find-word-3 : tie.Need-slice-aggregate-find-word-3
-slice-aggregate-find-word-3 c = search needs
-
 find-word-requires : tie.Need-find-word-requires
-unfolding slotFrom
-find-word-requires c κs = slotted firstSpellings _ refl tt
+find-word-requires c κs = tables-slotted (c .before .before .before .before .before .before .before .before .before .pre .first)
 
 returns-3 : tie.Need-returns-3
-returns-3 c = search number-first
+returns-3 c = number-first (c .before .before .before .before .before .before .before .before .before .before .before .pre .first) _ (c .before .before .before .is-decimal .ensures) (c .before .before .if1 .left) _ (c .before .find-word .ensures) (c .if3 .taken)
 
 operator-of-requires : tie.Need-operator-of-requires
 operator-of-requires c κs = search needs
@@ -43,7 +31,7 @@ add-result : tie.Need-add-result
 add-result c = omega (arith, operator-bound _ (c .operator-of .ensures))
 
 returns-4 : tie.Need-returns-4
-returns-4 c = search number-operator
+returns-4 c = number-operator (c .before .before .before .before .before .before .before .before .before .before .before .before .pre .first) _ (c .before .before .before .before .is-decimal .ensures) (c .before .before .before .if1 .left) _ (c .before .before .find-word .ensures) (c .before .if3 .left) (c .operator-of .ensures)
 
 pub word-number-spec : {M : Type 1} → statement M
 word-number-spec =
@@ -53,9 +41,6 @@ word-number-spec =
     is-long-requires
     returns
     returns-2
-    slice-aggregate-find-word
-    slice-aggregate-find-word-2
-    slice-aggregate-find-word-3
     find-word-requires
     returns-3
     operator-of-requires
