@@ -1,5 +1,5 @@
-/* A console that underlines the fault of a script or of a response: console SCRIPT RESPONSE. Points are none, so that only texts and derivations are checked,
-   unless the script has no variables. include/sverdhyll.h says how to link it. */
+/* A console that underlines the fault of a script or of a response, and the declaration of a name that is taken: console SCRIPT RESPONSE. Points are none, so that
+   only texts and derivations are checked, unless the script has no variables. include/sverdhyll.h says how to link it. */
 #include <stdio.h>
 
 #include "sverdhyll.h"
@@ -19,15 +19,24 @@ static int read_text(const char *name, struct text *text)
     return !fclose(file);
 }
 
-/* Prints the line of an answer's place, and carets under the word there, or one where the text ends. */
-static void underline(const struct text *text, const uint64_t *answer)
+/* Prints the line that has a place in a column, and carets under the word that ends there, or one where the text ends. */
+static void underline(const struct text *text, uint64_t place, uint64_t column, uint64_t end)
 {
-    const uint64_t place = answer[SVERDHYLL_PLACE], line = place + 1 - answer[SVERDHYLL_COLUMN];
+    const uint64_t line = place + 1 - column;
     for (uint64_t at = line; at < text->length && text->bytes[at] != '\n'; at++) putchar(text->bytes[at]);
     putchar('\n');
     for (uint64_t at = line; at < place; at++) putchar(text->bytes[at] == '\t' ? '\t' : ' ');
-    for (uint64_t at = place; at == place || at < answer[SVERDHYLL_END]; at++) putchar('^');
+    for (uint64_t at = place; at == place || at < end; at++) putchar('^');
     putchar('\n');
+}
+
+/* Prints where a name that is taken was declared, which the second number of answer 7 says. */
+static void declaration(const char *name, const struct text *script, uint64_t place)
+{
+    uint64_t line, column;
+    sverdhyll_position(script->bytes, script->length, place, &line, &column);
+    printf("%s:%d:%d: declared here\n", name, (int)line, (int)column);
+    underline(script, place, column, place + sverdhyll_word(script->bytes, script->length, place));
 }
 
 int main(int count, char **names)
@@ -40,6 +49,7 @@ int main(int count, char **names)
     const uint64_t text = answer[SVERDHYLL_TEXT];
     if (answer[SVERDHYLL_LINE] > 0) printf("%s:%d:%d: ", names[1 + text], (int)answer[SVERDHYLL_LINE], (int)answer[SVERDHYLL_COLUMN]);
     printf("answer %d\n", number);
-    if (answer[SVERDHYLL_LINE] > 0) underline(&texts[text], answer);
+    if (answer[SVERDHYLL_LINE] > 0) underline(&texts[text], answer[SVERDHYLL_PLACE], answer[SVERDHYLL_COLUMN], answer[SVERDHYLL_END]);
+    if (number == SVERDHYLL_NAME && answer[SVERDHYLL_SECOND] > 0) declaration(names[1], &texts[0], answer[SVERDHYLL_SECOND]);
     return number != SVERDHYLL_ACCEPTED;
 }

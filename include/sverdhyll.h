@@ -98,7 +98,9 @@ enum {
    |     |                                      |         | the word; the text's length where it ends early   |              |       |
    |   6 | not carried                          | 0, 1    | the same; for a word that is itself not carried,  | 0            | 0     |
    |     |                                      |         | that word                                         |              |       |
-   |   7 | name unknown, taken or reserved      | 0, 1    | the name                                          | 0            | 0     |
+   |   7 | name unknown or reserved             | 0, 1    | the name                                          | 0            | 0     |
+   |     | name taken                           | 0       | the name                                          | place of its | 0     |
+   |     |                                      |         |                                                   | declaration  |       |
    |   8 | sort fault                           | 0, 1    | first word of the faulty sort, or of the faulty   | 0            | 0     |
    |     |                                      |         | term whose operands have no fault                 |              |       |
    |   9 | grammar fault                        | 0       | first word of the rule, the listed name (the      | 0            | 0     |
@@ -140,7 +142,7 @@ uint8_t sverdhyll_check(const uint8_t *script, size_t script_len, const uint8_t 
    puts the sixteen numbers of the answer where `answer` points (which may not be NULL).
 
    It is 1 where the script or the response is too long, and 2 to 12 where one of them is refused, each as in the table above, with the end, the line and the
-   column that sverdhyll_answer gives; the second number and the units are 0. Where both texts pass it is 0: the text is 3, and all numbers behind that are 0.
+   column that sverdhyll_answer gives; the units are 0. Where both texts pass it is 0: the text is 3, and all numbers behind that are 0.
 
    With points and an area that answer 1 does not refuse, sverdhyll_answer gives the same sixteen numbers where this is 1 to 12, and 0 or 13 to 16 where this is
    0. A text that is too long is answered alike, whatever points and area are. */

@@ -1,7 +1,7 @@
 """Cases of the checker, each with the answer that follows from how it is made: the rows of the table of answers, points and budgets, calls and costs, what is
 seen, and the bench. Those of the limits stand in limits.py.
 
-A text may have the mark § in it, which is no part of it: it stands at the answer's place.
+A text may have the mark § in it, which is no part of it: it stands at the answer's place. Where a name is taken, the mark ¤ stands at the place of its declaration.
 """
 from collections import namedtuple
 
@@ -12,6 +12,7 @@ Case = namedtuple("Case", "name script response points budget area answer locati
 AREA = 32768
 MOST_BUDGET = 2 ** 64 - 1
 MARK = "§"
+DECLARED = "¤"
 
 
 # Answers
@@ -54,15 +55,22 @@ def bad_points(place):
 # Cases
 
 def unmarked(text):
-    """A text without its mark."""
-    return text.replace(MARK, "")
+    """A text without its marks."""
+    return text.replace(MARK, "").replace(DECLARED, "")
+
+
+def place_of(mark, text):
+    """The place of a mark in a text without marks."""
+    return len(unmarked(text.partition(mark)[0]))
 
 
 def case(script, response, answer, points=(), budget=100, area=AREA, name=""):
-    """A case; an answer that has no place has that of the mark."""
+    """A case; an answer that has no place has that of the mark, and a name that is taken the place of the other mark as second number."""
     if answer[2] is None:
         text = 0 if MARK in script else 1
-        answer = (answer[0], text, (script, response)[text].index(MARK)) + answer[3:]
+        answer = (answer[0], text, place_of(MARK, (script, response)[text])) + answer[3:]
+    if answer[0] == 7 and DECLARED in script:
+        answer = answer[:3] + (place_of(DECLARED, script),) + answer[4:]
     texts = [unmarked(text).encode("latin-1") for text in (script, response)]
     return Case(name, texts[0], texts[1], tuple(points), budget, area, answer)
 
@@ -178,8 +186,8 @@ def refused_scripts():
             "§(set-logic LIA)", beside("§(define-sort B () Bool)"), beside("§(synth-fun g () Bool)"), beside("§(constraint (let ((x true)) x))"),
             beside("(constraint §\"x\")"), beside("§(constraint (= #x00 (_ bv 8)))")],
         7: [
-            beside("(declare-var §and Bool)"), beside("(declare-var §f Bool)"), beside("(declare-var x §Int)"), beside("(constraint §x)"),
-            script("(define-fun d ((a Bool) (§a Bool)) Bool a)"), beside("(define-fun d () Bool §f)")],
+            beside("(declare-var §and Bool)"), script(function("¤f"), "(declare-var §f Bool)"), beside("(declare-var x §Int)"), beside("(constraint §x)"),
+            script("(define-fun d ((¤a Bool) (§a Bool)) Bool a)"), beside("(define-fun d () Bool §f)")],
         8: [
             beside("(declare-var x §(_ BitVec 0))"), beside("(constraint §#x00)"), beside("(constraint §5)"),
             beside("(constraint (not §(bvult true #x00)))"), beside("(constraint (= #x00 §((_ extract 8 1) #x00)))"),

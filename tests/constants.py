@@ -181,7 +181,7 @@ def names():
         case(script(defined("bv5", X, BYTE, "x"), function(), constraint("(= #x05 (bv5 §8))")), TRUE, refused(8)),
         case(script(defined("bv5", X, BYTE, "x"), function(), constraint("(= #x05 §bv5)")), TRUE, refused(8)),
         case(beside(variables(BYTE), constraint("(= v0 (bvnot §bv5))")), TRUE, refused(7)), case(beside(constraint("(= #x05 (§bv5 #x05))")), TRUE, refused(7)),
-        case(beside(defined("bv5"), "(declare-var §bv5 Bool)"), TRUE, refused(7))])
+        case(beside(defined("¤bv5"), "(declare-var §bv5 Bool)"), TRUE, refused(7))])
 
 
 def names_in_grammars():

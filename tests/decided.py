@@ -3,9 +3,9 @@
 
 Writes crates/test_decided/proofs/Readings.antt from tests/readings.jsonl: the readings whose texts have no fault in a word and at most 200 printable bytes each, without
 comments. Writes proofs/Limits.antt from crates/test_vectors: the records at the limits on commands, arguments, non-terminals, rules, nodes, operands, and digits and widths
-of constants, and one past them. Each is proved of the definitions by its answer's number and the index of the word at its place. Writes proofs/Located.antt from the
-readings and the records on places (tests/located.py) whose answers carry an end, a line and a column, of texts of at most 200 bytes, whatever these are. With --check it
-says whether these files are what it would write.
+of constants, and one past them. Each is proved of the definitions by its answer's number and the index of the word at its place, of a script also by that of the word
+of its second number, 0 for none. Writes proofs/Located.antt from the readings and the records on places (tests/located.py) whose answers carry an end, a line and a
+column, of texts of at most 200 bytes, whatever these are. With --check it says whether these files are what it would write.
 """
 import glob
 import json
@@ -105,7 +105,7 @@ use Rattle.forest.specs.Lists.{spelling}
 """
 
 DEFINITIONS = """
--- A reading: a script, a response, and the number and the word of the refusal; nothing where both pass.
+-- A reading: a script, a response, and the number and the word of the refusal, of a script also the word of its second number; nothing where both pass.
 pub record Reading : Type 0 where
   pub script : String
   pub response : String
@@ -122,7 +122,7 @@ bodiesAnswer (bodies ts) = []
 
 -- The answer to a script, and where it passes to the response, a text.
 abbrev pub bothAnswer : (response : List ℕ) → Read → List ℕ
-bothAnswer response (refused number place) = number ∷ place ∷ []
+bothAnswer response (refused number place second) = number ∷ place ∷ second ∷ []
 bothAnswer response (passed k) =
     bodiesAnswer (answered allowed (length (wordsOf response)) (k .defined) (inScriptOrder (k .functions)) (itemsOf response))
 
@@ -188,12 +188,12 @@ def word_at(text, offset):
 def case_of(script, response, answer, longest):
     """A case from its texts in hexadecimal and its answer, as (script, response, answer) in words; None where the table does not have it."""
     script, response = plain(script, longest), plain(response, longest)
-    number, text, place = answer[:3]
+    number, text, place, second = answer[:4]
     if script is None or number in NOT_BY_WORDS or not well_formed(script):
         return None
     if text == SCRIPT:
         word = word_at(script, place)
-        return None if word is None else (script, "", (number, word))
+        return None if word is None else (script, "", (number, word, word_at(script, second) if second else 0))
     if response is None or not well_formed(response):
         return None
     if number in WITHOUT_WORD:
@@ -288,7 +288,7 @@ def unfolded():
 def row(case):
     """A row of the table."""
     script, response, answer = case
-    return 'row "%s" "%s" %s' % (script, response, "(%d ∷ %d ∷ [])" % answer if answer else "[]")
+    return 'row "%s" "%s" %s' % (script, response, "(%s ∷ [])" % " ∷ ".join(map(str, answer)) if answer else "[]")
 
 
 def table(sentence, name, theorem, cases, names):

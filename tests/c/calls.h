@@ -87,7 +87,7 @@ static inline int passes(struct answer own)
 static inline int agrees(struct answer own, struct answer a)
 {
     if (a.number < SVERDHYLL_TOO_LONG || a.number > SVERDHYLL_HEADER) return passes(own);
-    return is_answer(own, a.number, a.text, a.place, 0, 0) && is_at(own, a.end, a.line, a.column) && a.second == 0 && a.units == 0;
+    return is_answer(own, a.number, a.text, a.place, a.second, 0) && is_at(own, a.end, a.line, a.column) && a.units == 0;
 }
 
 /* How many entries the list of a function has, if all behind it up to the next list are unused; else -1. */

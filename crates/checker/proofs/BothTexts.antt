@@ -27,8 +27,8 @@ use Rattle.script.proofs.Numbers.{Numbered, inResponse, inScript, response-numb
 use Rattle.outcome.specs.code.Texts.{noText, scriptText, responseText}
 use Rattle.checker.proofs.BothTables.{held}
 use Rattle.outcome.proofs.Script.{script-assured}
-use Rattle.outcome.specs.Checked.{Checked, Passing, TextsTold, both-pass, judged, refusal, refused, response-refused, script-refused, texts-refused}
-use Rattle.outcome.specs.Checked.{lengthAnswer, too-long}
+use Rattle.outcome.specs.Checked.{Checked, Passing, TextsTold, both-pass, judged, refusal, refusalWith, refused, response-refused, script-refused}
+use Rattle.outcome.specs.Checked.{lengthAnswer, texts-refused, too-long}
 use Rattle.outcome.specs.declared.Outcome.{Outcome}
 use Rattle.verdicts.specs.code.Derive.{Derivable}
 use Rattle.checker.specs.code.Judge.{BodiesDerived, BothHeld, Judging, Lent, PointsJudged, Rooms, TextsRead}
@@ -64,22 +64,22 @@ pub blank-names : Names (replicate (nameWidth * rowCount) 0)
 blank-names =
     record {
       sized = length-replicate {A = ℕ} (nameWidth * rowCount) 0;
-      short = λ r h. rw (getD-replicate {A = ℕ} (nameWidth * rowCount) (nameWidth * r + 1) 0 0 (omega arith)) (omega arith);
+      short = λ r h. rw (getD-replicate {A = ℕ} (nameWidth * rowCount) (nameWidth * r + 3) 0 0 (omega arith)) (omega arith);
       narrow = λ r h. rw (getD-replicate {A = ℕ} (nameWidth * rowCount) (nameWidth * r) 0 0 (omega arith)) (omega arith);
     }
 
 module _ {script names places nodes forms : List ℕ} {s : Step} (read : ScriptRead script names places nodes forms s) where
   -- a script that is refused
-  pub script-declined : {response : List ℕ} {o : Outcome} {p : Progress} → o ≡ refusal (s .number) scriptText (s .place) → (s .number ≡ 0 → ⊥)
-      → TextsRead script response names places nodes forms (record { outcome = o; progress = p })
+  pub script-declined : {response : List ℕ} {o : Outcome} {p : Progress} → o ≡ refusalWith (s .number) scriptText (s .place) (s .second)
+      → (s .number ≡ 0 → ⊥) → TextsRead script response names places nodes forms (record { outcome = o; progress = p })
   script-declined {response} {o} {p} e some = go (scriptOutcome script) refl (read .told)
     where
       go : (t : ScriptOutcome) → scriptOutcome script ≡ t → ScriptTold t script names places nodes forms s
           → TextsRead script response names places nodes forms (record { outcome = o; progress = p })
-      go (ScriptOutcome.faulty number offset) is (n, at) =
+      go (ScriptOutcome.faulty number offset second) is (n, at, also) =
           record {
             both! = λ zero. absurd (some (sym (ap (λ (x : Outcome). x .number) e) ∙ zero));
-            one! = λ other. rw (e, n, at) (script-refused is);
+            one! = λ other. rw (e, n, at, also) (script-refused is);
           }
       go (said k) is (n, holds, few, short) = absurd (some n)
 
@@ -95,8 +95,8 @@ module _ {script names places nodes forms : List ℕ} {s : Step} (read : ScriptR
     script-passed = go (scriptOutcome script) refl (read .told)
       where
         go : (o : ScriptOutcome) → scriptOutcome script ≡ o → ScriptTold o script names places nodes forms s → Passed
-        go (ScriptOutcome.faulty number offset) e (f, g) =
-            let h : Numbered inScript (ScriptOutcome.faulty number offset) = rw e at (script-numbered script) in
+        go (ScriptOutcome.faulty number offset second) e (f, g, also) =
+            let h : Numbered inScript (ScriptOutcome.faulty number offset second) = rw e at (script-numbered script) in
             absurd (omega (arith, h .some))
         go (said k) e told = record { known = k; is = e; told = told }
 

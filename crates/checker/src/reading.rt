@@ -11,6 +11,7 @@ use outcome::refusal;
 use script::Progress;
 use script::answers::ACCEPTED;
 use script::places::PLACES;
+use script_reader::Step;
 use texts::SHORT_RESPONSE;
 use texts::SHORT_SCRIPT;
 use texts::responses::read_response_text;
@@ -24,7 +25,8 @@ ghost use Rattle.terms.specs.code.Nodes.{rowWidth as nodeWidth};
 ghost use Rattle.texts.specs.code.Texts.{shortResponse, shortScript};
 ghost use Rattle.names.specs.code.Lookup.{Names};
 ghost use mathlib.Core.Option.{none as nothing};
-ghost use Rattle.outcome.specs.Checked.{TextsTold, lengthAnswer};
+ghost use Rattle.outcome.specs.Checked.{TextsTold, lengthAnswer, refusalWith};
+ghost use Rattle.outcome.specs.code.Texts.{scriptText};
 ghost use Rattle.checker.specs.code.Judge.{Lent, Rooms, TextsRead};
 
 // The answer on two texts, whose number is 0 where both pass; and what the script has said.
@@ -75,6 +77,19 @@ pub(crate) fn short_forms() -> [u64; terms::ROW * SHORT_SCRIPT]
     [0; terms::ROW * SHORT_SCRIPT]
 }
 
+// The answer on a script that is refused.
+fn script_refusal(step: Step) -> Outcome
+    ensures { λ r. ⌜ r ≡ refusalWith (step .number) scriptText (step .place) (step .second) ⌝ }
+{
+    Outcome {
+        number: step.number,
+        text: SCRIPT,
+        place: step.place,
+        second: step.second,
+        units: 0,
+    }
+}
+
 // Reads a script and a response to it: the tables hold both, or one is refused at an offset.
 pub(crate) fn read_texts(
     script: &[u8],
@@ -92,7 +107,7 @@ pub(crate) fn read_texts(
     let progress = step.progress;
     if step.number != ACCEPTED {
         return Told {
-            outcome: refusal(step.number, SCRIPT, step.place),
+            outcome: script_refusal(step),
             progress,
         };
     }

@@ -11,7 +11,7 @@ use Rattle.forest.specs.Forest.{count}
 use Rattle.forest.specs.Lists.{sameBytes}
 use Rattle.forest.proofs.Bools.{and-left, and-right, apart}
 use Rattle.lexemes.specs.Reserved.{isWord}
-use Rattle.words.specs.Trees.{Lexeme, list, literal, numeral, symbol}
+use Rattle.words.specs.Trees.{Lexeme, list, literal, numeral, symbol, wordOf}
 use Rattle.lexemes.specs.Lists.{Items, after, inside, isSymbol, item, nameOf}
 use Rattle.lexemes.specs.code.Standing.{Stands}
 use Rattle.lexemes.specs.code.Table.{nextAt}
@@ -90,6 +90,7 @@ module _ (nowhere : ℕ) (k : Known) (at : ℕ) {c : Items} (t : Chosen c define
 abbrev pub definedBy : Known → Items → Defined
 definedBy k c = record {
   name = nameOf (item 1 c);
+  at = wordOf (item 1 c);
   definition = record {
     signature = record { arguments = namedSorts (argumentsOf c); result = sortOf (item 3 c) (inside 3 c) };
     body = termOf (bodyView k (argumentsOf c)) (item 4 c) (inside 4 c);

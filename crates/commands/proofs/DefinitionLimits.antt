@@ -49,6 +49,7 @@ module _ {text lexemes names raw places nodes : List ℕ} {p : Progress} {at now
         verdict-is = says-limit allowed nowhere (d .of .known) at (d .of .here .command) (After (d .of)) (record { number = limitAnswer; place = past; rows = 0 })
             (record { number-is = refl; place-is = past-is d; found = h });
         names-hold = λ z. absurd (omega arith);
+        taken = λ z. absurd (omega arith);
         places-hold = λ z. absurd (omega arith);
         within = λ z. absurd (omega arith);
         kept = refl;
@@ -81,6 +82,7 @@ module _ {text lexemes names raw places nodes : List ℕ} {p : Progress} {at now
             record {
               verdict-is = s .verdict-is;
               names-hold = s .names-hold;
+              taken = s .taken;
               places-hold = s .places-hold;
               within = s .within;
               kept = s .kept;

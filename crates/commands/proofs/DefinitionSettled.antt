@@ -3,7 +3,7 @@ use Prim.Native.Nat.{ℕ, _+_, _-_, _≤_, _<_, min}
 use native.Mathlib.Omega.{arith}
 use mathlib.Core.Path.{_≡_, refl, sym, ap, ap₂, _∙_}
 use mathlib.Core.Bool.{false, _||_}
-use mathlib.Core.List.{List, _∷_}
+use mathlib.Core.List.{List, _∷_, _++_, append-nil}
 use lib.ListN.{drop, length}
 use lib.Seq.{drop-drop, drop-set-lt, length-sets}
 use Rattle.forest.specs.Forest.{count as treeCount}
@@ -19,9 +19,11 @@ use Rattle.written_sorts.specs.declared.Fault.the-variants.{Empty, Unknown}
 use Rattle.written_sorts.proofs.HeaderSorts.{header-sort}
 use Rattle.names.specs.Scopes.{definedNames, inOrder, isNamed, namedSorts}
 use Rattle.names.specs.code.Lookup.{Sees}
-use Rattle.names.specs.code.Table.{argumentRow, definedRow, functionRow, namesFrom, ownArgumentRow, sortsFrom, variableRow}
+use Rattle.names.specs.code.Table.{argumentRow, declaredFrom, definedRow, functionRow, namesFrom, ownArgumentRow, sortsFrom, variableRow}
 use Rattle.names.specs.declared.Seen.{Seen}
-use Rattle.names.proofs.NamePut.{SameRows}
+use Rattle.names.specs.code.Lookup.{SameRows}
+use Rattle.names.specs.Earlier.{declaredDefined}
+use Rattle.names.proofs.NamePut.{same-through}
 use Rattle.names.specs.code.New.{namesIn}
 use Rattle.names.proofs.Members.{same-members, same-name}
 use Rattle.script.specs.code.Signatures.{Signing}
@@ -34,13 +36,14 @@ use Rattle.headers.proofs.HeadParts.{items-between}
 use Rattle.term_faults.specs.Faults.{bodyFault}
 use Rattle.term_faults.specs.code.Bodies.{Signed}
 use Rattle.script.specs.Naming.{termNames}
-use Rattle.script.specs.Script.{argumentsOf, bodyView, namePlace, scope, sortingPlace}
+use Rattle.script.specs.Script.{argumentsOf, bodyView, namePlace, newNames, scope, sortingPlace}
 use Rattle.script.specs.code.Places.{bodiesPlace, functionsPlace}
 use Rattle.script.specs.code.Tables.{After, NamesHold, Tested}
+use Rattle.script.specs.code.Taken.{DefinitionTaken}
 use Rattle.script.specs.declared.Progress.{Progress}
 use Rattle.script.specs.declared.Verdict.{Verdict}
 use Rattle.script.proofs.Headers.{Narrow, head-narrow}
-use Rattle.script.proofs.NamesKept.{few-before, names-kept, one-more-in-order, same-before, same-behind, same-scope, same-through}
+use Rattle.script.proofs.NamesKept.{few-before, names-kept, one-declared-in-order, one-more-in-order, same-scope}
 use Rattle.script.proofs.OneTermMore.{definition-held}
 use Rattle.script.proofs.WordsBelow.{command-below, command-word}
 use Rattle.commands.specs.code.DefineFun.{DefinitionPut, Putting, Settled, Within, scopeBefore}
@@ -103,6 +106,7 @@ module _ {text lexemes names raw places nodes : List ℕ} {p : Progress} {rows a
     result = its-head w .result;
     few-arguments = its-head w .few;
     short = w .of .here .lawful .short;
+    low-words = λ i h. omega (arith, w .of .here .lawful .ends i h, w .of .here .few);
     table = w .names-hold .table;
     few = few-before (w .of .counted) argumentRow (omega arith);
     no-arguments = refl;
@@ -128,20 +132,20 @@ module _ {text lexemes names raw places nodes : List ℕ} {p : Progress} {rows a
         → SameRows namesAfter names r m
     same-first r m h w =
         let n = put (head-at w) in
-        same-through (same-before (n .kept-name) r m h) (same-before (n .kept-arguments) r m (omega (arith, definition-fits w)))
+        same-through (n .kept-name .rows-before r m h) (n .kept-arguments .rows-before r m (omega (arith, definition-fits w)))
 
     -- So are those of functions.
     same-after : (m : ℕ) → m ≤ mostFunctions → Within text lexemes names raw places nodes p rows at nowhere → SameRows namesAfter names functionRow m
     same-after m h w =
         let n = put (head-at w) in
-        same-through (same-behind (n .kept-name) functionRow m (omega (arith, definition-fits w))) (same-before (n .kept-arguments) functionRow m (omega arith))
+        same-through (n .kept-name .rows-behind functionRow m (omega (arith, definition-fits w))) (n .kept-arguments .rows-before functionRow m (omega arith))
 
     -- And those of their arguments.
     same-own : (j m : ℕ) → Within text lexemes names raw places nodes p rows at nowhere → SameRows namesAfter names (ownArgumentRow j) m
     same-own j m w =
         let n = put (head-at w) in
-        same-through (same-behind (n .kept-name) (ownArgumentRow j) m (omega (arith, definition-fits w)))
-        (same-behind (n .kept-arguments) (ownArgumentRow j) m (omega (arith, its-head w .few)))
+        same-through (n .kept-name .rows-behind (ownArgumentRow j) m (omega (arith, definition-fits w)))
+        (n .kept-arguments .rows-behind (ownArgumentRow j) m (omega (arith, its-head w .few)))
 
     -- The word at fault in its head is that by the names that are known.
     named-is : (w : Within text lexemes names raw places nodes p rows at nowhere)
@@ -157,6 +161,44 @@ module _ {text lexemes names raw places nodes : List ℕ} {p : Progress} {rows a
         (ap (λ (place : ℕ). min place (headerPlace Unknown nowhere c))
         (same-members nowhere (n ∷ one) (n ∷ other) (λ m. ap (_||_ (sameBytes n m)) (same m)) (inside 2 c)))
 
+    -- The rows of `define-fun`s are what they were.
+    same-defined : (w : Within text lexemes names raw places nodes p rows at nowhere) → SameRows namesAfter names definedRow (length (w .of .known .defined))
+    same-defined w = rw (← w .of .counted .defined-are) (same-first definedRow (p .defined) (omega arith) w)
+
+    -- The table has the names that were known before it.
+    known-kept : (w : Within text lexemes names raw places nodes p rows at nowhere) → NamesHold namesAfter (w .of .known)
+    known-kept w =
+        let k = w .of .known in
+        let counted = w .of .counted in
+        names-kept (put (head-at w) .table)
+        (same-first variableRow (length (k .variables)) (omega (arith, counted .few-variables, counted .variables-are)) w) (same-defined w)
+        (same-after (length (k .functions)) (omega (arith, counted .few-functions, counted .functions-are)) w)
+        (λ j m h few. same-own j m w) (w .names-hold)
+
+    -- And its new names, so where one is taken, what tells by which.
+    pub definition-taken : (w : Within text lexemes names raw places nodes p rows at nowhere)
+        → DefinitionTaken namesAfter p (w .of .known) (w .of .here .command)
+    unfolding declaredFrom newNames
+    definition-taken w =
+        let t = is-definition (w .of) in
+        let n = put (head-at w) in
+        let c = w .of .counted in
+        record {
+          listing = record {
+            table = n .table;
+            few = record {
+              variables = c .few-variables;
+              defined = c .few-defined;
+              functions = c .few-functions;
+              arguments = omega (arith, its-head w .few);
+            };
+            own-fits = omega (arith, definition-fits w);
+            few-listed = omega arith;
+          };
+          placed = known-kept w .placed;
+          new-are = append-nil _ ∙ ap₂ _++_ (n .own-declared) (n .declared-are) ∙ rw (t .declares, t .defines);
+        }
+
     -- The table has the names that are known after it.
     pub names-after : (w : Within text lexemes names raw places nodes p rows at nowhere) → NamesHold namesAfter (After (w .of))
     names-after w =
@@ -165,12 +207,8 @@ module _ {text lexemes names raw places nodes : List ℕ} {p : Progress} {rows a
         let counted = w .of .counted in
         let hold = w .names-hold in
         let n = put (head-at w) in
-        let defined : SameRows namesAfter names definedRow (length (k .defined)) =
-        rw (← counted .defined-are) (same-first definedRow (p .defined) (omega arith) w) in
-        let kept = names-kept (n .table)
-        (same-first variableRow (length (k .variables)) (omega (arith, counted .few-variables, counted .variables-are)) w) defined
-        (same-after (length (k .functions)) (omega (arith, counted .few-functions, counted .functions-are)) w)
-        (λ j m h few. same-own j m w) hold in
+        let defined = same-defined w in
+        let kept = known-kept w in
         record {
           table = n .table;
           variables-are = rw (same-variables k t) (kept .variables-are);
@@ -179,6 +217,12 @@ module _ {text lexemes names raw places nodes : List ℕ} {p : Progress} {rows a
               (rw (← counted .defined-are) (n .name-is)));
           functions-are = rw (same-functions k t) (kept .functions-are);
           arguments-are = rw (same-functions k t) (kept .arguments-are);
+          placed = record {
+            variables-are = rw (same-variables k t) (kept .placed .variables-are);
+            defined-are = rw (one-more k t) (one-declared-in-order defined (declaredDefined (k .defined)) (hold .placed .defined-are)
+                (rw (← counted .defined-are) (n .own-declared)));
+            functions-are = rw (same-functions k t) (kept .placed .functions-are);
+          };
         }
 
   module _ {arguments : ℕ} (ea : arguments ≡ nextAt lexemes (at + 2)) {result : ℕ} (er : result ≡ nextAt lexemes arguments) where
@@ -270,6 +314,7 @@ module _ {text lexemes names raw places nodes : List ℕ} {p : Progress} {rows a
         definition-refused h w = record {
           verdict-is = its-verdict w;
           names-hold = λ e. absurd (omega arith);
+          taken = λ e. definition-taken put w;
           places-hold = λ e. absurd (omega arith);
           within = λ e. absurd (omega arith);
           kept = refl;
@@ -293,6 +338,7 @@ module _ {text lexemes names raw places nodes : List ℕ} {p : Progress} {rows a
             record {
               verdict-is = its-verdict w;
               names-hold = λ e. names-after put w;
+              taken = λ e. absurd (omega arith);
               places-hold = λ e. rw taken (definition-held (w .places-hold) grown given (written .is-signed) (counted .defined-are) (definition-fits w)
                   (omega (arith, counted .few-functions, counted .functions-are)) (written .put) (definedBy k c) arguments (sym (sorts (result-here w)))
                   (sort-low w) refl (one-more k t) (same-functions k t) (same-constraints k t) (same-assumptions k t));

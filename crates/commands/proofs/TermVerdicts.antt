@@ -12,7 +12,7 @@ use Rattle.term_nodes.specs.Terms.{rawTerm}
 use Rattle.names.specs.Scopes.{View}
 use Rattle.term_faults.specs.Faults.{bodyFault, oneSort, rawSorts, termFault}
 use Rattle.script.specs.Limits.{commandPast}
-use Rattle.script.specs.Script.{Known, grammarPlace, limitPlace, namePlace, passed, refused, sortingPlace, tested}
+use Rattle.script.specs.Script.{Known, earlierPlace, grammarPlace, limitPlace, namePlace, passed, refused, sortingPlace, tested}
 use Rattle.script.specs.code.Tables.{Says}
 use Rattle.script.specs.declared.Verdict.{Verdict}
 use Rattle.script.specs.code.Answers.{nameAnswer, sortAnswer}
@@ -30,7 +30,8 @@ body-says counts nowhere k at c said v count limited no-grammar e =
     go : (named sorted : Bool)
         → v ≡ cond named (record { number = nameAnswer; place = namePlace nowhere k c; rows = 0 })
         (cond sorted (record { number = sortAnswer; place = sortingPlace nowhere k c; rows = 0 }) (record { number = 0; place = 0; rows = count }))
-        → Says v (cond named (refused nameAnswer (namePlace nowhere k c)) (cond sorted (refused sortAnswer (sortingPlace nowhere k c)) (passed said)))
+        → Says v (cond named (refused nameAnswer (namePlace nowhere k c) (earlierPlace k c (namePlace nowhere k c)))
+        (cond sorted (refused sortAnswer (sortingPlace nowhere k c) 0) (passed said)))
     go true sorted e = (ap (λ (w : Verdict). w .number) e, ap (λ (w : Verdict). w .place) e)
     go false true e = (ap (λ (w : Verdict). w .number) e, ap (λ (w : Verdict). w .place) e)
     go false false e = ap (λ (w : Verdict). w .number) e

@@ -24,7 +24,7 @@ use Rattle.script.proofs.Verdicts.{says-limit, says-name, says-passed, says-sor
 use Rattle.script.specs.code.Answers.{limitAnswer, nameAnswer, sortAnswer}
 use Rattle.commands.specs.code.DeclareVar.{Added, Adding, Declared, Declaring, FindsLimit, LimitFound, NameFound}
 use Rattle.commands.proofs.VariableItems.{is-declaring, name-item, parts, sort-here, variable-here}
-use Rattle.commands.proofs.VariablePut.{names-declared, variable-put}
+use Rattle.commands.proofs.VariablePut.{names-declared, variable-put, variable-taken}
 
 -- The word past a limit.
 pub limit-found : {lexemes : List ℕ} (variables at nowhere : ℕ)
@@ -61,9 +61,10 @@ module _ {text lexemes names : List ℕ} {p : Progress} {i nowhere : ℕ} where
       (tested (name-new d) ∙ same-name nowhere _ _ same (item 1 (d .of .here .command)))
       (known (sort-here (variable-here (d .of))))
 
-  -- Whatever the verdict is, but for one that passes, the table makes no difference.
-  refused : (d : Declaring text lexemes names p i nowhere) {after : List ℕ} {v : Verdict} → Tested (d .of) v → (v .number ≡ 0 → ⊥) → Declared d after v
-  refused d tested faulty = record { verdict-is = tested; names-hold = λ e. absurd (faulty e) }
+  -- Whatever the verdict is, but for one that passes or speaks of a name, the table makes no difference.
+  refused : (d : Declaring text lexemes names p i nowhere) {after : List ℕ} {v : Verdict} → Tested (d .of) v → (v .number ≡ 0 → ⊥)
+      → (v .number ≡ nameAnswer → ⊥) → Declared d after v
+  refused d tested faulty named = record { verdict-is = tested; names-hold = λ e. absurd (faulty e); taken = λ e. absurd (named e) }
 
   module _ {limit : ℕ} (limits : (s : SortAt lexemes (i + 3)) → LimitFound s (p .variables) i nowhere limit) where
     -- The first place is that of the definition.
@@ -81,7 +82,7 @@ module _ {text lexemes names : List ℕ} {p : Progress} {i nowhere : ℕ} where
         → (d : Declaring text lexemes names p i nowhere)
         → Declared d names v
     past-limit h e d = subst⁻¹ (λ (w : Verdict). Declared d names w) e
-        (refused d (says-limit allowed nowhere _ i _ _ _ (record { number-is = refl; place-is = limit-is d; found = h })) (λ z. omega arith))
+        (refused d (says-limit allowed nowhere _ i _ _ _ (record { number-is = refl; place-is = limit-is d; found = h })) (λ z. omega arith) (λ z. omega arith))
 
     module _ (limited : nowhere ≤ limit) where
       -- There is a row for the variable.
@@ -101,11 +102,13 @@ module _ {text lexemes names : List ℕ} {p : Progress} {i nowhere : ℕ} where
             narrow =
                 sort-narrow nowhere (item 2 (x .command)) held (width .first) (omega (arith, limits (sort-here (variable-here (d .of)))));
             short = x .lawful .short;
+            low-words = λ j h. omega (arith, x .lawful .ends j h, x .few);
             table = d .names-hold .table;
             fits = omega (arith, one-more d);
           }
 
-      module _ {name : ℕ} (names-tested : (q : Declaring text lexemes names p i nowhere) → NameFound q name) where
+      module _ {name : ℕ} (names-tested : (q : Declaring text lexemes names p i nowhere) → NameFound q name)
+          {after : List ℕ} (added : (a : Adding text lexemes names (variableRow + p .variables) i) → Added a after) where
         -- The second place is that of the definition.
         name-is : (d : Declaring text lexemes names p i nowhere) → name ≡ namePlace nowhere (d .of .known) (d .of .here .command)
         unfolding namePlace
@@ -114,10 +117,12 @@ module _ {text lexemes names : List ℕ} {p : Progress} {i nowhere : ℕ} where
         -- A name is at fault.
         pub name-faulty : name < nowhere → {v : Verdict} → v ≡ record { number = nameAnswer; place = name; rows = 0 }
             → (d : Declaring text lexemes names p i nowhere)
-            → Declared d names v
-        name-faulty h e d = subst⁻¹ (λ (w : Verdict). Declared d names w) e
-            (refused d (says-name allowed nowhere _ i _ _ _ (omega (arith, limit-is d)) (record { number-is = refl; place-is = name-is d; found = h }))
-            (λ z. omega arith))
+            → Declared d after v
+        name-faulty h e d = subst⁻¹ (λ (w : Verdict). Declared d after w) e (record {
+          verdict-is = says-name allowed nowhere _ i _ _ _ (omega (arith, limit-is d)) (record { number-is = refl; place-is = name-is d; found = h });
+          names-hold = λ z. absurd (omega arith);
+          taken = λ z. variable-taken d (one-more d) (variable-put (adding d) (added (adding d)));
+        })
 
         module _ (named : nowhere ≤ name) {sort : ℕ}
             (sorts : (s : SortAt lexemes (i + 3)) → sort ≡ sortPlace Empty nowhere (s .here .label) (s .here .operands)) where
@@ -129,10 +134,10 @@ module _ {text lexemes names : List ℕ} {p : Progress} {i nowhere : ℕ} where
           -- The sort is at fault.
           pub sort-faulty : sort < nowhere → {v : Verdict} → v ≡ record { number = sortAnswer; place = sort; rows = 0 }
               → (d : Declaring text lexemes names p i nowhere)
-              → Declared d names v
-          sort-faulty h e d = subst⁻¹ (λ (w : Verdict). Declared d names w) e
+              → Declared d after v
+          sort-faulty h e d = subst⁻¹ (λ (w : Verdict). Declared d after w) e
               (refused d (says-sorting allowed nowhere _ i _ _ _ (omega (arith, limit-is d)) (omega (arith, name-is d))
-              (record { number-is = refl; place-is = sort-is d; found = h })) (λ z. omega arith))
+              (record { number-is = refl; place-is = sort-is d; found = h })) (λ z. omega arith) (λ z. omega arith))
 
           -- No rule is at fault, since there is none.
           no-rules : (d : Declaring text lexemes names p i nowhere) → nowhere ≤ grammarPlace nowhere (d .of .known) (d .of .here .command)
@@ -140,11 +145,11 @@ module _ {text lexemes names : List ℕ} {p : Progress} {i nowhere : ℕ} where
           no-rules d = rw (is-declaring (d .of) .declares) (omega arith)
 
           -- The command passes, and its variable is known.
-          pub passes : nowhere ≤ sort
-              → {after : List ℕ} → ((a : Adding text lexemes names (variableRow + p .variables) i) → Added a after)
-              → {v : Verdict} → v ≡ record { number = 0; place = 0; rows = 0 } → (d : Declaring text lexemes names p i nowhere) → Declared d after v
-          passes sorted {after} added e d = subst⁻¹ (λ (w : Verdict). Declared d after w) e (record {
+          pub passes : nowhere ≤ sort → {v : Verdict} → v ≡ record { number = 0; place = 0; rows = 0 } → (d : Declaring text lexemes names p i nowhere)
+              → Declared d after v
+          passes sorted e d = subst⁻¹ (λ (w : Verdict). Declared d after w) e (record {
             verdict-is =
                 says-passed allowed nowhere _ i _ _ _ (omega (arith, limit-is d)) (omega (arith, name-is d)) (omega (arith, sort-is d)) (no-rules d) refl;
             names-hold = λ z. names-declared d (one-more d) (variable-put (adding d) (added (adding d)));
+            taken = λ z. absurd (omega arith);
           })

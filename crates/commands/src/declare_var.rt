@@ -52,16 +52,16 @@ fn name_place(text: &[u8], lexemes: &[u64], names: &[u8], command: Command) -> u
     least(name, sort_place(lexemes, at + 3, Fault::Unknown, nowhere))
 }
 
-// Puts the variable and its sort into a row.
+// Puts the variable, its word and its sort into a row.
 fn add_variable(text: &[u8], lexemes: &[u64], names: &mut [u8], row: usize, at: usize)
     requires { ⌜ Adding (now text) (now lexemes) (now names) row at ⌝ }
     ensures { λ r. ⌜ Adds (now (text .entry)) (now (lexemes .entry)) (now (names .entry)) row at (now (names .exit)) ⌝ }
 {
     let sort = sort_of(lexemes, at + 3) as u8;
-    put_name(names, row, sort, bytes_at(text, lexemes, at + 2));
+    put_name(names, row, sort, at + 2, bytes_at(text, lexemes, at + 2));
 }
 
-// The `declare-var` at a word: its variable stands in its row where it passes.
+// The `declare-var` at a word: its variable stands in its row where it is within the limits.
 pub fn declare_var(text: &[u8], lexemes: &[u64], names: &mut [u8], command: Command) -> Verdict
     requires { ⌜ Declaring (now text) (now lexemes) (now names) (command .progress) (command .at) (command .nowhere) ⌝ }
     ensures { λ r. ⌜ Declares (now (text .entry)) (now (lexemes .entry)) (now (names .entry)) command (now (names .exit)) r ⌝ }
@@ -74,6 +74,7 @@ pub fn declare_var(text: &[u8], lexemes: &[u64], names: &mut [u8], command: Comm
         return verdict(PAST_LIMIT, limit, 0);
     }
     let name = name_place(text, lexemes, names, command);
+    add_variable(text, lexemes, names, VARIABLES + variables, at);
     if name < nowhere {
         return verdict(NAME, name, 0);
     }
@@ -81,6 +82,5 @@ pub fn declare_var(text: &[u8], lexemes: &[u64], names: &mut [u8], command: Comm
     if sort < nowhere {
         return verdict(SORT, sort, 0);
     }
-    add_variable(text, lexemes, names, VARIABLES + variables, at);
     verdict(ACCEPTED, 0, 0)
 }

@@ -54,6 +54,7 @@ module _ {text lexemes names raw forms : List ℕ} {scope : Scope} {at nodes bas
       shaped = items-shaped pairShape (pairs command-of el);
       narrow = p .narrow;
       short = p .lawful .short;
+      low-words = λ i h. omega (arith, p .lawful .ends i h, p .few-words);
       table = p .table;
       few = p .few;
       low = omega arith;
@@ -73,9 +74,9 @@ module _ {text lexemes names raw forms : List ℕ} {scope : Scope} {at nodes bas
           let kept = after .kept in
           record {
             table = after .table;
-            names-are = kept .names-behind (scope .first) (scope .arguments) (omega (arith, few, p .behind)) ∙ p .arguments-are;
-            sorts-are = kept .sorts-behind (scope .first) (scope .arguments) (omega (arith, few, p .behind)) ∙ p .sorts-are;
-            defined-are = kept .names-before definedRow (scope .defined) (omega (arith, p .few .defined)) ∙ p .defined-are;
+            names-are = kept .rows-behind (scope .first) (scope .arguments) (omega (arith, few, p .behind)) .names ∙ p .arguments-are;
+            sorts-are = kept .rows-behind (scope .first) (scope .arguments) (omega (arith, few, p .behind)) .sorts ∙ p .sorts-are;
+            defined-are = kept .rows-before definedRow (scope .defined) (omega (arith, p .few .defined)) .names ∙ p .defined-are;
             functions-are = refl;
             nonTerminals-are = rw (known pairs-in) (after .names-are);
             names-fit = p .few .arguments;
@@ -116,6 +117,7 @@ module _ {text lexemes names raw forms : List ℕ} {scope : Scope} {at nodes bas
               kept = after .kept;
               names-are = after .names-are;
               sorts-are = after .sorts-are;
+              declared-are = after .declared-are;
               raw-is = by-nodes nodes-of;
               forms-are = resolved .forms-are;
               place-is = e ∙ ap₂ min (after .place-is) (e-later ∙ ap₂ min (by-sorts command-of) (resolved .unknown-is));

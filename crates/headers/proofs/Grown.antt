@@ -43,9 +43,9 @@ module _ {scope : Scope} (few : Few scope) where
   same-names no-arguments true h {names} {between} kept {name} e =
       let v = few .variables in
       let d = few .defined in
-      let variables = kept .names-before variableRow (scope .variables) (omega arith) in
-      let defined = kept .names-before definedRow (scope .defined) (omega arith) in
-      let functions = kept .names-before functionRow (scope .functions) (omega arith) in
+      let variables = kept .rows-before variableRow (scope .variables) (omega arith) .names in
+      let defined = kept .rows-before definedRow (scope .defined) (omega arith) .names in
+      let functions = kept .rows-before functionRow (scope .functions) (omega arith) .names in
       let last = last-row between functionRow (scope .functions) .name in
       let whole = namesIn names scope in
       let front = namesFrom names variableRow (scope .variables) ++ namesFrom names definedRow (scope .defined) in
@@ -55,10 +55,10 @@ module _ {scope : Scope} (few : Few scope) where
       λ n. ap (λ (l : List (List ℕ)). isNamed l n) is ∙ sym (name-between whole [] name n) ∙ rw append-nil
   same-names no-arguments false h {names} {between} kept {name} e =
       let v = few .variables in
-      let variables = kept .names-before variableRow (scope .variables) (omega arith) in
-      let defined = kept .names-before definedRow (scope .defined) (omega arith) in
+      let variables = kept .rows-before variableRow (scope .variables) (omega arith) .names in
+      let defined = kept .rows-before definedRow (scope .defined) (omega arith) .names in
       let last = last-row between definedRow (scope .defined) .name in
-      let functions = kept .names-behind functionRow (scope .functions) (omega arith) in
+      let functions = kept .rows-behind functionRow (scope .functions) (omega arith) .names in
       let front = namesFrom names variableRow (scope .variables) ++ namesFrom names definedRow (scope .defined) in
       let behind = namesFrom names functionRow (scope .functions) in
       let is : namesIn between (grownBy false scope) ≡ front ++ name ∷ [] ++ behind =

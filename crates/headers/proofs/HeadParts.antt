@@ -6,6 +6,7 @@ use mathlib.Core.Bool.{Bool, true, _&&_}
 use mathlib.Core.List.{List}
 use lib.ListN.{length}
 use Rattle.forest.proofs.Bools.{and-left}
+use Rattle.words.specs.Trees.{wordOf}
 use Rattle.lexemes.specs.Lists.{Items, inside, isSymbol, item, nameOf}
 use Rattle.lexemes.specs.code.Table.{nextAt, rowWidth as lexemeWidth}
 use Rattle.lexemes.specs.code.Standing.{Between, ItemAt}
@@ -20,7 +21,7 @@ use Rattle.written_sorts.proofs.HeaderSorts.{header-arguments}
 use Rattle.written_sorts.proofs.PairParts.{list-between}
 use Rattle.written_sorts.proofs.Walked.{Come, come-behind, come-first, item-come, symbol-word}
 use Rattle.names.specs.code.Lookup.{bytesAt, sourceOf}
-use Rattle.names.specs.code.Table.{longest}
+use Rattle.names.specs.code.Table.{longest, wordsTold}
 use Rattle.names.specs.declared.Scope.{Scope}
 use Rattle.names.proofs.NewNameTested.{SymbolAt, symbol-at}
 use Rattle.forest.specs.Limits.{allowed, mostArguments}
@@ -100,6 +101,14 @@ module _ {text lexemes names : List ℕ} {scope : Scope} {synthesized : Bool} {a
   -- not too long for a row
   pub name-fits : length (nameOf (item 1 (p .command))) ≤ longest
   name-fits = rw (← symbol-here .spelled) (p .short (at + 2) (omega (arith, symbol-here .coded)))
+
+  -- at the word that is its own
+  pub name-placed : wordOf (item 1 (p .command)) ≡ at + 2
+  name-placed = symbol-here .is-placed
+
+  -- which a row tells
+  pub word-fits : at + 2 < wordsTold
+  word-fits = p .low-words (at + 2) (omega (arith, symbol-here .coded))
 
   module _ {bytes : List ℕ} (eb : bytes ≡ bytesAt text lexemes (at + 2)) where
     -- the bytes of its word are the name

@@ -17,7 +17,7 @@ use Rattle.shapes.specs.Shapes.{all, pairShape}
 use Rattle.written_sorts.proofs.Walked.{placed}
 use Rattle.names.specs.Scopes.{Named, namesOf, namedSorts}
 use Rattle.names.specs.code.Lookup.{sourceOf}
-use Rattle.names.specs.code.Table.{namesFrom, rowCount, sortsFrom}
+use Rattle.names.specs.code.Table.{nameIn, namesFrom, rowCount, sortIn, sortsFrom}
 use Rattle.headers.specs.code.Compare.{Held, PairAt, PairHeld, PairsAt, PairsHeld, ended, other, same}
 use Rattle.headers.specs.Tokens.{Placed, Token, argumentTokens, closing, sortTokens, wordsIn}
 use Rattle.headers.proofs.Held.{held-then}
@@ -180,10 +180,12 @@ module _ {text lexemes names : List ℕ} {first close row arguments : ℕ} where
               → (a : FirstRow names (row + passed) (arguments - (passed + 1)) (x .declared)) {r : ℕ}
               → (found ≡ 0 → Held (wordsIn (i .more) ++ bracket close) (argumentTokens (a .more) ++ closing ∷ []) r)
               → ((found ≡ 0 → ⊥) → r ≡ found) → PairsHeld p r
+          unfolding argumentTokens
           go-on p i source x a follow stop =
+              let argument : Named = record { name = nameIn names (row + passed); at = a .at; sort = sortIn names (row + passed) } in
               x .back
               (rw (a .is)
-              (pair-then (i .label) (i .operands) (i .more) _ (a .more) close (known (pair-from p i source (first-shaped i (x .shaped)))) follow stop))
+              (pair-then (i .label) (i .operands) (i .more) argument (a .more) close (known (pair-from p i source (first-shaped i (x .shaped)))) follow stop))
 
           -- a word of the pair differs
           pub pass-other : (found ≡ 0 → ⊥) → (p : PairsAt text lexemes names first close row arguments) → PairsHeld p found

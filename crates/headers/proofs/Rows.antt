@@ -22,8 +22,9 @@ one-row names row {word} {bytes} same e = rw (e, same) (go (sameBytes (nameIn na
 
 -- Arguments of which the first is that in a row, and the others those in the rows behind it.
 pub record FirstRow (names : List ℕ) (row n : ℕ) (declared : List Named) : Type 0 where
+  pub at : ℕ
   pub more : List Named
-  pub is : declared ≡ record { name = nameIn names row; sort = sortIn names row } ∷ more
+  pub is : declared ≡ record { name = nameIn names row; at = at; sort = sortIn names row } ∷ more
   pub names-are : namesFrom names (row + 1) n ≡ namesOf more
   pub sorts-are : sortsFrom names (row + 1) n ≡ namedSorts more
 
@@ -37,8 +38,9 @@ module _ (names : List ℕ) (row : ℕ) where
       let name : a .name ≡ nameIn names row = cc in
       let sort : a .sort ≡ sortIn names row = cc in
       record {
+        at = a .at;
         more = more;
-        is = ap₂ (λ (m : List ℕ) (s : ℕ). record { name = m; sort = s } ∷ more) name sort;
+        is = ap₂ (λ (m : List ℕ) (s : ℕ). record { name = m; at = a .at; sort = s } ∷ more) name sort;
         names-are = cc;
         sorts-are = cc;
       }

@@ -71,7 +71,7 @@ fn grown(scope: Scope, synthesized: bool) -> Scope
     later
 }
 
-// Puts the name of the command at a word into its row, with the sort of its result; returns the word of the name where it is reserved or taken, else `nowhere`.
+// Puts the name of the command at a word into its row, with its word and the sort of its result; returns the word of the name where it is reserved or taken, else `nowhere`.
 fn own_name(
     text: &[u8],
     lexemes: &[u64],
@@ -88,7 +88,7 @@ fn own_name(
     let result = next_at(lexemes, next_at(lexemes, at + 2));
     let sort = sort_of(lexemes, result) as u8;
     let place = new_name(text, lexemes, names, scope, row, 0, at + 2, nowhere);
-    put_name(names, row, sort, bytes_at(text, lexemes, at + 2));
+    put_name(names, row, sort, at + 2, bytes_at(text, lexemes, at + 2));
     place
 }
 

@@ -9,7 +9,9 @@ pub mod Constants
 pub mod NodeTurns
 pub mod PairNames
 pub mod Members
+pub mod Taken
 pub mod NewNameTested
 pub mod Pair
 pub mod PairTurns
 pub mod Alike
+pub mod EarlierRows

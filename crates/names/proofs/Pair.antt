@@ -1,7 +1,7 @@
 -- A pair that stands at a word: its name, its sort, and the row that they are put into.
 use Prim.Native.Nat.{ℕ, _+_, _*_, _≤_, _<_}
 use native.Mathlib.Omega.{arith}
-use mathlib.Core.Path.{_≡_, refl, ap, ap₂, _∙_}
+use mathlib.Core.Path.{_≡_, refl, ap, _∙_}
 use mathlib.Core.Bool.{true, _&&_}
 use mathlib.Core.List.{List}
 use lib.Dec.{eqb}
@@ -10,7 +10,7 @@ use lib.Seq.{sets}
 use Rattle.forest.specs.Forest.{count}
 use Rattle.forest.proofs.Bools.{and-left, and-right}
 use Rattle.operators.specs.Sorts.{maxWidth}
-use Rattle.words.specs.Trees.{Lexeme}
+use Rattle.words.specs.Trees.{Lexeme, wordOf}
 use Rattle.lexemes.specs.Lists.{Items, inside, isList, isSymbol, item, nameOf}
 use Rattle.lexemes.specs.code.Standing.{ItemAt}
 use Rattle.lexemes.proofs.Listed.{item-room, list-from}
@@ -21,7 +21,7 @@ use Rattle.written_sorts.specs.Written.{sortOf}
 use Rattle.written_sorts.proofs.PairParts.{pair-sort, sorted}
 use Rattle.written_sorts.proofs.Walked.{come-first, item-come}
 use Rattle.names.specs.code.Lookup.{bytesAt, sourceOf}
-use Rattle.names.specs.code.Table.{longest, nameRow, rowCount, rowWidth}
+use Rattle.names.specs.code.Table.{longest, nameRow, rowCount, rowWidth, wordsTold}
 use Rattle.names.specs.code.New.{Few, NewName, PairAt, PairPut}
 use Rattle.names.specs.declared.Scope.{Scope}
 use Rattle.names.proofs.NewNameTested.{SymbolAt, symbol-at}
@@ -84,6 +84,14 @@ module _ {text lexemes names : List ℕ} {row i : ℕ} (p : PairAt text lexemes 
   pub name-fits : length (nameOf (item 0 (p .operands))) ≤ longest
   name-fits = rw (← symbol-here .spelled) (p .short (i + 1) (omega (arith, symbol-here .coded)))
 
+  -- nor its word too high for one
+  pub word-fits : wordOf (item 0 (p .operands)) < wordsTold
+  word-fits = rw (symbol-here .is-placed) (p .low-words (i + 1) (omega (arith, symbol-here .coded)))
+
+  -- the word behind that of the pair
+  pub next-fits : i + 1 < wordsTold
+  next-fits = rw (← symbol-here .is-placed) word-fits
+
   module _ {bytes : List ℕ} (eb : bytes ≡ bytesAt text lexemes (i + 1)) where
     bytes-are : bytes ≡ nameOf (item 0 (p .operands))
     bytes-are = eb ∙ symbol-here .spelled
@@ -96,7 +104,7 @@ module _ {text lexemes names : List ℕ} {row i : ℕ} (p : PairAt text lexemes 
     pub sort-small : sort ≤ maxWidth
     sort-small = omega (arith, es sort-here, p .narrow)
 
-    -- name and sort are put into the row
-    pub pair-put : {bytes : List ℕ} → bytes ≡ bytesAt text lexemes (i + 1) → {after : List ℕ} → after ≡ sets names (rowWidth * row) (nameRow sort bytes)
+    -- name, word and sort are put into the row
+    pub pair-put : {bytes : List ℕ} → bytes ≡ bytesAt text lexemes (i + 1) → {after : List ℕ} → after ≡ sets names (rowWidth * row) (nameRow sort (i + 1) bytes)
         → PairPut p after
-    pair-put eb e = e ∙ ap (sets names (rowWidth * row)) (ap₂ nameRow (es sort-here) (bytes-are eb))
+    pair-put eb e = rw (← es sort-here, ← bytes-are eb, symbol-here .is-placed) e

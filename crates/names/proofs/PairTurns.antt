@@ -7,6 +7,7 @@ use mathlib.Core.List.{List, [], _∷_, _++_, append-assoc, append-nil}
 use lib.ListN.{length}
 use Rattle.forest.specs.Forest.{count, tree}
 use Rattle.forest.proofs.Bools.{and-left, and-right}
+use Rattle.words.specs.Trees.{wordOf}
 use Rattle.lexemes.specs.Lists.{Items, inside, item, nameOf}
 use Rattle.lexemes.specs.code.Standing.{Between, ItemAt, Source, Stands}
 use Rattle.lexemes.specs.code.Table.{nextAt}
@@ -15,20 +16,21 @@ use Rattle.shapes.specs.Shapes.{all, pairShape}
 use Rattle.written_sorts.specs.Written.{sortOf}
 use Rattle.names.specs.Scopes.{namesOf, namedSorts}
 use Rattle.names.specs.code.Lookup.{Kept, Names, sourceOf}
-use Rattle.names.specs.code.Table.{definedRow, functionRow, namesFrom, rowCount, sortsFrom, variableRow}
+use Rattle.names.specs.Earlier.{Declared, declaredNames}
+use Rattle.names.specs.code.Table.{declaredFrom, definedRow, functionRow, nameIn, namesFrom, rowCount, sortsFrom, variableRow, wordIn}
 use Rattle.names.proofs.NamePut.{Put, kept-more, kept-none, last-row, put-row}
 use Rattle.names.specs.New.{namedBy, newName, newPairs}
 use Rattle.names.specs.code.New.{AllNarrow, NameTested, NewName, NewPairs, PairAt, PairPut, PairsNamed, namesIn}
 use Rattle.names.specs.declared.Scope.{Scope}
 use Rattle.names.proofs.Members.{name-between, pairs-below, same-members}
-use Rattle.names.proofs.Pair.{name-fits, name-here}
+use Rattle.names.proofs.Pair.{name-fits, name-here, word-fits}
 
 -- Rows that stand behind those that are changed, or are none, are kept.
 behind-kept : {names after : List ℕ} {row n : ℕ} (first m : ℕ) → Kept names row n after → ((k : ℕ) → k < m → row + n ≤ first + k)
     → namesFrom after first m ≡ namesFrom names first m
 unfolding namesFrom
 behind-kept first zero kept apart = refl
-behind-kept first (suc m) kept apart = kept .names-behind first (suc m) (omega (arith, apart 0 (omega arith)))
+behind-kept first (suc m) kept apart = kept .rows-behind first (suc m) (omega (arith, apart 0 (omega arith))) .names
 
 module _ {text lexemes names₀ : List ℕ} {scope : Scope} {row first close : ℕ} where
   -- where the pairs stand
@@ -47,9 +49,9 @@ module _ {text lexemes names₀ : List ℕ} {scope : Scope} {row first close : �
       (ap₂ _++_
       (ap₂ _++_
       (behind-kept (scope .first) (scope .arguments) kept (λ k s. omega (arith, p .apart k s)))
-      (kept .names-before variableRow (scope .variables) (omega arith)))
-      (kept .names-before definedRow (scope .defined) (omega arith)))
-      (kept .names-before functionRow (scope .functions) (omega arith))
+      (kept .rows-before variableRow (scope .variables) (omega arith) .names))
+      (kept .rows-before definedRow (scope .defined) (omega arith) .names))
+      (kept .rows-before functionRow (scope .functions) (omega arith) .names)
 
   -- So many pairs are put into their rows, their least place at fault is found, and others are left.
   pub record PairsLeft (nowhere : ℕ) (names : List ℕ) (place done : ℕ) (p : NewPairs text lexemes names₀ scope row first close) (left : Items)
@@ -63,6 +65,7 @@ module _ {text lexemes names₀ : List ℕ} {scope : Scope} {row first close : �
     pub kept : Kept names₀ row done names
     pub names-are : namesFrom names row done ++ namesOf (namedBy left) ≡ namesOf (namedBy (p .items))
     pub sorts-are : sortsFrom names row done ++ namedSorts (namedBy left) ≡ namedSorts (namedBy (p .items))
+    pub declared-are : declaredFrom names row done ++ declaredNames (namedBy left) ≡ declaredNames (namedBy (p .items))
 
 -- Of the pairs from one word to another the loop has come to word `at`.
 abbrev pub Going : (text lexemes names₀ : List ℕ) (scope : Scope) (row first close nowhere : ℕ) (names : List ℕ) (place at done : ℕ) → Type 0
@@ -73,7 +76,7 @@ module _ {text lexemes names₀ : List ℕ} {scope : Scope} {row first close now
   -- before the first pair
   pub go-start : NewPairs text lexemes names₀ scope row first close
       → Going text lexemes names₀ scope row first close nowhere names₀ nowhere first 0
-  unfolding namesFrom sortsFrom
+  unfolding declaredFrom namesFrom sortsFrom
   go-start given = along-start (λ p. pairs-between p) given (λ p. record {
     shaped = p .shaped;
     narrow = p .narrow;
@@ -84,6 +87,7 @@ module _ {text lexemes names₀ : List ℕ} {scope : Scope} {row first close now
     kept = kept-none names₀ row;
     names-are = refl;
     sorts-are = refl;
+    declared-are = refl;
   })
 
   module _ {names : List ℕ} {place done : ℕ} where
@@ -115,6 +119,7 @@ module _ {text lexemes names₀ : List ℕ} {scope : Scope} {row first close now
         shaped = pair-shaped;
         narrow = pair-narrow;
         short = p .short;
+        low-words = p .low-words;
         table = k .table;
         fits = pair-fits;
       }
@@ -127,22 +132,33 @@ module _ {text lexemes names₀ : List ℕ} {scope : Scope} {row first close now
       module _ {tested : ℕ} (known : (q : NewName text lexemes names scope row done (at + 1)) → NameTested q nowhere tested)
           {after : List ℕ} (put : (q : PairAt text lexemes names (row + done) at) → PairPut q after) where
         -- its row
-        row-put : Put names (row + done) (sortOf (item 1 (x .operands)) (inside 1 (x .operands))) (nameOf (item 0 (x .operands))) after
-        row-put =
-            put-row (k .table) pair-fits (sortOf (item 1 (x .operands)) (inside 1 (x .operands))) (nameOf (item 0 (x .operands))) (name-fits pair-left)
-            (pair-left .narrow) (put pair-left)
+        row-put : let name = item 0 (x .operands) in
+            Put names (row + done) (sortOf (item 1 (x .operands)) (inside 1 (x .operands))) (wordOf name) (nameOf name) after
+        row-put = put-row (k .table) pair-fits _ _ _ (name-fits pair-left) (pair-left .narrow) (word-fits pair-left) (put pair-left)
 
         -- the names with its own
         names-put : namesFrom after row (done + 1) ≡ namesFrom names row done ++ nameOf (item 0 (x .operands)) ∷ []
         names-put =
             last-row after row done .name
-            ∙ ap₂ (λ (l : List (List ℕ)) (n : List ℕ). l ++ n ∷ []) (row-put .kept .names-before row done (omega arith)) (row-put .name)
+            ∙ ap₂ (λ (l : List (List ℕ)) (n : List ℕ). l ++ n ∷ []) (row-put .kept .rows-before row done (omega arith) .names) (row-put .name)
 
         -- the sorts with its own
         sorts-put : sortsFrom after row (done + 1) ≡ sortsFrom names row done ++ sortOf (item 1 (x .operands)) (inside 1 (x .operands)) ∷ []
         sorts-put =
             last-row after row done .sort
-            ∙ ap₂ (λ (l : List ℕ) (n : ℕ). l ++ n ∷ []) (row-put .kept .sorts-before row done (omega arith)) (row-put .sort-is)
+            ∙ ap₂ (λ (l : List ℕ) (n : ℕ). l ++ n ∷ []) (row-put .kept .rows-before row done (omega arith) .sorts) (row-put .sort-is)
+
+        -- its name and the word of it
+        abbrev declared : Declared
+        declared = record { name = nameOf (item 0 (x .operands)); at = wordOf (item 0 (x .operands)) }
+
+        -- the declared names with it
+        declared-put : declaredFrom after row (done + 1) ≡ declaredFrom names row done ++ declared ∷ []
+        declared-put =
+            let itself : _≡_ {A = Declared} (record { name = nameIn after (row + done); at = wordIn after (row + done) }) declared =
+            rw (row-put .name, row-put .word-is) in
+            last-row after row done .declared
+            ∙ ap₂ (λ (l : List Declared) (d : Declared). l ++ d ∷ []) (row-put .kept .rows-before row done (omega arith) .declared) itself
 
         -- the place of its name
         tested-is : tested ≡ newName nowhere (namesFrom names row done ++ namesIn names₀ scope) (item 0 (x .operands))
@@ -174,6 +190,7 @@ module _ {text lexemes names₀ : List ℕ} {scope : Scope} {row first close now
           kept = kept-more (k .kept) (row-put .kept);
           names-are = rw names-put (append-assoc (namesFrom names row done) _ _ ∙ k .names-are);
           sorts-are = rw sorts-put (append-assoc (sortsFrom names row done) _ _ ∙ k .sorts-are);
+          declared-are = rw declared-put (append-assoc (declaredFrom names row done) _ _ ∙ k .declared-are);
         }
 
     module _ {at : ℕ} (s : Going text lexemes names₀ scope row first close nowhere names place at done) where
@@ -188,6 +205,7 @@ module _ {text lexemes names₀ : List ℕ} {scope : Scope} {row first close now
             table = k .table;
             names-are = rw (← all-done) (sym (append-nil (namesFrom names row done)) ∙ k .names-are);
             sorts-are = rw (← all-done) (sym (append-nil (sortsFrom names row done)) ∙ k .sorts-are);
+            declared-are = rw (← all-done) (sym (append-nil (declaredFrom names row done)) ∙ k .declared-are);
             kept = rw (← all-done) (k .kept);
           }
 

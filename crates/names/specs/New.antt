@@ -17,7 +17,8 @@ unfoldable pub newPairs : (nowhere : ℕ) → (scope : List (List ℕ)) → (pai
 newPairs nowhere scope none = nowhere
 newPairs nowhere scope (tree l ops more) = min (newName nowhere scope (item 0 ops)) (newPairs nowhere (nameOf (item 0 ops) ∷ scope) more)
 
--- The names and sorts of pairs.
+-- The names of pairs, with their places and sorts.
 unfoldable pub namedBy : (pairs : Items) → List Named
 namedBy none = []
-namedBy (tree l ops more) = record { name = nameOf (item 0 ops); sort = sortOf (item 1 ops) (inside 1 ops) } ∷ namedBy more
+namedBy (tree l ops more) =
+    record { name = nameOf (item 0 ops); at = wordOf (item 0 ops); sort = sortOf (item 1 ops) (inside 1 ops) } ∷ namedBy more

@@ -18,19 +18,24 @@ use Rattle.lexemes.specs.Reserved.{isReserved, isWord}
 use Rattle.term_nodes.specs.Terms.{Raw, constant, cut, decimal, number, pattern, word}
 use Rattle.written_sorts.specs.Written.{sortOf}
 
--- A variable, an argument or a non-terminal: its name and its sort.
+-- A variable, an argument or a non-terminal: its name, the word at which it is declared, and its sort. "Each declared name's record must hold the place of its
+-- declaration" (E8).
 pub record Named : Type 0 where
   pub name : List ℕ
+  pub at : ℕ
   pub sort : ℕ
 
--- A `define-fun` that was read: its name, signature and body.
+-- A `define-fun` that was read: its name, the word of its name, its signature and body.
 pub record Defined : Type 0 where
   pub name : List ℕ
+  pub at : ℕ
   pub definition : Definition
 
--- A `synth-fun` that was read: its name, its arguments, its sort, its non-terminals, its grammar, and how many `define-fun`s stand before it.
+-- A `synth-fun` that was read: its name, the word of its name, its arguments, its sort, its non-terminals, its grammar, and how many `define-fun`s stand before
+-- it.
 pub record Function : Type 0 where
   pub name : List ℕ
+  pub at : ℕ
   pub arguments : List Named
   pub result : ℕ
   pub nonTerminals : List Named

@@ -4,3 +4,4 @@ pub mod Meanings
 pub mod Forms
 pub mod Nodes
 pub mod New
+pub mod Earlier

@@ -1,5 +1,6 @@
 //! Names in scope: a table of them, what a symbol stands for, and the forms that terms say.
-//! New names: whether one is reserved or taken, and the names of arguments and non-terminals put in scope.
+//! New names: whether one is reserved or taken, where a name that is taken was declared, and the names of arguments and non-terminals put in scope.
+pub mod earlier;
 pub mod forms;
 mod meanings;
 pub mod new;

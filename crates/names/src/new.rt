@@ -64,13 +64,13 @@ pub fn new_name(
     nowhere
 }
 
-// Puts the name and the sort of the pair at a word into a row.
+// Puts the name of the pair at a word, its word and its sort into a row.
 fn put_pair(text: &[u8], lexemes: &[u64], names: &mut [u8], row: usize, at: usize)
     requires { ⌜ PairAt (now text) (now lexemes) (now names) row at ⌝ }
     ensures { λ r. ⌜ ((p : PairAt (now (text .entry)) (now (lexemes .entry)) (now (names .entry)) row at) → PairPut p (now (names .exit))) ⌝ }
 {
     let sort = sort_of(lexemes, at + 2) as u8;
-    put_name(names, row, sort, bytes_at(text, lexemes, at + 1));
+    put_name(names, row, sort, at + 1, bytes_at(text, lexemes, at + 1));
 }
 
 // Puts the names and sorts of the pairs from a word to the bracket that closes their list into the rows from `row` on; returns the least word whose name is

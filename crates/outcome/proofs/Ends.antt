@@ -16,7 +16,7 @@ use Rattle.words.specs.Words.{bytesAt, enquired, wordAt, wordsOf}
 use Rattle.words.proofs.Offsets.{end-past, end-within}
 use Rattle.script.specs.Outcome.{startOf}
 use Rattle.script.specs.Rows.{AtWord, ResponseRow, ScriptRow, TextRow, bad-name, bad-word, closed-too-often, ends-early, fail, grammar-fault, header-differs}
-use Rattle.script.specs.Rows.{infeasible, never-closed, not-carried, past-limit, shape-unknown, sort-fault, too-long}
+use Rattle.script.specs.Rows.{infeasible, name-taken, never-closed, not-carried, past-limit, shape-unknown, sort-fault, too-long}
 use Rattle.outcome.specs.Checked.{Checked}
 use Rattle.outcome.specs.Located.{EndAt, carries, located, of-text, of-word, spokenOf}
 use Rattle.outcome.specs.Table.{AnswerRow, accepted, bad-points, budget-ended, constraint-false, no-derivation, of-response, of-script}
@@ -88,9 +88,10 @@ text-row-ends (bad-name w) t = of-place w
 text-row-ends (sort-fault w) t = of-place w
 
 -- One of a script.
-script-row-ends : {text : List ℕ} {number place : ℕ} → ScriptRow text number place → carries number ≡ true → EndAt text place (endOf text place)
+script-row-ends : {text : List ℕ} {number place second : ℕ} → ScriptRow text number place second → carries number ≡ true → EndAt text place (endOf text place)
 script-row-ends (ScriptRow.of-text r) t = text-row-ends r t
 script-row-ends (grammar-fault w) t = of-place w
+script-row-ends (name-taken w u h) t = of-place w
 
 -- One of a response.
 response-row-ends : {text : List ℕ} {number place : ℕ} → ResponseRow text number place → carries number ≡ true → EndAt text place (endOf text place)

@@ -30,3 +30,7 @@ pub mod BodiesAssured
 pub mod Nodes
 pub mod SmallTerms
 pub mod Promised
+pub mod Apart
+pub mod Scoped
+pub mod Second
+pub mod NameTable

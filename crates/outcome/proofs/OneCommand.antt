@@ -27,7 +27,7 @@ pub data Command (c : Items) : Type 0 where
   another : Tests c false false false false false → Command c
 
 -- A name that is one word is no other.
-other-word : (one other : String) → isWord other (spelling one) ≡ false → (name : List ℕ) → isWord one name ≡ true → isWord other name ≡ false
+pub other-word : (one other : String) → isWord other (spelling one) ≡ false → (name : List ℕ) → isWord one name ≡ true → isWord other name ≡ false
 other-word one other differ name h = subst (λ (n : List ℕ). isWord other n ≡ false) (same-bytes (spelling one) name h) differ
 
 -- Every command is one of these.

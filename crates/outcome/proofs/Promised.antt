@@ -16,12 +16,12 @@ use Rattle.outcome.proofs.Sorted.{passed-sorted}
 use Rattle.script.specs.Outcome.{ScriptOutcome, byCommands, byWords, said, scriptOutcome}
 
 -- A refusal says nothing.
-not-said : {A : Type 0} {number offset : ℕ} {k : Known} → ScriptOutcome.faulty number offset ≡ said k → A
+pub not-said : {A : Type 0} {number offset second : ℕ} {k : Known} → ScriptOutcome.faulty number offset second ≡ said k → A
 not-said e = let z : _≡_ {A = ℕ} 0 1 = cc in absurd (omega arith)
 
 -- What the commands say is what was read.
-by-commands : (text : List ℕ) (read : Read) {k : Known} → byCommands text read ≡ said k → read ≡ passed k
-by-commands text (refused number place) e = not-said e
+pub by-commands : (text : List ℕ) (read : Read) {k : Known} → byCommands text read ≡ said k → read ≡ passed k
+by-commands text (refused number place second) e = not-said e
 by-commands text (passed k) e = cc
 
 -- Every rule, body, constraint and assumption of a script that passes has its sort.

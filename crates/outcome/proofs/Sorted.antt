@@ -7,8 +7,9 @@ use mathlib.Core.Option.{some}
 use mathlib.Core.Path.{_≡_, refl, sym, _∙_, subst}
 use lib.Dec.{ltb}
 use lib.ListN.{length, length-map}
-use borrow.Author.Tests.{lt-ltb, ltb-false}
+use borrow.Author.Tests.{lt-ltb, ltb-false, not-false}
 use Rattle.forest.specs.Forest.{none, tree}
+use Rattle.forest.proofs.Bools.{or-left}
 use Rattle.terms.specs.Labels.{Terms}
 use Rattle.terms.specs.Sorts.{sortOver, sortsOf as termSorts, withSort}
 use Rattle.terms.specs.code.Sorted.{AllSorted}
@@ -32,52 +33,61 @@ use Rattle.outcome.proofs.Growing.{AllBefore, Sound}
 use Rattle.script.proofs.WordsBelow.{Below, stands-below}
 
 -- A refusal is not what passes.
-never-passed : {A : Type 0} (number place : ℕ) {k : Known} → refused number place ≡ passed k → A
-never-passed number place h = let z : _≡_ {A = ℕ} 0 1 = cc in absurd (omega arith)
+pub never-passed : {A : Type 0} (number place second : ℕ) {k : Known} → refused number place second ≡ passed k → A
+never-passed number place second h = let z : _≡_ {A = ℕ} 0 1 = cc in absurd (omega arith)
 
 -- A test that does not end the reading has failed, and what follows passes.
-not-refused : (test : Bool) (number place : ℕ) {later : Read} {k : Known} → cond test (refused number place) later ≡ passed k
+not-refused : (test : Bool) (number place second : ℕ) {later : Read} {k : Known} → cond test (refused number place second) later ≡ passed k
     → (test ≡ false) × (later ≡ passed k)
-not-refused true number place h = never-passed number place h
-not-refused false number place h = (refl, h)
+not-refused true number place second h = never-passed number place second h
+not-refused false number place second h = (refl, h)
 
 -- Where a refusal is the other case, it is not what was read.
-only-passed : (test : Bool) (number place : ℕ) {read : Read} {k : Known} → cond test read (refused number place) ≡ passed k → read ≡ passed k
-only-passed true number place h = h
-only-passed false number place h = never-passed number place h
+pub only-passed : (test : Bool) (number place second : ℕ) {read : Read} {k : Known} → cond test read (refused number place second) ≡ passed k → read ≡ passed k
+only-passed true number place second h = h
+only-passed false number place second h = never-passed number place second h
 
 -- What follows a command that passes.
-followed : (read : Read) (next : Known → Read) {k : Known} → andThen read next ≡ passed k → (later : Known) × (read ≡ passed later) × (next later ≡ passed k)
-followed (refused number place) next h = never-passed number place h
+pub followed : (read : Read) (next : Known → Read) {k : Known} → andThen read next ≡ passed k
+    → (later : Known) × (read ≡ passed later) × (next later ≡ passed k)
+followed (refused number place second) next h = never-passed number place second h
 followed (passed later) next h = (later, refl, h)
 
--- A command that passes has no fault in its sorts and its grammar, and what it says is known.
-record NoFault (nowhere : ℕ) (k : Known) (c : Items) (said later : Known) : Type 0 where
-  sorts : nowhere ≤ sortingPlace nowhere k c
-  rules : nowhere ≤ grammarPlace nowhere k c
-  is : said ≡ later
+-- A command that passes has its shape and no fault in its names, its sorts and its grammar, and what it says is known.
+pub record NoFault (nowhere : ℕ) (k : Known) (c : Items) (said later : Known) : Type 0 where
+  pub shape : commandShape c ≡ true
+  pub names : nowhere ≤ namePlace nowhere k c
+  pub sorts : nowhere ≤ sortingPlace nowhere k c
+  pub rules : nowhere ≤ grammarPlace nowhere k c
+  pub is : said ≡ later
 
 -- Such is every command that passes.
-no-faults : (counts : Counts) (nowhere : ℕ) (k : Known) (at : ℕ) (c : Items) (said : Known) {later : Known}
+pub no-faults : (counts : Counts) (nowhere : ℕ) (k : Known) (at : ℕ) (c : Items) (said : Known) {later : Known}
     → judged counts nowhere k at c said ≡ passed later → NoFault nowhere k c said later
 unfolding judged tested
 no-faults counts nowhere k at c said h =
-    let carried = not-refused (notCarried c) _ _ h in
-    let shaped = not-refused (not (commandShape c) || outOfPlace k c) _ _ (carried .1) in
-    let limited = not-refused (ltb (limitPlace counts nowhere k at c) nowhere) _ _ (shaped .1) in
-    let named = not-refused (ltb (namePlace nowhere k c) nowhere) _ _ (limited .1) in
-    let sorted = not-refused (ltb (sortingPlace nowhere k c) nowhere) _ _ (named .1) in
-    let ruled = not-refused (ltb (grammarPlace nowhere k c) nowhere) _ _ (sorted .1) in
-    record { sorts = ltb-false _ _ (sorted .0); rules = ltb-false _ _ (ruled .0); is = cc (ruled .1) }
+    let carried = not-refused (notCarried c) _ _ _ h in
+    let shaped = not-refused (not (commandShape c) || outOfPlace k c) _ _ _ (carried .1) in
+    let limited = not-refused (ltb (limitPlace counts nowhere k at c) nowhere) _ _ _ (shaped .1) in
+    let named = not-refused (ltb (namePlace nowhere k c) nowhere) _ _ _ (limited .1) in
+    let sorted = not-refused (ltb (sortingPlace nowhere k c) nowhere) _ _ _ (named .1) in
+    let ruled = not-refused (ltb (grammarPlace nowhere k c) nowhere) _ _ _ (sorted .1) in
+    record {
+      shape = not-false (commandShape c) (or-left (not (commandShape c)) (outOfPlace k c) (shaped .0));
+      names = ltb-false _ _ (named .0);
+      sorts = ltb-false _ _ (sorted .0);
+      rules = ltb-false _ _ (ruled .0);
+      is = cc (ruled .1);
+    }
 
 module _ (counts : Counts) (nowhere : ℕ) where
   -- What is known after commands that pass is sound, where it was before.
   passed-sound : (items : Items) {k later : Known} → Below nowhere items → Sound k → readAll counts nowhere k items ≡ passed later → Sound later
   unfolding Below readAll
-  passed-sound none {k} {later} below sound h = let same : k ≡ later = cc (only-passed (k .ended) _ _ h) in subst Sound same sound
+  passed-sound none {k} {later} below sound h = let same : k ≡ later = cc (only-passed (k .ended) _ _ _ h) in subst Sound same sound
   passed-sound (tree l c more) {k} below sound h =
       let read = judged counts nowhere k (wordOf l) c (knownAfter k c) in
-      let next = followed read (λ (later : Known). readAll counts nowhere later more) (only-passed (isList l) _ _ h) in
+      let next = followed read (λ (later : Known). readAll counts nowhere later more) (only-passed (isList l) _ _ _ h) in
       let fine = no-faults counts nowhere k (wordOf l) c (knownAfter k c) (next .1) in
       let some-word : 0 < nowhere = omega (arith, below .0 .first) in
       let after = after-command k c some-word (below .1) sound (fine .sorts) (fine .rules) (command c) in

@@ -64,7 +64,8 @@ missized-one script response points area e =
     either false p q = q
 
 -- A script that is refused has a number from 1 to 12.
-script-number : (script : List ℕ) {number offset : ℕ} → scriptOutcome script ≡ ScriptOutcome.faulty number offset → (1 ≤ number) × (number ≤ 12)
+script-number : (script : List ℕ) {number offset second : ℕ} → scriptOutcome script ≡ ScriptOutcome.faulty number offset second
+    → (1 ≤ number) × (number ≤ 12)
 script-number script e = let h = subst (Numbered inScript) e (script-numbered script) in (h .some, h .few)
 
 -- So has a response.
@@ -114,7 +115,7 @@ module _ (script response points area : List ℕ) (sized : sizeAnswer script res
       go false o h = never (sym h)
 
 -- A script that is refused says nothing.
-not-said : {A : Type 0} {number offset : ℕ} {k : Known} → ScriptOutcome.faulty number offset ≡ said k → A
+not-said : {A : Type 0} {number offset second : ℕ} {k : Known} → ScriptOutcome.faulty number offset second ≡ said k → A
 not-said e = let z : _≡_ {A = ℕ} 0 1 = cc in absurd (omega arith)
 
 -- A response that is refused gives no bodies.

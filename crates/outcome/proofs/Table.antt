@@ -32,10 +32,11 @@ use Rattle.outcome.proofs.Sums.{sum-few}
 use Rattle.outcome.proofs.Units.{in-order}
 
 -- The row of a script that is refused.
-script-row : (script : List ℕ) {number place : ℕ} → scriptOutcome script ≡ ScriptOutcome.faulty number place → ScriptRow script number place
+script-row : (script : List ℕ) {number place second : ℕ} → scriptOutcome script ≡ ScriptOutcome.faulty number place second
+    → ScriptRow script number place second
 script-row script e = go (subst (ScriptKept script) e (script-kept script))
   where
-    go : {number place : ℕ} → ScriptKept script (ScriptOutcome.faulty number place) → ScriptRow script number place
+    go : {number place second : ℕ} → ScriptKept script (ScriptOutcome.faulty number place second) → ScriptRow script number place second
     go (ScriptKept.refuses row) = row
 
 -- And of a response.

@@ -7,6 +7,7 @@ use mathlib.Core.Path.{_≡_}
 use lib.ListN.{getD}
 use Rattle.operators.specs.Sorts.{maxWidth}
 use Rattle.evaluation.specs.code.Points.{SortsSmall}
+use Rattle.words.specs.Trees.{wordOf}
 use Rattle.lexemes.specs.Lists.{Items, inside, is, item, nameOf}
 use Rattle.written_sorts.specs.Written.{sortOf, sortPlace}
 use Rattle.written_sorts.specs.declared.Fault.the-variants.{TooWide}
@@ -34,7 +35,7 @@ small-after nowhere k at c some-word below limited sorted small = go (is "declar
     sort = sortOf (item 2 c) (inside 2 c)
 
     go : (declares : Bool) (past others : ℕ) → nowhere ≤ cond declares (min past (sortPlace TooWide nowhere (item 2 c) (inside 2 c))) others
-        → SortsSmall (namedSorts (cond declares (k .variables ++ record { name = nameOf (item 1 c); sort = sort } ∷ []) (k .variables)))
+        → SortsSmall (namedSorts (cond declares (k .variables ++ record { name = nameOf (item 1 c); at = wordOf (item 1 c); sort = sort } ∷ []) (k .variables)))
     go true past others h =
         let numeral = item-below some-word 2 (inside 2 c) (inside-below nowhere 2 c below) .first in
         record { small = small-more (k .variables) _ (small .small) (sort-narrow nowhere (item 2 c) (inside 2 c) numeral (omega arith)) }

@@ -18,9 +18,13 @@ use Rattle.outcome.specs.Derived.{FirstUnderived, ListsShown, blankArea,
 use Rattle.outcome.specs.Evaluated.{ranWith, runOutcome}
 use Rattle.outcome.specs.declared.Outcome.{Outcome}
 
--- An answer that names a text and a place: its second number is 0, and it has no units.
+-- An answer that names a text and a place, and has no units.
+abbrev pub refusalWith : (number text place second : ℕ) → Outcome
+refusalWith number text place second = record { number = number; text = text; place = place; second = second; units = 0 }
+
+-- The same with the second number 0.
 abbrev pub refusal : (number text place : ℕ) → Outcome
-refusal number text place = record { number = number; text = text; place = place; second = 0; units = 0 }
+refusal number text place = refusalWith number text place 0
 
 -- "1 (script, response ..)": a script or a response that is too long, at "its length"; else what comes after them.
 abbrev pub lengthsOr : (script response : List ℕ) → (later : Option Outcome) → Option Outcome
@@ -61,7 +65,8 @@ pub data Judgement (response : List ℕ) (k : Known) (bs : List Body) (points : 
 
 -- What refuses one of two texts that are not too long: "script words ..; commands ..; response words likewise; 10 and 11 ..; the response's commands likewise".
 pub data TextsRefused (script response : List ℕ) : Outcome → Type 0 where
-  script-refused : {number offset : ℕ} → scriptOutcome script ≡ ScriptOutcome.faulty number offset → TextsRefused script response (refusal number 0 offset)
+  script-refused : {number offset second : ℕ} → scriptOutcome script ≡ ScriptOutcome.faulty number offset second
+      → TextsRefused script response (refusalWith number 0 offset second)
   response-refused : {k : Known} {number offset : ℕ} → scriptOutcome script ≡ said k → responseOutcome k response ≡ ResponseOutcome.faulty number offset
       → TextsRefused script response (refusal number 1 offset)
 

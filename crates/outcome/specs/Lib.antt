@@ -1,4 +1,5 @@
 pub mod Sorted
+pub mod Scoped
 pub mod Derived
 pub mod Evaluated
 pub mod Checked

@@ -10,7 +10,7 @@ use Rattle.script.specs.Script.{Known}
 use Rattle.script.specs.Response.{inScriptOrder}
 use Rattle.script.specs.Outcome.{said, scriptOutcome}
 use Rattle.script.specs.Rows.{AtWord, ResponseRow, ScriptRow}
-use Rattle.outcome.specs.Checked.{refusal}
+use Rattle.outcome.specs.Checked.{refusal, refusalWith}
 use Rattle.outcome.specs.Demands.{Named, TermNamed}
 use Rattle.outcome.specs.declared.Outcome.{Outcome}
 
@@ -34,7 +34,7 @@ pub data AnswerRow (script response points area : List ℕ) : Outcome → Type 0
   accepted : {k : Known} {done held units : ℕ} → scriptOutcome script ≡ said k → pointsOf (namedSorts (k .variables)) points ≡ Good done → held ≤ done
       → AnswerRow script response points area (record { number = 0; text = 3; place = 0; second = held; units = units })
   too-long : {text place : ℕ} → LengthOf script response points area text place → AnswerRow script response points area (refusal 1 text place)
-  of-script : {number place : ℕ} → ScriptRow script number place → AnswerRow script response points area (refusal number 0 place)
+  of-script : {number place second : ℕ} → ScriptRow script number place second → AnswerRow script response points area (refusalWith number 0 place second)
   of-response : {number place : ℕ} → ResponseRow response number place → AnswerRow script response points area (refusal number 1 place)
   no-derivation : {k : Known} {place function : ℕ} → scriptOutcome script ≡ said k → AtWord response place → function < length (inScriptOrder (k .functions))
       → AnswerRow script response points area (record { number = 13; text = 1; place = place; second = function; units = 0 })

@@ -28,7 +28,7 @@ module _ (P : Known → Type 0)
     → nowhere ≤ sortingPlace nowhere k c → P k → P (knownAfter k c)) where
   -- What is known keeps to P, where the reading passes.
   data Keeps : Read → Type 0 where
-    ends : {number place : ℕ} → Keeps (refused number place)
+    ends : {number place second : ℕ} → Keeps (refused number place second)
     goes-on : {k : Known} → P k → Keeps (passed k)
 
   -- One of two readings, by a test.
@@ -66,7 +66,7 @@ module _ (P : Known → Type 0)
 
   -- What the script says keeps to P.
   data SaidKeeps : ScriptOutcome → Type 0 where
-    nothing-said : {number offset : ℕ} → SaidKeeps (ScriptOutcome.faulty number offset)
+    nothing-said : {number offset second : ℕ} → SaidKeeps (ScriptOutcome.faulty number offset second)
     said-keeps : {k : Known} → P k → SaidKeeps (said k)
 
   -- What the commands say.

@@ -3,6 +3,7 @@ pub mod Writing
 pub mod Signed
 pub mod SortsPut
 pub mod NamesKept
+pub mod TakenPlaces
 pub mod WordsBelow
 pub mod TableParts
 pub mod CommandByCode

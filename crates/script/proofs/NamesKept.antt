@@ -9,28 +9,21 @@ use lib.ListN.{length}
 use Rattle.forest.specs.Lists.{sameBytes}
 use Rattle.forest.specs.Limits.{mostArguments}
 use Rattle.names.specs.Scopes.{Function, definedNames, functionNames, inOrder, isNamed, namesOf}
-use Rattle.names.specs.code.Lookup.{Kept, Names}
-use Rattle.names.specs.code.Table.{definedRow, functionRow, nameIn, namesFrom, ownArgumentRow, rowCount, sortIn, sortsFrom, variableRow}
-use Rattle.names.proofs.NamePut.{SameRows, last-row}
+use Rattle.names.specs.Earlier.{Declared}
+use Rattle.names.specs.code.Lookup.{Names, SameRows}
+use Rattle.names.specs.code.Table.{declaredFrom, definedRow, functionRow, nameIn, namesFrom, ownArgumentRow, rowCount, sortIn, sortsFrom, variableRow, wordIn}
+use Rattle.names.proofs.NamePut.{last-row}
 use Rattle.names.specs.code.New.{Few, namesIn}
 use Rattle.names.specs.declared.Scope.{Scope}
 use Rattle.names.proofs.Members.{SameNames, name-between, named-both}
 use Rattle.script.specs.Script.{Known, scope}
-use Rattle.script.specs.code.Tables.{ArgumentsHold, Counted, NamesHold}
+use Rattle.script.specs.code.Tables.{ArgumentsHold, Counted, NamesHold, PlacedNames, declaredInOrder}
 use Rattle.script.specs.declared.Progress.{Progress}
 
-module _ {names after : List ℕ} {row n : ℕ} (kept : Kept names row n after) (r m : ℕ) where
-  -- Rows before those that are changed are what they were.
-  pub same-before : r + m ≤ row → SameRows after names r m
-  same-before h = record { names = kept .names-before r m h; sorts = kept .sorts-before r m h }
-
-  -- So are rows behind them.
-  pub same-behind : row + n ≤ r → SameRows after names r m
-  same-behind h = record { names = kept .names-behind r m h; sorts = kept .sorts-behind r m h }
-
--- Rows that two changes leave what they were.
-pub same-through : {names between after : List ℕ} {r m : ℕ} → SameRows between names r m → SameRows after between r m → SameRows after names r m
-same-through one other = record { names = other .names ∙ one .names; sorts = other .sorts ∙ one .sorts }
+-- What one row declares.
+one-row : (names : List ℕ) (r : ℕ) → declaredFrom names r 1 ≡ record { name = nameIn names r; at = wordIn names r } ∷ []
+unfolding declaredFrom
+one-row names r = refl
 
 -- The own rows of the arguments of the first `count` functions are what they were.
 abbrev pub SameArguments : (after names : List ℕ) → (count : ℕ) → Type 0
@@ -45,6 +38,16 @@ module _ {names after : List ℕ} where
       let own = same (length earlier) (length (f .arguments)) (omega arith) (hold .2) in
       (own .names ∙ hold .0, own .sorts ∙ hold .1, hold .2, arguments-kept earlier (λ j m h few. same j m (omega arith) few) (hold .3))
 
+  -- Where the rows of variables, `define-fun`s and functions are what they were, the table has their places.
+  pub placed-kept : {k : Known} → SameRows after names variableRow (length (k .variables))
+      → SameRows after names definedRow (length (k .defined)) → SameRows after names functionRow (length (k .functions))
+      → PlacedNames names k → PlacedNames after k
+  placed-kept variables defined functions hold = record {
+    variables-are = variables .declared ∙ hold .variables-are;
+    defined-are = defined .declared ∙ hold .defined-are;
+    functions-are = functions .declared ∙ hold .functions-are;
+  }
+
   -- Where the rows of all that is known are what they were, the table has the names that are known.
   pub names-kept : {k : Known} → Names after → SameRows after names variableRow (length (k .variables))
       → SameRows after names definedRow (length (k .defined)) → SameRows after names functionRow (length (k .functions))
@@ -56,6 +59,7 @@ module _ {names after : List ℕ} where
     defined-are = defined .names ∙ hold .defined-are;
     functions-are = functions .names ∙ hold .functions-are;
     arguments-are = arguments-kept (k .functions) arguments (hold .arguments-are);
+    placed = placed-kept variables defined functions (hold .placed);
   }
 
   -- One name more behind names that are what they were.
@@ -68,11 +72,23 @@ module _ {names after : List ℕ} where
       → {sort : ℕ} → sortIn after (r + n) ≡ sort → sortsFrom after r (suc n) ≡ l ++ sort ∷ []
   one-sort-more {r} {n} same e is = rw (← add-one) (last-row after r n .sort ∙ rw (same .sorts, e, is))
 
+  -- One declared name more behind those that are what they were.
+  pub one-declared-more : {r n : ℕ} → SameRows after names r n → {l : List Declared} → declaredFrom names r n ≡ l
+      → {d : Declared} → declaredFrom after (r + n) 1 ≡ d ∷ [] → declaredFrom after r (suc n) ≡ l ++ d ∷ []
+  one-declared-more {r} {n} same e is =
+      rw (← add-one) (last-row after r n .declared ∙ ap₂ _++_ (same .declared ∙ e) (sym (one-row after (r + n)) ∙ is))
+
   -- One name more in front of names that stand the last first.
   pub one-more-in-order : {r n : ℕ} → SameRows after names r n → (earlier : List (List ℕ)) → namesFrom names r n ≡ inOrder earlier
       → {name : List ℕ} → nameIn after (r + n) ≡ name → namesFrom after r (suc n) ≡ inOrder (name ∷ earlier)
   unfolding inOrder
   one-more-in-order same earlier e is = one-name-more same e is
+
+  -- One declared name more in front of those that stand the last first.
+  pub one-declared-in-order : {r n : ℕ} → SameRows after names r n → (earlier : List Declared) → declaredFrom names r n ≡ declaredInOrder earlier
+      → {d : Declared} → declaredFrom after (r + n) 1 ≡ d ∷ [] → declaredFrom after r (suc n) ≡ declaredInOrder (d ∷ earlier)
+  unfolding declaredInOrder
+  one-declared-in-order same earlier e is = one-declared-more same e is
 
 -- The order of names makes no difference to which names there are.
 pub same-in-order : (names : List (List ℕ)) → SameNames (inOrder names) names

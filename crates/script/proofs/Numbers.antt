@@ -11,7 +11,7 @@ use Rattle.words.specs.declared.Reading.the-variants.{Whole, Refused}
 use Rattle.script.specs.Script.{Known}
 use Rattle.script.specs.Outcome.{ResponseOutcome, ScriptOutcome, given, responseWithin, said, scriptOutcome}
 use Rattle.script.specs.Rows.{ResponseRow, ScriptRow, TextRow, bad-name, bad-word, closed-too-often, ends-early, fail, grammar-fault, header-differs}
-use Rattle.script.specs.Rows.{infeasible, never-closed, not-carried, past-limit, shape-unknown, sort-fault, too-long}
+use Rattle.script.specs.Rows.{infeasible, name-taken, never-closed, not-carried, past-limit, shape-unknown, sort-fault, too-long}
 use Rattle.script.proofs.Rows.{ReadingRow, ResponseKept, ScriptKept, reading-row, response-kept, says, script-kept}
 
 -- ---- rows
@@ -30,9 +30,10 @@ text-number (bad-name a) = omega arith
 text-number (sort-fault a) = omega arith
 
 -- of a row of a script
-pub script-row-number : {text : List ℕ} {number place : ℕ} → ScriptRow text number place → (1 ≤ number) × (number ≤ 12)
+pub script-row-number : {text : List ℕ} {number place second : ℕ} → ScriptRow text number place second → (1 ≤ number) × (number ≤ 12)
 script-row-number (ScriptRow.of-text r) = let h = text-number r in omega arith
 script-row-number (grammar-fault a) = omega arith
+script-row-number (name-taken a b h) = omega arith
 
 -- and of a row of a response
 pub response-row-number : {text : List ℕ} {number place : ℕ} → ResponseRow text number place → (1 ≤ number) × (number ≤ 12)
@@ -58,7 +59,7 @@ pub record Numbered {A : Type 0} (number : A → ℕ) (a : A) : Type 0 where
 
 -- the number of a script that is refused; 1 where it is not
 abbrev pub inScript : ScriptOutcome → ℕ
-inScript (ScriptOutcome.faulty number offset) = number
+inScript (ScriptOutcome.faulty number offset second) = number
 inScript (said k) = 1
 
 -- a script

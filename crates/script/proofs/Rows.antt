@@ -3,10 +3,10 @@ use Prim.Native.Nat.{ℕ, zero, suc, _+_, _≤_, _<_, min}
 use native.Mathlib.Omega.{arith}
 use mathlib.Core.Path.{_≡_, refl, subst, sym, ap}
 use mathlib.Core.Bool.{Bool, true, false, cond, _&&_, _||_, not}
-use mathlib.Core.List.{List, [], _∷_}
-use borrow.Author.Tests.{ltb-true}
+use mathlib.Core.List.{List, [], _∷_, map}
+use borrow.Author.Tests.{eqb-false, ltb-true}
 use lib.Dec.{eqb, leb, ltb}
-use lib.ListN.{drop, length}
+use lib.ListN.{drop, length, length-map}
 use Rattle.forest.specs.Forest.{none, tree}
 use Rattle.forest.specs.Limits.{Counts, allowed}
 use Rattle.forest.proofs.Bools.{apart}
@@ -15,6 +15,7 @@ use Rattle.word_kinds.specs.declared.Fault.{Fault}
 use Rattle.word_kinds.specs.declared.Fault.the-variants.{BadWord, Bracket, NoFault, NotCarried, PastLimit}
 use Rattle.word_kinds.specs.declared.Kind.{Kind}
 use Rattle.words.specs.Reading.{closeFault, depthAfter, faultAt, foundFrom, lesser, limitFault, ownFault, readingOf}
+use Rattle.words.specs.Spans.{commentAfter, inRun, starts, startsFrom, wordStarts}
 use Rattle.words.specs.Words.{Word, wordAt, wordsOf}
 use Rattle.words.specs.Table.{closes as closing, opens as opening}
 use Rattle.words.specs.Answers.{faultNumber}
@@ -31,19 +32,20 @@ use Rattle.headers.specs.Tokens.{differing, headerOf, headerTokens, wordsIn}
 use Rattle.headers.specs.Heads.{headerPast}
 use Rattle.term_faults.specs.Faults.{bodyFault}
 use Rattle.names.specs.Scopes.{Defined, Function}
+use Rattle.names.proofs.Taken.{earlier-found}
 use Rattle.script.specs.Limits.{nodePast}
 use Rattle.script.specs.Naming.{termNames}
-use Rattle.script.specs.Script.{Known, Read, andThen, grammarPlace, judged, limitPlace, namePlace, outOfPlace, passed, readAll, refused, sortingPlace}
-use Rattle.script.specs.Script.{nothingKnown, tested}
+use Rattle.script.specs.Script.{Known, Read, andThen, earlierPlace, grammarPlace, judged, limitPlace, namePlace, outOfPlace, passed, readAll, refused}
+use Rattle.script.specs.Script.{nothingKnown, sortingPlace, tested}
 use Rattle.script.specs.Response.{Answered, Body, answered, bodies, nothingBehind, inScriptOrder, isAlone, judgedAll, judgedBody, judgedExtra}
 use Rattle.script.specs.Response.{refused as declined, responseView, withBody}
 use Rattle.script.specs.Outcome.{ResponseOutcome, ScriptOutcome, byAnswers, byCommands, byResponse, byWords, given, offsetOf, responseWithin, said}
-use Rattle.script.specs.Outcome.{scriptOutcome, startOf}
+use Rattle.script.specs.Outcome.{scriptOutcome, secondOf, startOf}
 use Rattle.script.specs.Rows.{AtWord, ResponseRow, ScriptRow, TextRow, bad-name, bad-word, closed-too-often, ends-early, fail, grammar-fault}
-use Rattle.script.specs.Rows.{header-differs, infeasible, never-closed, not-carried, past-limit, shape-unknown, sort-fault, too-long}
+use Rattle.script.specs.Rows.{header-differs, infeasible, name-taken, never-closed, not-carried, past-limit, shape-unknown, sort-fault, too-long}
 use Rattle.script.proofs.WordFaults.{OwnFault, OwnKind, a-literal, a-numeral, a-symbol, closes, faulty, kind-own, opens}
 use Rattle.script.proofs.WordsBelow.{Below, item-below, stands-below}
-use Rattle.script.specs.code.Answers.{failAnswer, infeasibleAnswer, shapeAnswer}
+use Rattle.script.specs.code.Answers.{failAnswer, infeasibleAnswer, nameAnswer, shapeAnswer}
 
 -- Where the row holds of what a test takes, by the test, and of what else is taken, it holds of what is taken.
 either : {A : Type 0} (Row : A → Type 0) {a b : A} (t : Bool) → (t ≡ true → Row a) → Row b → Row (cond t a b)
@@ -80,6 +82,51 @@ at-word text i h =
     let st = stands (wordsOf text) i h in
     let start = start-there (length text) (wordsOf text) i (st .here) _ (st .is) in
     record { word = i; known = h; is = refl; within = omega (arith, start, starts-within text i (st .here) _ (st .is)) }
+
+-- The offset of word n of those that start so.
+abbrev startIn : (text : List ℕ) → (past : ℕ) → (ss : List ℕ) → (n : ℕ) → ℕ
+startIn text past ss n = startOf past (map (wordAt text) ss) n
+
+-- words start at or behind the first of the bytes
+starts-after : (text u : List ℕ) (i : ℕ) (comment run : Bool) (past n : ℕ) → n < length (startsFrom u i comment run)
+    → i ≤ startIn text past (startsFrom u i comment run) n
+unfolding startOf startsFrom wordAt
+starts-after text [] i comment run past n h = absurd (omega arith)
+starts-after text (b ∷ u) i comment run past n h =
+    go (starts comment run b) n h (λ m below. starts-after text u (i + 1) (commentAfter comment b) (inRun comment b) past m below)
+  where
+    later : List ℕ
+    later = startsFrom u (i + 1) (commentAfter comment b) (inRun comment b)
+
+    go : (t : Bool) (n : ℕ) → n < length (cond t (i ∷ later) later) → ((m : ℕ) → m < length later → i + 1 ≤ startIn text past later m)
+        → i ≤ startIn text past (cond t (i ∷ later) later) n
+    go true zero h after = omega arith
+    go true (suc n) h after = omega (arith, after n (omega arith))
+    go false n h after = omega (arith, after n h)
+
+-- and the later the word, the later it starts
+starts-rise : (text u : List ℕ) (i : ℕ) (comment run : Bool) (past m n : ℕ) → m < n → n < length (startsFrom u i comment run)
+    → startIn text past (startsFrom u i comment run) m < startIn text past (startsFrom u i comment run) n
+unfolding startOf startsFrom wordAt
+starts-rise text [] i comment run past m n l h = absurd (omega arith)
+starts-rise text (b ∷ u) i comment run past m n l h =
+    go (starts comment run b) m n l h (λ j k. starts-rise text u (i + 1) (commentAfter comment b) (inRun comment b) past j k)
+  where
+    later : List ℕ
+    later = startsFrom u (i + 1) (commentAfter comment b) (inRun comment b)
+
+    go : (t : Bool) (m n : ℕ) → m < n → n < length (cond t (i ∷ later) later)
+        → ((j k : ℕ) → j < k → k < length later → startIn text past later j < startIn text past later k)
+        → startIn text past (cond t (i ∷ later) later) m < startIn text past (cond t (i ∷ later) later) n
+    go true m zero l h rise = absurd (omega arith)
+    go true zero (suc n) l h rise = omega (arith, starts-after text u (i + 1) (commentAfter comment b) (inRun comment b) past n (omega arith))
+    go true (suc m) (suc n) l h rise = rise m n (omega arith) (omega arith)
+    go false m n l h rise = rise m n l h
+
+-- an earlier word of a text has a lesser offset
+pub words-rise : (text : List ℕ) (i j : ℕ) → i < j → j < length (wordsOf text) → offsetOf text i < offsetOf text j
+unfolding wordStarts wordsOf
+words-rise text i j l h = starts-rise text text 0 false false (length text) i j l (omega (arith, length-map (wordStarts text) (wordAt text)))
 
 -- ---- words
 
@@ -161,11 +208,11 @@ reading-row limits text =
 -- What is found in the commands of a script: they pass, or a row.
 data ReadRow (text : List ℕ) : Read → Type 0 where
   passes : {k : Known} → ReadRow text (passed k)
-  refuses : {number place : ℕ} → ScriptRow text number (offsetOf text place) → ReadRow text (refused number place)
+  refuses : {number place second : ℕ} → ScriptRow text number (offsetOf text place) (secondOf text second) → ReadRow text (refused number place second)
 
 -- what follows a command
 then-row : (text : List ℕ) (r : Read) (next : Known → Read) → ReadRow text r → ((k : Known) → ReadRow text (next k)) → ReadRow text (andThen r next)
-then-row text (refused number place) next p q = p
+then-row text (refused number place second) next p q = p
 then-row text (passed k) next p q = q k
 
 module _ (text : List ℕ) (nowhere : ℕ) (all : nowhere ≡ length (wordsOf text)) where
@@ -181,6 +228,20 @@ module _ (text : List ℕ) (nowhere : ℕ) (all : nowhere ≡ length (wordsOf te
   at-end : length text ≡ offsetOf text nowhere
   at-end = sym (start-past (length text) (wordsOf text) nowhere (omega (arith, all)))
 
+  -- a name at fault, and the earlier declaration of one that is taken
+  name-row : (k : Known) (c : Items) (w : ℕ) → ltb w nowhere ≡ true → ReadRow text (refused nameAnswer w (earlierPlace k c w))
+  name-row k c w t = refuses (go (eqb (earlierPlace k c w) 0) refl)
+    where
+      go : (none : Bool) → eqb (earlierPlace k c w) 0 ≡ none
+          → ScriptRow text nameAnswer (offsetOf text w) (cond none 0 (offsetOf text (earlierPlace k c w)))
+      go true e = ScriptRow.of-text (bad-name (tested-there w t))
+      go false e =
+          let below = ltb-true w nowhere t in
+          let some : 0 < earlierPlace k c w = let ne = eqb-false (earlierPlace k c w) 0 e in omega arith in
+          let declaration = earlier-found _ _ w some .declaration in
+          let before : earlierPlace k c w < w = omega (arith, declaration .is, declaration .before) in
+          name-taken (there w below) (there (earlierPlace k c w) (omega arith)) (words-rise text (earlierPlace k c w) w before (omega (arith, all)))
+
   -- one command
   command-row : (counts : Counts) (k : Known) (at : ℕ) (c : Items) (after : Known) → at < nowhere → ReadRow text (judged counts nowhere k at c after)
   unfolding judged tested
@@ -188,7 +249,7 @@ module _ (text : List ℕ) (nowhere : ℕ) (all : nowhere ≡ length (wordsOf te
       either (ReadRow text) (notCarried c) (λ t. refuses (ScriptRow.of-text (not-carried (there at h))))
       (either (ReadRow text) (not (commandShape c) || outOfPlace k c) (λ t. refuses (ScriptRow.of-text (shape-unknown (there at h))))
       (either (ReadRow text) (ltb (limitPlace counts nowhere k at c) nowhere) (λ t. refuses (ScriptRow.of-text (past-limit (tested-there _ t))))
-      (either (ReadRow text) (ltb (namePlace nowhere k c) nowhere) (λ t. refuses (ScriptRow.of-text (bad-name (tested-there _ t))))
+      (either (ReadRow text) (ltb (namePlace nowhere k c) nowhere) (λ t. name-row k c _ t)
       (either (ReadRow text) (ltb (sortingPlace nowhere k c) nowhere) (λ t. refuses (ScriptRow.of-text (sort-fault (tested-there _ t))))
       (either (ReadRow text) (ltb (grammarPlace nowhere k c) nowhere) (λ t. refuses (grammar-fault (tested-there _ t))) passes)))))
 
@@ -204,7 +265,7 @@ module _ (text : List ℕ) (nowhere : ℕ) (all : nowhere ≡ length (wordsOf te
 
 -- A script: it passes, or it is refused by a row.
 pub data ScriptKept (text : List ℕ) : ScriptOutcome → Type 0 where
-  refuses : {number place : ℕ} → ScriptRow text number place → ScriptKept text (ScriptOutcome.faulty number place)
+  refuses : {number place second : ℕ} → ScriptRow text number place second → ScriptKept text (ScriptOutcome.faulty number place second)
   says : {k : Known} → ScriptKept text (said k)
 
 -- every script
@@ -213,7 +274,7 @@ unfolding scriptOutcome
 script-kept text = go (readingOf scriptLimits text) refl (reading-row scriptLimits text)
   where
     by : (r : Read) → ReadRow text r → ScriptKept text (byCommands text r)
-    by (refused number place) (refuses row) = refuses row
+    by (refused number place second) (refuses row) = refuses row
     by (passed k) passes = says
 
     go : (r : Reading) → readingOf scriptLimits text ≡ r → ReadingRow text r → ScriptKept text (byWords text r)

@@ -26,19 +26,23 @@ startOf past (w ∷ ws) (suc n) = startOf past ws n
 abbrev pub offsetOf : (text : List ℕ) → (n : ℕ) → ℕ
 offsetOf text n = startOf (length text) (wordsOf text) n
 
--- A refusal by its number and its offset; or what the script says.
+-- The offset of the word that a second number speaks of; 0 where it speaks of none.
+abbrev pub secondOf : (text : List ℕ) → (n : ℕ) → ℕ
+secondOf text n = cond (eqb n 0) 0 (offsetOf text n)
+
+-- A refusal by its number, its offset and its second number; or what the script says.
 pub data ScriptOutcome : Type 0 where
-  faulty : (number offset : ℕ) → ScriptOutcome
+  faulty : (number offset second : ℕ) → ScriptOutcome
   said : Known → ScriptOutcome
 
 -- What the commands give.
 abbrev pub byCommands : (text : List ℕ) → Read → ScriptOutcome
-byCommands text (refused number place) = faulty number (offsetOf text place)
+byCommands text (refused number place second) = faulty number (offsetOf text place) (secondOf text second)
 byCommands text (passed k) = said k
 
 -- What the words give, and then the commands.
 abbrev pub byWords : (text : List ℕ) → Reading → ScriptOutcome
-byWords text (Refused fault place n) = faulty (faultNumber fault) place
+byWords text (Refused fault place n) = faulty (faultNumber fault) place 0
 byWords text (Whole n) = byCommands text (readAll allowed n nothingKnown (itemsOf text))
 
 -- The script: its words, then its commands.

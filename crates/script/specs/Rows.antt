@@ -1,4 +1,4 @@
--- The rows of the table of answers that speak of a text: which number stands at which place. All of them have the second number 0.
+-- The rows of the table of answers that speak of a text: which number stands at which place. All of them have the second number 0 but 7, where a name is taken.
 -- Where a place is a word, a row says that it is one of the text's; which word it is, the definitions of its number say.
 use Prim.Native.Nat.{ℕ, _<_}
 use mathlib.Core.List.{List}
@@ -21,7 +21,7 @@ pub record AtWord (text : List ℕ) (place : ℕ) : Type 0 where
 -- "4 | past a limit | the word past it, for a command, rule, argument, non-terminal or node its first; 0"
 -- "5, 6 | shape unknown / not carried | command's first word (its bracket); where no command holds it, or 6 is for the word itself, that word; text length if
 -- the text ends early; 0"
--- "7 | name unknown, taken or reserved | name; 0"
+-- "7 | name unknown, taken or reserved | name; 0", but for a name that a script takes (E8, below)
 -- "8 | sort fault | first word of a faulty sort, or of a faulty term whose operands have none; 0"
 pub data TextRow (text : List ℕ) : (number place : ℕ) → Type 0 where
   too-long : TextRow text 1 (length text)
@@ -35,12 +35,14 @@ pub data TextRow (text : List ℕ) : (number place : ℕ) → Type 0 where
   bad-name : {place : ℕ} → AtWord text place → TextRow text 7 place
   sort-fault : {place : ℕ} → AtWord text place → TextRow text 8 place
 
--- Those of a script:
+-- Those of a script, with their second numbers:
 -- "9 | grammar fault | first word of the rule, the non-terminal's listed name (predeclared for the start's sort), or the bracket that closes a list too early;
 -- 0"
-pub data ScriptRow (text : List ℕ) : (number place : ℕ) → Type 0 where
-  of-text : {number place : ℕ} → TextRow text number place → ScriptRow text number place
-  grammar-fault : {place : ℕ} → AtWord text place → ScriptRow text 9 place
+-- "answer 7 returns it as second number" (E8): the place of the declaration of a name that is taken, which stands before.
+pub data ScriptRow (text : List ℕ) : (number place second : ℕ) → Type 0 where
+  of-text : {number place : ℕ} → TextRow text number place → ScriptRow text number place 0
+  grammar-fault : {place : ℕ} → AtWord text place → ScriptRow text 9 place 0
+  name-taken : {place second : ℕ} → AtWord text place → AtWord text second → second < place → ScriptRow text 7 place second
 
 -- Those of a response:
 -- "10, 11 | response is `fail` / `infeasible` | 0; 0"

@@ -17,6 +17,7 @@ use Rattle.grammars.specs.Grammars.{grammarFault, grammarMisfit, grammarNames, 
 use Rattle.script.specs.Limits.{commandPast, nodePast}
 use Rattle.lexemes.specs.Lists.{Items, inside, is, isList, item, nameOf}
 use Rattle.script.specs.Naming.{termNames}
+use Rattle.names.specs.Earlier.{Declared, declaredDefined, declaredFunctions, declaredNames, earlier}
 use Rattle.names.specs.New.{namedBy, newName}
 use Rattle.names.specs.Scopes.{Defined, Function, Named, View, definedNames, formsOf, functionNames, namesOf, namedSorts}
 use Rattle.shapes.specs.Shapes.{commandShape}
@@ -43,6 +44,10 @@ nothingKnown = record { logic = false; ended = false; variables = []; defined = 
 -- All names in scope.
 abbrev pub scope : Known → List (List ℕ)
 scope k = namesOf (k .variables) ++ definedNames (k .defined) ++ functionNames (k .functions)
+
+-- The same with the places of their declarations.
+abbrev pub declaredIn : Known → List Declared
+declaredIn k = declaredNames (k .variables) ++ declaredDefined (k .defined) ++ declaredFunctions (k .functions)
 
 -- "A `define-fun` body sees its arguments and earlier `define-fun`s."
 abbrev pub bodyView : Known → (arguments : List Named) → View
@@ -103,6 +108,20 @@ namePlace nowhere k c =
     (termNames nowhere (constraintView k) (item 1 c) (inside 1 c))
     (termNames nowhere (constraintView k) (item 1 c) (inside 1 c))
 
+-- The new names of a command: its own, its arguments, and its non-terminals as predeclared.
+unfoldable pub newNames : Items → List Declared
+newNames c =
+    let own : Declared = record { name = nameOf (item 1 c); at = wordOf (item 1 c) } in
+    cond (is "declare-var" (item 0 c)) (own ∷ [])
+    (cond (is "define-fun" (item 0 c)) (own ∷ declaredNames (argumentsOf c))
+    (cond (is "synth-fun" (item 0 c)) (own ∷ declaredNames (argumentsOf c) ++ declaredNames (namedBy (inside 4 c)))
+    []))
+
+-- The second number of 7 at word w of a command: "the place of its declaration" where the name is taken, by a name in scope before the command or by one of its
+-- own new names, "0 for unknown or reserved" (E8).
+abbrev pub earlierPlace : Known → Items → (w : ℕ) → ℕ
+earlierPlace k c w = earlier (declaredIn k ++ newNames c) (newNames c) w
+
 -- 8 in a command.
 unfoldable pub sortingPlace : (nowhere : ℕ) → Known → Items → ℕ
 sortingPlace nowhere k c =
@@ -117,24 +136,25 @@ sortingPlace nowhere k c =
 unfoldable pub grammarPlace : (nowhere : ℕ) → Known → Items → ℕ
 grammarPlace nowhere k c = byCommand c nowhere nowhere nowhere (grammarMisfit nowhere (viewOf k c) c) nowhere nowhere
 
--- A refusal by its number and the word at fault, past the last word for the end of the text; or what is known after a command.
+-- A refusal by its number, the word at fault, past the last word for the end of the text, and the word that its second number speaks of, 0 for none; or what is
+-- known after a command.
 pub data Read : Type 0 where
-  refused : (number place : ℕ) → Read
+  refused : (number place second : ℕ) → Read
   passed : Known → Read
 
 -- 4, 7, 8, 9 of a command of a right shape in its place, whose bracket is word `at`, and which says `said` where it passes.
 unfoldable pub tested : Counts → (nowhere : ℕ) → Known → (at : ℕ) → Items → (said : Known) → Read
 tested counts nowhere k at c said =
-    cond (ltb (limitPlace counts nowhere k at c) nowhere) (refused 4 (limitPlace counts nowhere k at c))
-    (cond (ltb (namePlace nowhere k c) nowhere) (refused 7 (namePlace nowhere k c))
-    (cond (ltb (sortingPlace nowhere k c) nowhere) (refused 8 (sortingPlace nowhere k c))
-    (cond (ltb (grammarPlace nowhere k c) nowhere) (refused 9 (grammarPlace nowhere k c))
+    cond (ltb (limitPlace counts nowhere k at c) nowhere) (refused 4 (limitPlace counts nowhere k at c) 0)
+    (cond (ltb (namePlace nowhere k c) nowhere) (refused 7 (namePlace nowhere k c) (earlierPlace k c (namePlace nowhere k c)))
+    (cond (ltb (sortingPlace nowhere k c) nowhere) (refused 8 (sortingPlace nowhere k c) 0)
+    (cond (ltb (grammarPlace nowhere k c) nowhere) (refused 9 (grammarPlace nowhere k c) 0)
     (passed said))))
 
 -- "in it 6, then 5, 4, 7, 8, 9, least offset each": of a command, whose bracket is word `at`, and which says `said` where it passes.
 unfoldable pub judged : Counts → (nowhere : ℕ) → Known → (at : ℕ) → Items → (said : Known) → Read
 judged counts nowhere k at c said =
-    cond (notCarried c) (refused 6 at) (cond (not (commandShape c) || outOfPlace k c) (refused 5 at) (tested counts nowhere k at c said))
+    cond (notCarried c) (refused 6 at 0) (cond (not (commandShape c) || outOfPlace k c) (refused 5 at 0) (tested counts nowhere k at c said))
 
 -- The label that a form's node is; in a body, a constraint or an assumption there are no others.
 abbrev pub labelOf : Item → Label
@@ -156,11 +176,12 @@ termOf view l ops = termsIn (formsOf view (rawTerm l ops))
 unfoldable pub knownAfter : Known → Items → Known
 knownAfter k c =
     let header : Signature = record { arguments = namedSorts (argumentsOf c); result = sortOf (item 3 c) (inside 3 c) } in
-    let variable : Named = record { name = nameOf (item 1 c); sort = sortOf (item 2 c) (inside 2 c) } in
+    let variable : Named = record { name = nameOf (item 1 c); at = wordOf (item 1 c); sort = sortOf (item 2 c) (inside 2 c) } in
     let definition : Definition = record { signature = header; body = termOf (bodyView k (argumentsOf c)) (item 4 c) (inside 4 c) } in
     let stated : Terms = termOf (constraintView k) (item 1 c) (inside 1 c) in
     let function : Function = record {
       name = nameOf (item 1 c);
+      at = wordOf (item 1 c);
       arguments = argumentsOf c;
       result = sortOf (item 3 c) (inside 3 c);
       nonTerminals = namedBy (inside 4 c);
@@ -171,7 +192,7 @@ knownAfter k c =
       logic = k .logic || is "set-logic" (item 0 c);
       ended = k .ended || is "check-synth" (item 0 c);
       variables = cond (is "declare-var" (item 0 c)) (k .variables ++ variable ∷ []) (k .variables);
-      defined = cond (is "define-fun" (item 0 c)) (record { name = nameOf (item 1 c); definition = definition } ∷ k .defined) (k .defined);
+      defined = cond (is "define-fun" (item 0 c)) (record { name = nameOf (item 1 c); at = wordOf (item 1 c); definition = definition } ∷ k .defined) (k .defined);
       functions = cond (is "synth-fun" (item 0 c)) (function ∷ k .functions) (k .functions);
       constraints = cond (is "constraint" (item 0 c)) (k .constraints ++ stated ∷ []) (k .constraints);
       assumptions = cond (is "assume" (item 0 c)) (k .assumptions ++ stated ∷ []) (k .assumptions);
@@ -179,16 +200,16 @@ knownAfter k c =
 
 -- What follows a command that passes; a refusal ends the reading.
 abbrev pub andThen : Read → (Known → Read) → Read
-andThen (refused number place) next = refused number place
+andThen (refused number place second) next = refused number place second
 andThen (passed k) next = next k
 
 -- The commands of a script, one after the other: "commands, the first faulty one"; "where no command holds it .. that word; text length if the text ends
 -- early". `nowhere` is the number of the script's words: it is past each of them, and as a place it is the end of the text.
 unfoldable pub readAll : Counts → (nowhere : ℕ) → Known → Items → Read
-readAll counts nowhere k none = cond (k .ended) (passed k) (refused 5 nowhere)
+readAll counts nowhere k none = cond (k .ended) (passed k) (refused 5 nowhere 0)
 readAll counts nowhere k (tree l c more) =
     let next : Known → Read = λ (later : Known). readAll counts nowhere later more in
-    cond (isList l) (andThen (judged counts nowhere k (wordOf l) c (knownAfter k c)) next) (refused 5 (wordOf l))
+    cond (isList l) (andThen (judged counts nowhere k (wordOf l) c (knownAfter k c)) next) (refused 5 (wordOf l) 0)
 
 -- The definitions of `define-fun`s.
 abbrev pub definitionsOf : List Defined → List Definition

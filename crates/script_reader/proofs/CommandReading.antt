@@ -15,8 +15,9 @@ use Rattle.script.specs.Script.{Read, judged, knownAfter, outOfPlace, refused}
 use Rattle.script.specs.code.Tables.{TablesHold}
 use Rattle.script.specs.declared.Progress.{Progress}
 use Rattle.script.specs.declared.Verdict.{Verdict}
-use Rattle.script.specs.code.Answers.{shapeAnswer, uncarriedAnswer}
+use Rattle.script.specs.code.Answers.{nameAnswer, shapeAnswer, uncarriedAnswer}
 use Rattle.script_reader.specs.code.Commands.{Reads, saidBy}
+use Rattle.script_reader.specs.code.Taken.{FindsSecond, Refused}
 use Rattle.script_reader.specs.code.Progress.{Few, Stepped, outOfPlaceBy}
 use Rattle.script_reader.specs.code.Command.{CommandRead, CommandTested, Commanded, Shaped, saidAt}
 use Rattle.script_reader.specs.declared.Step.{Step}
@@ -31,21 +32,21 @@ module _ {text lexemes names raw places nodes forms : List ℕ} {p : Progress} {
 
   -- A refusal of the command itself.
   refusal : (c : Commanded text lexemes names raw places nodes forms p i nowhere) {s : Step} (number : ℕ) → 0 < number
-      → s ≡ record { number = number; place = i; progress = p }
-      → judged allowed nowhere (c .known) i (c .here .command) (knownAfter (c .known) (c .here .command)) ≡ refused number i
+      → s ≡ record { number = number; place = i; second = 0; progress = p }
+      → judged allowed nowhere (c .known) i (c .here .command) (knownAfter (c .known) (c .here .command)) ≡ refused number i 0
       → CommandRead c names places nodes forms s
   refusal c {s} number some e is =
       let number-is : s .number ≡ number = ap (λ (t : Step). t .number) e in
       let place-is : s .place ≡ i = ap (λ (t : Step). t .place) e in
       record {
-        reads = subst⁻¹ (λ (r : Read). Reads r names places nodes forms s) is (number-is, place-is);
+        reads = subst⁻¹ (λ (r : Read). Reads r names places nodes forms s) is (number-is, place-is, ap (λ (t : Step). t .second) e);
         nodes-within = λ z. absurd (omega arith);
         forms-within = λ z. absurd (omega arith);
       }
 
   module _ {uncarried : Bool} (found : (x : ListAt lexemes i) → uncarried ≡ notCarried (x .operands)) where
     -- 6.
-    pub read-uncarried : uncarried ≡ true → {s : Step} → s ≡ record { number = uncarriedAnswer; place = i; progress = p }
+    pub read-uncarried : uncarried ≡ true → {s : Step} → s ≡ record { number = uncarriedAnswer; place = i; second = 0; progress = p }
         → (c : Commanded text lexemes names raw places nodes forms p i nowhere) → CommandRead c names places nodes forms s
     read-uncarried taken e c =
         refusal c uncarriedAnswer (omega arith) e
@@ -63,7 +64,7 @@ module _ {text lexemes names raw places nodes forms : List ℕ} {p : Progress} {
       test-is c = ap₂ (λ (a b : Bool). not a || b) (shapes (listed (c .here))) (placed ∙ out-by (c .tables .counted) (tests (c .here) coded))
 
       -- 5.
-      pub read-misplaced : not shape || out ≡ true → {s : Step} → s ≡ record { number = shapeAnswer; place = i; progress = p }
+      pub read-misplaced : not shape || out ≡ true → {s : Step} → s ≡ record { number = shapeAnswer; place = i; second = 0; progress = p }
           → (c : Commanded text lexemes names raw places nodes forms p i nowhere) → CommandRead c names places nodes forms s
       read-misplaced taken e c =
           refusal c shapeAnswer (omega arith) e
@@ -97,10 +98,23 @@ module _ {text lexemes names raw places nodes forms : List ℕ} {p : Progress} {
                 forms = omega (arith, t .forms-within z, c .here .few);
               })
 
+          -- A command that is refused for a name has what tells by which it is taken.
+          abbrev pub refused-here : Commanded text lexemes names raw places nodes forms p i nowhere → v .number ≡ nameAnswer
+              → Refused lexemes namesAfter p i nowhere
+          refused-here c z = record {
+            text = text;
+            here = c .here;
+            shaped = in-shape c .shaped;
+            known = c .known;
+            counted = c .tables .counted;
+            taken = tested (in-shape c) .taken z;
+          }
+
           -- The command is read by its own tests.
-          pub read-tested : {s : Step} → Stepped p code v s → (c : Commanded text lexemes names raw places nodes forms p i nowhere)
+          pub read-tested : {second : ℕ} → FindsSecond lexemes namesAfter (record { progress = p; at = i; nowhere = nowhere }) v second
+              → {s : Step} → Stepped p code v second s → (c : Commanded text lexemes names raw places nodes forms p i nowhere)
               → CommandRead c namesAfter placesAfter nodesAfter formsAfter s
-          read-tested {s} step c =
+          read-tested seconds {s} step c =
               let t = tested (in-shape c) in
               let said = knownAfter (c .known) (c .here .command) in
               let placed-is = judged-placed allowed nowhere (c .known) i (c .here .command) said (carried c) (sym (test-is c) ∙ right) in
@@ -112,7 +126,8 @@ module _ {text lexemes names raw places nodes forms : List ℕ} {p : Progress} {
               record {
                 reads = subst⁻¹ (λ (r : Read). Reads r namesAfter placesAfter nodesAfter formsAfter s) placed-is
                     (reads-by allowed nowhere (c .known) i (c .here .command) said v s namesAfter placesAfter nodesAfter formsAfter
-                    (t .verdict-is) (step .number-is) (step .place-is) tables);
+                    (t .verdict-is) (step .number-is) (step .place-is) (λ ne. step .second-is ∙ seconds .none ne)
+                    (λ z. step .second-is ∙ seconds .taken z (refused-here c z)) tables);
                 nodes-within = λ z. rw (progress (zero z)) (t .nodes-within (zero z));
                 forms-within = λ z. rw (progress (zero z)) (t .forms-within (zero z));
               }

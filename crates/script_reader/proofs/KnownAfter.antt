@@ -92,6 +92,11 @@ module _ {k later : Known} (defined : later .defined ≡ k .defined) (functions 
     defined-are = rw defined (h .defined-are);
     functions-are = rw functions (h .functions-are);
     arguments-are = rw functions (h .arguments-are);
+    placed = record {
+      variables-are = rw variables (h .placed .variables-are);
+      defined-are = rw defined (h .placed .defined-are);
+      functions-are = rw functions (h .placed .functions-are);
+    };
   }
 
   -- So do tables of places and nodes.

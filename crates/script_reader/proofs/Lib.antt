@@ -1,4 +1,5 @@
 pub mod CommandWords
+pub mod TakenByCode
 pub mod KnownAfter
 pub mod JudgedInOrder
 pub mod TestedByCode

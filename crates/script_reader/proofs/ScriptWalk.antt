@@ -20,10 +20,10 @@ use Rattle.evaluation.specs.code.Tables.{BodiesAt}
 use Rattle.term_sorts.specs.code.Signatures.{RowsAre}
 use Rattle.names.specs.Scopes.{inOrder}
 use Rattle.names.specs.code.Lookup.{Names, sourceOf}
-use Rattle.names.specs.code.Table.{namesFrom, sortsFrom}
+use Rattle.names.specs.code.Table.{declaredFrom, namesFrom, sortsFrom}
 use Rattle.forest.specs.Limits.{allowed}
 use Rattle.script.specs.Script.{Known, Read, andThen, judged, knownAfter, passed, readAll, refused, nothingKnown}
-use Rattle.script.specs.code.Tables.{ArgumentsHold, GrammarsHold, StatedAt, TablesHold}
+use Rattle.script.specs.code.Tables.{ArgumentsHold, GrammarsHold, StatedAt, TablesHold, declaredInOrder}
 use Rattle.script.specs.code.Places.{placesLength}
 use Rattle.script.specs.declared.Progress.{Progress}
 use Rattle.script.specs.code.Answers.{shapeAnswer}
@@ -37,7 +37,7 @@ use Rattle.script_reader.proofs.JudgedInOrder.{Numbered, judged-numbere
 -- Before the first command the tables hold that nothing is known.
 pub nothing-held : {names places : List ℕ} (nodes forms : List ℕ) → Names names → length places ≡ placesLength
     → TablesHold names places nodes forms nothingSaid nothingKnown
-unfolding namesFrom sortsFrom inOrder ArgumentsHold RowsAre AllPlain BodiesAt StatedAt GrammarsHold nodeTable nodesOf rows size
+unfolding namesFrom sortsFrom declaredFrom inOrder declaredInOrder ArgumentsHold RowsAre AllPlain BodiesAt StatedAt GrammarsHold nodeTable nodesOf rows size
 nothing-held nodes forms table long = record {
   counted = record {
     logic-is = refl;
@@ -60,6 +60,7 @@ nothing-held nodes forms table long = record {
     defined-are = refl;
     functions-are = refl;
     arguments-are = tt;
+    placed = record { variables-are = refl; defined-are = refl; functions-are = refl };
   };
   places-hold = record {
     long = long;
@@ -87,13 +88,13 @@ record Passes (r : Read) (names places nodes forms : List ℕ) (s : Step) : Type
 -- What is read and is no refusal passes.
 passes : (r : Read) (names places nodes forms : List ℕ) (s : Step) → Numbered r → Reads r names places nodes forms s → s .number ≡ 0
     → Passes r names places nodes forms s
-passes (refused number place) names places nodes forms s some h z = absurd (omega (arith, h .0))
+passes (refused number place second) names places nodes forms s some h z = absurd (omega (arith, h .0))
 passes (passed k) names places nodes forms s some h z = record { known = k; is = refl; tables = h .1 }
 
 -- A refusal ends the reading.
 ends-reading : (r : Read) (next : Known → Read) (names places nodes forms : List ℕ) (s : Step) → Reads r names places nodes forms s → (s .number ≡ 0 → ⊥)
     → Reads (andThen r next) names places nodes forms s
-ends-reading (refused number place) next names places nodes forms s h ne = h
+ends-reading (refused number place second) next names places nodes forms s h ne = h
 ends-reading (passed k) next names places nodes forms s h ne = absurd (ne (h .0))
 
 -- The items from word `at` on are left; the tables hold what is known; and what is read of the rest is what is read of the script.
@@ -149,7 +150,7 @@ module _ {text lexemes names₀ raw₀ places₀ nodes₀ forms₀ : List ℕ} {
     walk-end over {s} e g = record {
       reads =
           subst (λ (r : Read). Reads r names places nodes forms s) all
-          (subst⁻¹ (λ (t : Step). Reads (cond (x .known .ended) (passed (x .known)) (refused shapeAnswer nowhere)) names places nodes forms t) e
+          (subst⁻¹ (λ (t : Step). Reads (cond (x .known .ended) (passed (x .known)) (refused shapeAnswer nowhere 0)) names places nodes forms t) e
           (go (x .known .ended) (x .tables .counted .ended-is)));
       nodes-within = λ z. omega (arith, ap (λ (t : Step). t .progress .nodes) e, x .nodes-within, forward (x .stands));
     }
@@ -161,9 +162,9 @@ module _ {text lexemes names₀ raw₀ places₀ nodes₀ forms₀ : List ℕ} {
         all = ap (λ (F : Items). readAll allowed nowhere (x .known) F) (sym (none-left (x .stands) over)) ∙ x .same
 
         go : (b : Bool) → p .ended ≡ b
-            → Reads (cond b (passed (x .known)) (refused shapeAnswer nowhere)) names places nodes forms (lastStep nowhere (p .ended) p)
+            → Reads (cond b (passed (x .known)) (refused shapeAnswer nowhere 0)) names places nodes forms (lastStep nowhere (p .ended) p)
         go true q = (ap (λ (t : Bool). cond t 0 shapeAnswer) q, x .tables)
-        go false q = (ap (λ (t : Bool). cond t 0 shapeAnswer) q, refl)
+        go false q = (ap (λ (t : Bool). cond t 0 shapeAnswer) q, refl, refl)
 
     module _ (within : at < nowhere) where
       -- The item that stands there.
@@ -191,7 +192,7 @@ module _ {text lexemes names₀ raw₀ places₀ nodes₀ forms₀ : List ℕ} {
 
       module _ {code : ℕ} (coded : code ≡ codeAt lexemes at) where
         -- A word that is in no command.
-        pub walk-word : (code ≡ openCode → ⊥) → {s : Step} → s ≡ record { number = shapeAnswer; place = at; progress = p }
+        pub walk-word : (code ≡ openCode → ⊥) → {s : Step} → s ≡ record { number = shapeAnswer; place = at; second = 0; progress = p }
             → (g : ScriptAt text lexemes names₀ raw₀ places₀ nodes₀ forms₀ nowhere) → ScriptRead g names places nodes forms s
         unfolding readAll
         walk-word other {s} e g =
@@ -199,10 +200,11 @@ module _ {text lexemes names₀ raw₀ places₀ nodes₀ forms₀ : List ℕ} {
             let k = w .left g .known in
             let word = no-list coded other x in
             let place : wordOf (x .label) ≡ at = first-of (x .stands) in
-            let read : readAll allowed nowhere k (tree (x .label) (x .operands) (x .more)) ≡ refused shapeAnswer at = rw (word, place) in
+            let read : readAll allowed nowhere k (tree (x .label) (x .operands) (x .more)) ≡ refused shapeAnswer at 0 = rw (word, place) in
             let number : s .number ≡ shapeAnswer = ap (λ (t : Step). t .number) e in
             record {
-              reads = subst (λ (r : Read). Reads r names places nodes forms s) (sym read ∙ read-here g) (number, ap (λ (t : Step). t .place) e);
+              reads = subst (λ (r : Read). Reads r names places nodes forms s) (sym read ∙ read-here g)
+                  (number, ap (λ (t : Step). t .place) e, ap (λ (t : Step). t .second) e);
               nodes-within = λ z. absurd (omega arith);
             }
 

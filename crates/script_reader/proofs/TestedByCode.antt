@@ -7,12 +7,13 @@ use mathlib.Core.List.{List}
 use mathlib.Core.Path.{_≡_, refl, sym, ap, subst, subst⁻¹, _∙_}
 use lib.ListN.{length}
 use lib.Dec.{eqb}
-use borrow.Author.Tests.{ne-eqb}
+use borrow.Author.Tests.{eqb-false, ne-eqb}
 use Rattle.lexemes.specs.Lists.{Items, is, item}
 use Rattle.lexemes.specs.code.Table.{codeAt}
 use Rattle.lexemes.specs.code.Codes.{assumeCode, constraintCode, declareVarCode, defineFunCode, synthFunCode}
 use Rattle.forest.specs.Limits.{allowed, mostAssumptions, mostConstraints, mostDefined, mostFunctions, mostVariables}
 use Rattle.script.specs.Script.{Known, knownAfter, limitPlace, tested}
+use Rattle.script.specs.code.Answers.{nameAnswer}
 use Rattle.script.specs.code.Tables.{CommandOf, Says, TablesHold}
 use Rattle.script.specs.declared.Progress.{Progress}
 use Rattle.script.specs.declared.Verdict.{Verdict}
@@ -22,6 +23,7 @@ use Rattle.commands.specs.code.DefineFun.{Defined, Defining}
 use Rattle.synth_fun.specs.code.Synthesizing.{Synthesized, Synthesizing}
 use Rattle.script_reader.specs.code.Commands.{saidBy}
 use Rattle.script_reader.specs.code.Command.{CommandTested, Shaped, saidAt}
+use Rattle.script_reader.specs.code.Taken.{TakenBy}
 use Rattle.script_reader.proofs.CommandWords.{ends-in, tests}
 use Rattle.script.proofs.CommandByCode.{Chosen}
 use Rattle.script_reader.proofs.KnownAfter.{counted-after, names-kept, places-kept, same-assumptions, same-constraints, same-defined, same-functions}
@@ -42,6 +44,14 @@ record OtherCodes (code : ℕ) : Type 0 where
 other-codes : (assumed : Bool) → OtherCodes (statedCode assumed)
 other-codes true = record { declares = refl; defines = refl; synthesizes = refl; says-term = refl }
 other-codes false = record { declares = refl; defines = refl; synthesizes = refl; says-term = refl }
+
+-- A command of such a code has no new names.
+none-new : {code : ℕ} → OtherCodes code → {names : List ℕ} {p : Progress} {k : Known} {c : Items} → TakenBy code names p k c
+none-new {code} o = record {
+  variable = λ e. absurd (eqb-false code declareVarCode (o .declares) e);
+  definition = λ e. absurd (eqb-false code defineFunCode (o .defines) e);
+  function = λ e. absurd (eqb-false code synthFunCode (o .synthesizes) e);
+}
 
 -- The tables hold what is known, in no more rows than words before the one given.
 pub record Held (names places nodes forms : List ℕ) (q : Progress) (k : Known) (close : ℕ) : Type 0 where
@@ -70,15 +80,17 @@ module _ {text lexemes names raw places nodes forms : List ℕ} {p : Progress} {
   -- A test of the command from what holds of its code.
   by-code : {m : ℕ} → code ≡ m → {namesAfter placesAfter nodesAfter formsAfter : List ℕ} {v : Verdict}
       → Says v (tested allowed nowhere known i command later)
+      → (v .number ≡ nameAnswer → TakenBy m namesAfter p known command)
       → (v .number ≡ 0 → Held namesAfter placesAfter nodesAfter formsAfter (saidBy p m (v .rows)) later (c .commanded .here .close))
       → CommandTested c namesAfter placesAfter nodesAfter formsAfter v
-  by-code e {namesAfter} {placesAfter} {nodesAfter} {formsAfter} {v} says held =
+  by-code e {namesAfter} {placesAfter} {nodesAfter} {formsAfter} {v} says taken held =
       let holds : v .number ≡ 0 → Held namesAfter placesAfter nodesAfter formsAfter (saidAt lexemes p i (v .rows)) later (c .commanded .here .close)
       = λ z. subst⁻¹
       (λ (m : ℕ). Held namesAfter placesAfter nodesAfter formsAfter (saidBy p m (v .rows)) later (c .commanded .here .close)) (sym coded ∙ e) (held z) in
       record {
         verdict-is = says;
         tables = λ z. holds z .tables;
+        taken = λ z. subst⁻¹ (λ (m : ℕ). TakenBy m namesAfter p known command) (sym coded ∙ e) (taken z);
         nodes-within = λ z. holds z .nodes-within;
         forms-within = λ z. holds z .forms-within;
       }
@@ -146,8 +158,11 @@ module _ {text lexemes names raw places nodes forms : List ℕ} {p : Progress} {
   pub declared : (e : code ≡ declareVarCode) {namesAfter : List ℕ} {v : Verdict} → Declared (declaring e) namesAfter v
       → CommandTested c namesAfter places nodes forms v
   unfolding limitPlace
-  declared e {namesAfter} {v} g = by-code e (g .verdict-is) held
+  declared e {namesAfter} {v} g = by-code e (g .verdict-is) taken held
     where
+      taken : v .number ≡ nameAnswer → TakenBy declareVarCode namesAfter p known command
+      taken z = record { variable = λ q. g .taken z; definition = λ q. absurd (omega arith); function = λ q. absurd (omega arith) }
+
       held : v .number ≡ 0 → Held namesAfter places nodes forms (saidBy p declareVarCode (v .rows)) later (c .commanded .here .close)
       held z =
           let before = c .commanded in
@@ -175,8 +190,11 @@ module _ {text lexemes names raw places nodes forms : List ℕ} {p : Progress} {
       → Defined (defining e) namesAfter rawAfter placesAfter nodesAfter v
       → CommandTested c namesAfter placesAfter nodesAfter forms v
   unfolding limitPlace
-  defined e {namesAfter} {rawAfter} {placesAfter} {nodesAfter} {v} g = by-code e (g .verdict-is) held
+  defined e {namesAfter} {rawAfter} {placesAfter} {nodesAfter} {v} g = by-code e (g .verdict-is) taken held
     where
+      taken : v .number ≡ nameAnswer → TakenBy defineFunCode namesAfter p known command
+      taken z = record { variable = λ q. absurd (omega arith); definition = λ q. g .taken z; function = λ q. absurd (omega arith) }
+
       held : v .number ≡ 0 → Held namesAfter placesAfter nodesAfter forms (saidBy p defineFunCode (v .rows)) later (c .commanded .here .close)
       held z =
           let before = c .commanded in
@@ -202,8 +220,11 @@ module _ {text lexemes names raw places nodes forms : List ℕ} {p : Progress} {
       → Synthesized (synthesizing e) namesAfter rawAfter placesAfter formsAfter v
       → CommandTested c namesAfter placesAfter nodes formsAfter v
   unfolding limitPlace
-  synthesized e {namesAfter} {rawAfter} {placesAfter} {formsAfter} {v} g = by-code e (g .verdict-is) held
+  synthesized e {namesAfter} {rawAfter} {placesAfter} {formsAfter} {v} g = by-code e (g .verdict-is) taken held
     where
+      taken : v .number ≡ nameAnswer → TakenBy synthFunCode namesAfter p known command
+      taken z = record { variable = λ q. absurd (omega arith); definition = λ q. absurd (omega arith); function = λ q. g .taken z }
+
       held : v .number ≡ 0 → Held namesAfter placesAfter nodes formsAfter (saidBy p synthFunCode (v .rows)) later (c .commanded .here .close)
       held z =
           let before = c .commanded in
@@ -245,7 +266,7 @@ module _ {text lexemes names raw places nodes forms : List ℕ} {p : Progress} {
   pub stated : (assumed : Bool) (e : code ≡ statedCode assumed) {rawAfter placesAfter nodesAfter : List ℕ} {v : Verdict}
       → Stated (stating assumed e) rawAfter placesAfter nodesAfter v
       → CommandTested c names placesAfter nodesAfter forms v
-  stated assumed e {rawAfter} {placesAfter} {nodesAfter} {v} g = by-code e (g .verdict-is) held
+  stated assumed e {rawAfter} {placesAfter} {nodesAfter} {v} g = by-code e (g .verdict-is) (λ z. none-new (other-codes assumed)) held
     where
       held : v .number ≡ 0 → Held names placesAfter nodesAfter forms (saidBy p (statedCode assumed) (v .rows)) later (c .commanded .here .close)
       held z =
@@ -291,7 +312,7 @@ module _ {text lexemes names raw places nodes forms : List ℕ} {p : Progress} {
       let functions = same-functions known t e11 in
       let defined = same-defined known t e10 in
       let zero : v .number ≡ 0 = ap (λ (w : Verdict). w .number) e in
-      by-code refl (rw (others-pass allowed nowhere known i command later t e9 e10 e11 e12 e14) zero) (λ z. record {
+      by-code refl (rw (others-pass allowed nowhere known i command later t e9 e10 e11 e12 e14) zero) (λ z. absurd (omega arith)) (λ z. record {
         tables = record {
           counted =
               counted-after known t (v .rows) n

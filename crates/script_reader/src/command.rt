@@ -3,6 +3,7 @@ use crate::Step;
 use crate::progress::answer;
 use crate::progress::out_of_place;
 use crate::progress::step_by;
+use crate::taken::second_of;
 use commands::declare_var::declare_var;
 use commands::define_fun::define_fun;
 use commands::state::state;
@@ -69,12 +70,13 @@ pub fn read_command(
     let progress = command.progress;
     let at = command.at;
     if not_carried(lexemes, at) {
-        return answer(NOT_CARRIED, at, progress);
+        return answer(NOT_CARRIED, at, 0, progress);
     }
     let code = code_at(lexemes, at + 1);
     if !command_shape(lexemes, at) | out_of_place(progress, code) {
-        return answer(SHAPE, at, progress);
+        return answer(SHAPE, at, 0, progress);
     }
     let tested = test_command(text, lexemes, names, raw, places, nodes, forms, command);
-    step_by(progress, code, tested)
+    let second = second_of(lexemes, names, command, tested);
+    step_by(progress, code, tested, second)
 }

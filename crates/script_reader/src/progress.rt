@@ -57,24 +57,30 @@ fn said(progress: Progress, code: u64, rows: usize) -> Progress
     }
 }
 
-// The answer of a number at a word.
-pub fn answer(number: usize, place: usize, progress: Progress) -> Step
-    ensures { λ r. ⌜ r ≡ record { number = number; place = place; progress = progress } ⌝ }
+// The answer of a number at a word, with the word of its second number.
+pub fn answer(number: usize, place: usize, second: usize, progress: Progress) -> Step
+    ensures { λ r. ⌜ r ≡ record { number = number; place = place; second = second; progress = progress } ⌝ }
 {
     Step {
         number,
         place,
+        second,
         progress,
     }
 }
 
-// The step that a command of the code makes by its verdict.
-pub fn step_by(progress: Progress, code: u64, verdict: Verdict) -> Step
+// The step that a command of the code makes by its verdict and the word of its second number.
+pub fn step_by(progress: Progress, code: u64, verdict: Verdict, second: usize) -> Step
     requires { ⌜ (verdict .number ≡ 0 → Few (saidBy progress code (verdict .rows))) ⌝ }
-    ensures { λ r. ⌜ Stepped progress code verdict r ⌝ }
+    ensures { λ r. ⌜ Stepped progress code verdict second r ⌝ }
 {
     if verdict.number != 0 {
-        return answer(verdict.number, verdict.place, progress);
+        return answer(verdict.number, verdict.place, second, progress);
     }
-    answer(ACCEPTED, verdict.place, said(progress, code, verdict.rows))
+    answer(
+        ACCEPTED,
+        verdict.place,
+        second,
+        said(progress, code, verdict.rows),
+    )
 }

@@ -34,9 +34,9 @@ fn end_of_script(progress: Progress, nowhere: usize) -> Step
     ensures { λ r. ⌜ r ≡ lastStep nowhere (progress .ended) progress ⌝ }
 {
     if progress.ended {
-        return answer(ACCEPTED, nowhere, progress);
+        return answer(ACCEPTED, nowhere, 0, progress);
     }
-    answer(SHAPE, nowhere, progress)
+    answer(SHAPE, nowhere, 0, progress)
 }
 
 // Reads the commands of a script of so many words, up to the first faulty one.
@@ -58,7 +58,7 @@ pub fn read_script(
     let mut at = 0;
     while at < nowhere {
         if code_at(lexemes, at) != OPEN {
-            return answer(SHAPE, at, progress);
+            return answer(SHAPE, at, 0, progress);
         }
         let command = Command {
             progress,

@@ -4,6 +4,7 @@ use mathlib.Core.Bool.{_||_}
 use mathlib.Core.Path.{_≡_}
 use mathlib.Core.List.{List, _∷_}
 use lib.ListN.{length}
+use Rattle.words.specs.Trees.{wordOf}
 use Rattle.lexemes.specs.Lists.{Items, inside, is, item, nameOf}
 use Rattle.written_sorts.specs.Written.{sortOf}
 use Rattle.names.specs.Scopes.{Function, namedSorts}
@@ -18,6 +19,7 @@ use Rattle.synth_fun.proofs.SynthFunParts.{synth-chosen}
 abbrev pub functionOf : Known → Items → Function
 functionOf k c = record {
   name = nameOf (item 1 c);
+  at = wordOf (item 1 c);
   arguments = argumentsOf c;
   result = sortOf (item 3 c) (inside 3 c);
   nonTerminals = namedBy (inside 4 c);

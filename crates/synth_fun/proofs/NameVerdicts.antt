@@ -46,7 +46,7 @@ module _ {text lexemes names raw places forms : List ℕ} {p : Progress} {i nowh
   -- There are as many functions before the command as there may be.
   pub full-refused : mostFunctions ≤ p .functions → Synthesized d names raw places forms (record { number = limitAnswer; place = i; rows = 0 })
   full-refused full =
-      refused-so d (omega arith)
+      refused-so d (omega arith) (λ e. absurd (omega arith))
       (says-limit allowed nowhere (d .of .known) i (d .of .here .command) (After (d .of)) _
       (record { number-is = refl; place-is = command-first (d .of) full; found = command-word (d .of .here) })) refl refl
 
@@ -85,7 +85,7 @@ module _ {text lexemes names raw places forms : List ℕ} {p : Progress} {i nowh
       pub limit-refused : place < nowhere → {placesAfter : List ℕ}
           → Synthesized d names rawAfter placesAfter forms (record { number = limitAnswer; place = place; rows = 0 })
       limit-refused past =
-          refused-so d (omega arith)
+          refused-so d (omega arith) (λ e. absurd (omega arith))
           (says-limit allowed nowhere (d .of .known) i (d .of .here .command) (After (d .of)) _
           (record { number-is = refl; place-is = omega (arith, limit-found); found = past })) (gathered grammar-at .raw-long) refl
 
@@ -164,7 +164,7 @@ module _ {text lexemes names raw places forms : List ℕ} {p : Progress} {g : Ga
     -- A name is at fault.
     pub names-refused : place < nowhere → Synthesized (s .given) namesAfter rawAfter places formsAfter (record { number = nameAnswer; place = place; rows = 0 })
     names-refused fault =
-        refused-so (s .given) (omega arith)
+        refused-so (s .given) (omega arith) (λ e. found unnamed-here .taken)
         (says-name allowed nowhere (s .given .of .known) i (s .given .of .here .command) (After (s .given .of)) _ (s .limited)
         (record { number-is = refl; place-is = found unnamed-here .place-is; found = fault })) raw-kept forms-kept
 

@@ -14,7 +14,8 @@ use Rattle.written_sorts.proofs.HeaderSorts.{synth-fun-parts}
 use Rattle.names.specs.Scopes.{View, isNamed, namesOf}
 use Rattle.names.specs.Unknown.{unknownIn}
 use Rattle.names.specs.code.Table.{definedRow, functionRow, nameIn, namesFrom, ownArgumentRow, variableRow}
-use Rattle.names.proofs.NamePut.{SameRows}
+use Rattle.names.specs.code.Lookup.{SameRows}
+use Rattle.names.proofs.NamePut.{same-through}
 use Rattle.names.specs.code.New.{namesIn}
 use Rattle.names.specs.declared.Scope.{Scope}
 use Rattle.names.proofs.Members.{SameNames, named-both, same-members, same-name}
@@ -24,13 +25,14 @@ use Rattle.headers.specs.code.Heads.{HeadAt, HeadNamed, grownBy}
 use Rattle.headers.proofs.Grown.{same-names}
 use Rattle.grammars.specs.Grammars.{grammarNames}
 use Rattle.grammars.specs.code.Read.{GrammarNamed, Naming}
-use Rattle.script.specs.Script.{argumentsOf, scope, viewOf}
+use Rattle.script.specs.Script.{argumentsOf, newNames, scope, viewOf}
+use Rattle.script.specs.code.Taken.{FunctionTaken}
 use Rattle.script.specs.code.Tables.{ArgumentsHold, NamesHold}
 use Rattle.script.specs.declared.Progress.{Progress}
-use Rattle.script.proofs.NamesKept.{SameArguments, arguments-kept, few-before, one-more-in-order, same-before, same-behind, same-scope, same-through}
+use Rattle.script.proofs.NamesKept.{SameArguments, few-before, names-kept, one-declared-in-order, one-more-in-order, same-scope}
 use Rattle.script.proofs.NamesKept.{scopeBefore}
 use Rattle.synth_fun.specs.code.NameTests.{NamesFound, Unnamed}
-use Rattle.synth_fun.proofs.SynthFunParts.{Small, name-is, small, synth-named, synth-shaped}
+use Rattle.synth_fun.proofs.SynthFunParts.{Small, name-is, small, synth-chosen, synth-named, synth-shaped}
 use Rattle.names.proofs.PairNames.{named-long}
 use Rattle.synth_fun.proofs.FunctionKnown.{after-is, withFunction}
 
@@ -89,6 +91,7 @@ module _ {text lexemes names raw forms : List ℕ} {p : Progress} {arguments row
         result = small (u .of) (u .limited) .narrow-result;
         few-arguments = small (u .of) (u .limited) .few-arguments;
         short = u .of .here .lawful .short;
+        low-words = λ j h. omega (arith, u .of .here .lawful .ends j h, u .of .here .few);
         table = u .names-hold .table;
         few = few-before (u .of .counted) (ownArgumentRow (p .functions)) (omega (arith, u .of .counted .few-functions));
         no-arguments = refl;
@@ -103,7 +106,7 @@ module _ {text lexemes names raw forms : List ℕ} {p : Progress} {arguments row
 
     -- rows before that of its name are what they were
     pub before-head : (r m : ℕ) → r + m ≤ functionRow + p .functions → SameRows namesBetween names r m
-    before-head r m h = same-through (same-before (put-head .kept-name) r m h) (same-before (put-head .kept-arguments) r m (omega arith))
+    before-head r m h = same-through (put-head .kept-name .rows-before r m h) (put-head .kept-arguments .rows-before r m (omega arith))
 
     -- its grammar stands there
     abbrev pub grammar-here : Naming text lexemes namesBetween raw forms (scopeWithin p arguments) i rows (p .forms) nowhere
@@ -116,6 +119,7 @@ module _ {text lexemes names raw forms : List ℕ} {p : Progress} {arguments row
       named = synth-named (u .of);
       shaped = synth-shaped (u .of);
       lawful = u .of .here .lawful;
+      few-words = u .of .here .few;
       narrow = small (u .of) (u .limited) .narrow-listed;
       few-listed = small (u .of) (u .limited) .few-listed;
       rest = u .rest;
@@ -149,10 +153,10 @@ module _ {text lexemes names raw forms : List ℕ} {p : Progress} {arguments row
         let few = few-before (u .of .counted) (ownArgumentRow (p .functions)) (omega (arith, u .of .counted .few-functions)) in
         let between = put-head .between in
         let kept = put-head .kept-arguments in
-        let variables = kept .names-before variableRow (p .variables) (omega (arith, u .of .counted .few-variables)) in
-        let defined = kept .names-before definedRow (p .defined) (omega (arith, u .of .counted .few-defined)) in
-        let functions = kept .names-before functionRow (p .functions + 1) (omega arith) in
-        let own = kept .names-before (functionRow + p .functions) 1 (omega arith) in
+        let variables = kept .rows-before variableRow (p .variables) (omega (arith, u .of .counted .few-variables)) .names in
+        let defined = kept .rows-before definedRow (p .defined) (omega (arith, u .of .counted .few-defined)) .names in
+        let functions = kept .rows-before functionRow (p .functions + 1) (omega arith) .names in
+        let own = kept .rows-before (functionRow + p .functions) 1 (omega arith) .names in
         let named : nameIn between (functionRow + p .functions) ≡ nameOf (item 1 c) = cc (own, put-head .name-is) in
         let first = namesFrom namesBetween (ownArgumentRow (p .functions)) arguments in
         let is : namesIn namesBetween (scopeWithin p arguments) ≡ first ++ namesIn between (grownBy true before) =
@@ -176,50 +180,94 @@ module _ {text lexemes names raw forms : List ℕ} {p : Progress} {arguments row
       -- rows before that of its name are what they were
       rows-before : (r m : ℕ) → r + m ≤ functionRow + p .functions → SameRows namesAfter names r m
       rows-before r m h =
-          same-through (before-head r m h) (same-before (put-grammar .kept) r m (omega (arith, u .of .counted .few-functions)))
+          same-through (before-head r m h) (put-grammar .kept .rows-before r m (omega (arith, u .of .counted .few-functions)))
 
       -- the own rows of the arguments of earlier functions are what they were
       own-rows : SameArguments namesAfter names (p .functions)
       own-rows j m h few =
           same-through
-          (same-through (same-behind (put-head .kept-name) (ownArgumentRow j) m (omega (arith, u .of .counted .few-functions)))
-          (same-before (put-head .kept-arguments) (ownArgumentRow j) m (omega arith)))
-          (same-behind (put-grammar .kept) (ownArgumentRow j) m (omega (arith, limits .few-listed)))
+          (same-through (put-head .kept-name .rows-behind (ownArgumentRow j) m (omega (arith, u .of .counted .few-functions)))
+          (put-head .kept-arguments .rows-before (ownArgumentRow j) m (omega arith)))
+          (put-grammar .kept .rows-behind (ownArgumentRow j) m (omega (arith, limits .few-listed)))
 
       -- its own arguments stand in theirs
       own-arguments : SameRows namesAfter namesBetween (ownArgumentRow (p .functions)) (count (inside 2 (u .of .here .command)))
-      own-arguments = same-behind (put-grammar .kept) (ownArgumentRow (p .functions)) _ (omega (arith, limits .few-listed))
+      own-arguments = put-grammar .kept .rows-behind (ownArgumentRow (p .functions)) _ (omega (arith, limits .few-listed))
 
       -- and its name in its own
+      own-row : SameRows namesAfter namesBetween (functionRow + p .functions) 1
+      own-row = put-grammar .kept .rows-before (functionRow + p .functions) 1 (omega (arith, limits .one-more))
+
       name-put : nameIn namesAfter (functionRow + p .functions) ≡ nameOf (item 1 (u .of .here .command))
       unfolding namesFrom
-      name-put =
-          let kept = put-grammar .kept .names-before (functionRow + p .functions) 1 (omega (arith, limits .one-more)) in
-          cc (kept, put-head .name-is)
+      name-put = cc (own-row .names, put-head .name-is)
+
+      -- the rows of the functions that were known are what they were
+      functions-same : SameRows namesAfter names functionRow (length (u .of .known .functions))
+      functions-same = rows-before functionRow (length (u .of .known .functions)) (omega (arith, u .of .counted .functions-are))
+
+      -- the table has the names that were known
+      known-kept : NamesHold namesAfter (u .of .known)
+      known-kept =
+          let k = u .of .known in
+          let counted = u .of .counted in
+          names-kept (put-grammar .table)
+          (rows-before variableRow (length (k .variables)) (omega (arith, counted .variables-are, counted .few-variables)))
+          (rows-before definedRow (length (k .defined)) (omega (arith, counted .defined-are, counted .few-defined)))
+          functions-same (rw (← counted .functions-are) own-rows) (u .names-hold)
+
+      -- and its new names, so where one is taken, what tells by which
+      function-taken : FunctionTaken namesAfter p (u .of .known) (u .of .here .command)
+      unfolding newNames
+      function-taken =
+          let t = synth-chosen (u .of) in
+          let counted = u .of .counted in
+          let own = own-row .declared ∙ put-head .own-declared in
+          let arguments = own-arguments .declared ∙ put-head .declared-are in
+          record {
+            listing = record {
+              table = put-grammar .table;
+              few = record {
+                variables = counted .few-variables;
+                defined = counted .few-defined;
+                functions = counted .few-functions;
+                arguments = omega (arith, limits .one-more, limits .few-arguments);
+              };
+              own-fits = omega (arith, limits .one-more);
+              few-listed = limits .few-listed;
+            };
+            placed = known-kept .placed;
+            new-are = ap₂ _++_ (ap₂ _++_ own arguments) (put-grammar .declared-are) ∙ rw (t .declares, t .defines, t .synthesizes);
+          }
 
       -- one function more stands in the table of names
       names-grow : NamesHold namesAfter (withFunction (u .of .known) (u .of .here .command))
       unfolding ArgumentsHold
       names-grow =
-          let k = u .of .known in
           let hold = u .names-hold in
           let counted = u .of .counted in
-          let variables = rows-before variableRow (length (k .variables)) (omega (arith, counted .variables-are, counted .few-variables)) in
-          let defined = rows-before definedRow (length (k .defined)) (omega (arith, counted .defined-are, counted .few-defined)) in
-          let functions = rows-before functionRow (length (k .functions)) (omega (arith, counted .functions-are)) in
+          let kept = known-kept in
+          let functions = functions-same in
           let long = named-long (inside 2 (u .of .here .command)) in
           record {
             table = put-grammar .table;
-            variables-are = variables .names ∙ hold .variables-are;
-            variable-sorts = variables .sorts ∙ hold .variable-sorts;
-            defined-are = defined .names ∙ hold .defined-are;
+            variables-are = kept .variables-are;
+            variable-sorts = kept .variable-sorts;
+            defined-are = kept .defined-are;
             functions-are = one-more-in-order functions _ (hold .functions-are) (rw (← counted .functions-are) name-put);
             arguments-are = (
               rw (long, ← counted .functions-are) (own-arguments .names ∙ put-head .names-are),
               rw (long, ← counted .functions-are) (own-arguments .sorts ∙ put-head .sorts-are),
               omega (arith, limits .few-arguments),
-              arguments-kept (k .functions) (rw (← counted .functions-are) own-rows) (hold .arguments-are),
+              kept .arguments-are,
             );
+            placed = record {
+              variables-are = kept .placed .variables-are;
+              defined-are = kept .placed .defined-are;
+              functions-are =
+                  one-declared-in-order functions _ (hold .placed .functions-are)
+                  (rw (← counted .functions-are) (own-row .declared ∙ put-head .own-declared));
+            };
           }
 
       -- all of its names are put and tested
@@ -231,6 +279,7 @@ module _ {text lexemes names raw forms : List ℕ} {p : Progress} {arguments row
           record {
             place-is = e ∙ ap₂ min (put-head .place-is ∙ before) (put-grammar .place-is ∙ within) ∙ sym (name-is (u .of));
             names-hold = rw (after-is (u .of)) names-grow;
+            taken = function-taken;
             listed-are = put-grammar .names-are;
             listed-sorts = put-grammar .sorts-are;
             raw-is = put-grammar .raw-is;

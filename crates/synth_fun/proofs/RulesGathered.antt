@@ -77,6 +77,7 @@ module _ {text lexemes names raw places forms : List ℕ} {p : Progress} {i nowh
     found-still f = record {
       verdict-is = f .verdict-is;
       names-hold = f .names-hold;
+      taken = f .taken;
       places-hold = f .places-hold;
       grammars-hold = f .grammars-hold;
       within = f .within;

@@ -20,7 +20,8 @@ use Rattle.script.specs.code.Tables.{After, Tested}
 use Rattle.script.specs.declared.Progress.{Progress}
 use Rattle.script.specs.declared.Verdict.{Verdict}
 use Rattle.script.proofs.Verdicts.{says-grammar, says-passed, says-sorting}
-use Rattle.script.specs.code.Answers.{sortAnswer, grammarAnswer}
+use Rattle.script.specs.code.Answers.{grammarAnswer, nameAnswer, sortAnswer}
+use Rattle.script.specs.code.Taken.{FunctionTaken}
 use Rattle.synth_fun.specs.code.Synthesizing.{Synthesized, Synthesizing}
 use Rattle.synth_fun.specs.code.Rows.{Put}
 use Rattle.synth_fun.specs.code.SortTests.{Unsorted}
@@ -32,11 +33,12 @@ use Rattle.synth_fun.proofs.FunctionHeld.{grammars-grow, places-grow}
 -- A refusal changes nothing that is known, and keeps the lengths of the tables.
 pub refused-so : {text lexemes names raw places forms : List ℕ} {p : Progress} {i nowhere : ℕ}
     (d : Synthesizing text lexemes names raw places forms p i nowhere) {namesAfter rawAfter placesAfter formsAfter : List ℕ} {v : Verdict}
-    → 0 < v .number → Tested (d .of) v → length rawAfter ≡ length raw → length formsAfter ≡ length forms
+    → 0 < v .number → (v .number ≡ nameAnswer → FunctionTaken namesAfter p (d .of .known) (d .of .here .command)) → Tested (d .of) v → length rawAfter ≡ length raw → length formsAfter ≡ length forms
     → Synthesized d namesAfter rawAfter placesAfter formsAfter v
-refused-so d some says raw-long forms-long = record {
+refused-so d some taken says raw-long forms-long = record {
   verdict-is = says;
   names-hold = λ e. absurd (omega arith);
+  taken = taken;
   places-hold = λ e. absurd (omega arith);
   grammars-hold = λ e. absurd (omega arith);
   within = λ e. absurd (omega arith);
@@ -65,7 +67,7 @@ module _ {text lexemes names raw places forms : List ℕ} {p : Progress} {g : Ga
   pub sorts-refused : place < nowhere → {placesAfter : List ℕ}
       → Synthesized (s .given) names raw placesAfter forms (record { number = sortAnswer; place = place; rows = 0 })
   sorts-refused found =
-      refused-so (s .given) (omega arith)
+      refused-so (s .given) (omega arith) (λ e. absurd (omega arith))
       (says-sorting allowed nowhere (s .given .of .known) i (s .given .of .here .command) (After (s .given .of)) _ (s .limited) (s .named)
       (record { number-is = refl; place-is = sorts-are; found = found })) (s .raw-long) (forms-long s)
 
@@ -81,7 +83,7 @@ module _ {text lexemes names raw places forms : List ℕ} {p : Progress} {g : Ga
     pub rules-refused : misfit < nowhere → {placesAfter : List ℕ}
         → Synthesized (s .given) names raw placesAfter forms (record { number = grammarAnswer; place = misfit; rows = 0 })
     rules-refused found =
-        refused-so (s .given) (omega arith)
+        refused-so (s .given) (omega arith) (λ e. absurd (omega arith))
         (says-grammar allowed nowhere (s .given .of .known) i (s .given .of .here .command) (After (s .given .of)) _ (s .limited) (s .named) sorts-pass
         (record { number-is = refl; place-is = grammar-place s listed blank tested by-lists first-is by-rules lesser; found = found }))
         (s .raw-long) (forms-long s)
@@ -93,6 +95,7 @@ module _ {text lexemes names raw places forms : List ℕ} {p : Progress} {g : Ga
       verdict-is = says-passed allowed nowhere (s .given .of .known) i (s .given .of .here .command) (After (s .given .of)) _ (s .limited) (s .named) sorts-pass
           (rw (grammar-place s listed blank tested by-lists first-is by-rules lesser) at right) refl;
       names-hold = λ e. s .names-hold;
+      taken = λ e. absurd (omega arith);
       places-hold = λ e. rw (after-is (s .given .of)) (places-grow s listed put);
       grammars-hold = λ e. rw (after-is (s .given .of)) (grammars-grow s listed put);
       within = λ e. omega (arith, s .within, s .given .within);

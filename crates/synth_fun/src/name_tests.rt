@@ -21,7 +21,7 @@ ghost use Rattle.written_sorts.specs.code.Headers.{SynthFunAt};
 ghost use Rattle.synth_fun.specs.code.NameTests.{FindsNames, Gathering, ReadsHeader, TestsNames, Unnamed};
 
 // How many arguments and non-terminals the `synth-fun` at a word declares, and the sort of its result.
-fn header_of(lexemes: &[u64], at: usize) -> Header
+pub fn header_of(lexemes: &[u64], at: usize) -> Header
     requires { ⌜ SynthFunAt (now lexemes) at ⌝ }
     ensures { λ r. ⌜ ReadsHeader (now (lexemes .entry)) at r ⌝ }
 {

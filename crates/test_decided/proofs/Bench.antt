@@ -158,7 +158,8 @@ abbrev overX : (nonTerminals : List Named) → Grammar → Function
 overX nonTerminals grammar =
     record {
       name = spelling "f";
-      arguments = record { name = spelling "x"; sort = 32 } ∷ [];
+      at = 6;
+      arguments = record { name = spelling "x"; at = 9; sort = 32 } ∷ [];
       result = 32;
       nonTerminals = nonTerminals;
       grammar = grammar;
@@ -170,10 +171,10 @@ abbrev saying : List Defined → Function → Known
 saying defined f = record { logic = true; ended = true; variables = []; defined = defined; functions = f ∷ []; constraints = []; assumptions = [] }
 
 abbrev swapFunction : Function
-swapFunction = overX (record { name = spelling "BV32"; sort = 32 } ∷ record { name = spelling "BV16"; sort = 16 } ∷ []) swap
+swapFunction = overX (record { name = spelling "BV32"; at = 24; sort = 32 } ∷ record { name = spelling "BV16"; at = 32; sort = 16 } ∷ []) swap
 
 abbrev ringFunction : Function
-ringFunction = overX (record { name = spelling "A"; sort = 32 } ∷ record { name = spelling "B"; sort = 32 } ∷ []) ring
+ringFunction = overX (record { name = spelling "A"; at = 24; sort = 32 } ∷ record { name = spelling "B"; at = 32; sort = 32 } ∷ []) ring
 
 -- The swap case.
 swap-settled : Shown (spelling swapScript) (spelling swapResponse) (7 ∷ 15 ∷ 3 ∷ 8 ∷ [])
@@ -205,18 +206,19 @@ ring-settled =
       only = λ other d. ring-only d;
     }
 
--- A `define-fun` by its name.
-abbrev called : String → Definition → Defined
-called n d = record { name = spelling n; definition = d }
+-- A `define-fun` by its name and the word of it.
+abbrev called : String → (at : ℕ) → Definition → Defined
+called n at d = record { name = spelling n; at = at; definition = d }
 
 -- A function without arguments that is true.
 abbrev always : Function
 always =
     record {
       name = spelling "f";
+      at = 82;
       arguments = [];
       result = 0;
-      nonTerminals = record { name = spelling "A"; sort = 0 } ∷ [];
+      nonTerminals = record { name = spelling "A"; at = 88; sort = 0 } ∷ [];
       grammar = record { arguments = []; rules = rule 0 (only (literal 0 1)) ∷ [] };
       before = 3;
     }
@@ -224,7 +226,7 @@ always =
 -- The costs.
 costs-settled : Costing (spelling costScript) (3 ∷ 9 ∷ 21 ∷ [])
 unfolding after all allIn allNumerals answered anyUncarried argumentTokens bytesAt calledSort commandShape constantsPast count depthAfter differing faultAt formSorts formed formsOf foundFrom grammarPlace hashed inOrder inScriptOrder inside isKnown isNamed isOneOf isReserved item itemSort itemsOf join judged judgedAll judgedBody judgedExtra kindOf knownAfter labelSort leastIn levelsAt levelsBefore limitPlace listingMisfit literalKind namePlace named namedBy newPairs nodeWord nodesOf nodesPast notCarried numeralKind operatorAt operatorOf operatorSort operators placeIn rawTerms readAll readingOf reservedWords responseWithin ruleMisfit rulePast rulesIn rulesOf runEnd sameBytes sameSorts scriptOutcome sides sortBy sortOver sortingPlace spelled startsFrom symbolKind symbolMeans termFault termShapes termsIn tested treesFrom unknownIn withSort wordAt wordEnd wordStarts wordsIn wordsOf summedCosts definedCost
-costs-settled = record { k = saying (called "d2" d2 ∷ called "d1" d1 ∷ called "d0" d0 ∷ []) always; says = refl; costs-are = refl }
+costs-settled = record { k = saying (called "d2" 56 d2 ∷ called "d1" 30 d1 ∷ called "d0" 6 d0 ∷ []) always; says = refl; costs-are = refl }
 
 -- A value that is computed.
 pub with-value : {n : String} {i j : ℕ} {sorts values : List ℕ} {s r : ℕ} {more : List Mark} → operatorSort (operatorOf (spelling n)) i j sorts ≡ some s

@@ -411,6 +411,14 @@ places =
     ∷ row "(" 1 1 1 2
     ∷ row "( (define-fun f () Bool (not true)))" 24 25 1 25
     ∷ row "aaaaaaaaaaaaaaaaaaaaaaaaaaaaaaaaaaaaaaaaaaaaaaaaaaaaaaaaaaaaaaaaaaaaaa" 0 70 1 1
+    ∷ row "(set-logic BV)(declare-var x Bool)(declare-var x Bool)" 47 48 1 48
+    ∷ row "(set-logic BV)(constraint q)" 26 27 1 27
+    ∷ row "(set-logic BV)(constraint v)(declare-var v Bool)" 26 27 1 27
+    ∷ row "(set-logic BV)(declare-var v Bool)(declare-var w v)" 49 50 1 50
+    ∷ row "(set-logic BV)(define-fun g ((g Bool)) Bool true)" 30 31 1 31
+    ∷ row "(set-logic BV)(define-fun g ((a Bool) (a Bool)) Bool true)" 39 40 1 40
+    ∷ row "(set-logic BV)(define-fun g ((a Bool) (a Bool) (a Bool)) Bool true)" 39 40 1 40
+    ∷ row "(set-logic BV)(synth-fun f ((a Bool)) Bool ((a Bool)) ((a Bool (true))))" 45 46 1 46
     ∷ row "(set-logic BV) ;c" 17 17 1 18
     ∷ row "(set-logic\nBV)" 14 14 2 4
     ∷ row "(set-logic\nBV" 13 13 2 3

@@ -18,8 +18,9 @@ ghost use Rattle.forest.specs.Limits.{scriptWords};
 ghost use Rattle.lexemes.specs.code.Table.{rowWidth};
 ghost use Rattle.term_nodes.specs.code.Table.{rowWidth as rawWidth};
 ghost use Rattle.words.specs.Limits.{scriptLimits};
-ghost use Rattle.texts.specs.code.Texts.{RowEach, shortScript};
-ghost use Rattle.texts.specs.code.Scripts.{Lent, ScriptRead};
+ghost use Rattle.script.specs.Outcome.{secondOf};
+ghost use Rattle.texts.specs.code.Texts.{Placed, RowEach, shortScript};
+ghost use Rattle.texts.specs.code.Scripts.{Lent, ScriptRead, inOffsets};
 
 // Room for the lexemes of a script.
 fn lexeme_rows() -> [u64; ROW * SCRIPT_WORDS]
@@ -51,12 +52,38 @@ fn short_raw() -> [u64; term_nodes::ROW * SHORT_SCRIPT]
 
 // The refusal of a word of a script, by its number and its offset.
 fn refused_word(number: usize, place: usize) -> Step
-    ensures { λ r. ⌜ (r .number ≡ number) × (r .place ≡ place) ⌝ }
+    ensures { λ r. ⌜ (r .number ≡ number) × (r .place ≡ place) × (r .second ≡ 0) ⌝ }
 {
     let progress = nothing_said();
     Step {
         number,
         place,
+        second: 0,
+        progress,
+    }
+}
+
+// The offset of the word that a second number speaks of; 0 where it speaks of none.
+fn second_offset(text: &[u8], lexemes: &[u64], count: usize, word: usize) -> usize
+    requires { ⌜ Placed (now text) (now lexemes) count ⌝ }
+    ensures { λ r. ⌜ r ≡ secondOf (now (text .entry)) word ⌝ }
+{
+    if word == 0 {
+        return 0;
+    }
+    offset_of(text, lexemes, count, word)
+}
+
+// A step with the offsets of its words in their place.
+fn step_in(text: &[u8], lexemes: &[u64], count: usize, step: Step) -> Step
+    requires { ⌜ Placed (now text) (now lexemes) count ⌝ }
+    ensures { λ r. ⌜ r ≡ inOffsets (now (text .entry)) step ⌝ }
+{
+    let progress = step.progress;
+    Step {
+        number: step.number,
+        place: offset_of(text, lexemes, count, step.place),
+        second: second_offset(text, lexemes, count, step.second),
         progress,
     }
 }
@@ -91,12 +118,7 @@ fn script_in(
         forms,
         count,
     );
-    let progress = step.progress;
-    Step {
-        number: step.number,
-        place: offset_of(text, lexemes, count, step.place),
-        progress,
-    }
+    step_in(text, lexemes, count, step)
 }
 
 // Reads a script: the tables hold what it says, or it is refused at an offset.

@@ -336,7 +336,7 @@ fn bad_points(facts: &Facts) -> String {
     let length = counted(index as u64, "number");
     let count = variables.len();
     match (numbers.get(index), variables.get(index % count.max(1))) {
-        (Some(number), Some(Sorted { name, sort })) => {
+        (Some(number), Some(Sorted { name, sort, .. })) => {
             let point = index / count;
             format!("{number} (number {index}, of point {point}) is no value of {name}, whose sort is {sort}")
         }

@@ -67,6 +67,8 @@ pub struct Facts {
     pub done: u64,
     /// The place that the answer names, where it is one in a text.
     pub located: Option<Located>,
+    /// After 7, where the name that is taken was declared.
+    pub declared: Option<Located>,
     /// The cause in a sentence, where the command knows it.
     pub cause: Option<String>,
     /// What else helps to find the fault.
@@ -98,6 +100,7 @@ pub fn gather(
     let mut cause = cause(&given, answer, &run.point);
     Ok(Facts {
         located: located(library, &given, answer)?,
+        declared: declared(library, &given, answer)?,
         cause: cause.sentence.take(),
         notes: notes(library, &given, answer, cause)?,
         function: function_of(&given, answer),
@@ -142,6 +145,21 @@ fn located(
     let text = spoken_of(given, answer);
     let position = answer.position();
     Ok(position.map(|position| Located::new(text, at..position.end as usize, position)))
+}
+
+/// The place of the declaration that the second number of answer 7 names, where a name is taken.
+fn declared(
+    library: &mut Library,
+    given: &Given,
+    answer: Answer,
+) -> Result<Option<Located>, Failure> {
+    let at = answer.second as usize;
+    if answer.number != 7 || at == 0 {
+        return Ok(None);
+    }
+    let position = library.position(&given.script.bytes, at)?;
+    let word = at..position.end as usize;
+    Ok(Some(Located::new(&given.script, word, position)))
 }
 
 /// The text that an answer speaks of, of the two.

@@ -17,7 +17,7 @@ use sverdhyll::Position;
 /// The name of the format, and its version: a later one keeps the keys of an earlier one.
 const FORMAT: [(&str, Json); 2] = [
     ("format", Json::Word("sverdhyll")),
-    ("version", Json::Number(5)),
+    ("version", Json::Number(6)),
 ];
 
 /// A JSON value.
@@ -76,6 +76,7 @@ pub fn object(facts: &Facts, library: &str) -> String {
         ("response", file(&facts.given.response)),
         ("points", points(facts)),
         ("location", or_null(facts.located.as_ref(), location)),
+        ("declared", or_null(facts.declared.as_ref(), location)),
         ("note", or_null(placed(facts), note)),
         ("notes", List(facts.notes.iter().map(note).collect())),
         ("constraint", or_null(facts.judged.as_ref(), constraint)),

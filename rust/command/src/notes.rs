@@ -85,6 +85,8 @@ struct Reading<'a> {
     in_response: bool,
     /// The place of the answer.
     place: usize,
+    /// Its second number.
+    second: usize,
     trees: &'a [Tree],
     /// The command or definition that holds the place, if one does.
     faulty: Option<&'a Tree>,
@@ -112,6 +114,7 @@ pub fn cause(given: &Given, answer: Answer, point: &[u64]) -> Cause {
         bytes: &text.bytes,
         in_response: answer.text == 1,
         place: answer.place as usize,
+        second: answer.second as usize,
         trees: &trees,
         faulty: match answer.text {
             0 => fault.map(|(tree, _)| tree),

@@ -104,6 +104,7 @@ mod tests {
     fn variables(sorts: &[Sort]) -> Vec<Sorted> {
         let named = |&sort| Sorted {
             name: "x".to_string(),
+            place: 0,
             sort,
         };
         sorts.iter().map(named).collect()

@@ -2,16 +2,19 @@
 
 use simple::eval::whole_points;
 use simple::generate::Case;
-use simple::{script, FIRST_ASSUMPTION};
+use simple::tree::{trees, Tree};
+use simple::{script, words, FIRST_ASSUMPTION};
 use sverdhyll::Answer;
 
 /// How many kinds there are.
-pub const KINDS: usize = 7;
+pub const KINDS: usize = 9;
 
 /// The names of the kinds.
 pub const NAMES: [&str; KINDS] = [
     "answer 0 with points skipped",
     "answer 15 before an assumption",
+    "a name that an earlier command has taken",
+    "a name that its own command has taken",
     "a place behind the first line",
     "a place behind byte 13 in its line",
     "a place behind a byte above 127 in its line",
@@ -22,10 +25,13 @@ pub const NAMES: [&str; KINDS] = [
 /// Of which kinds a case with its answer is.
 pub fn kinds(case: &Case, answer: &Answer) -> [bool; KINDS] {
     let before_assumption = answer.number == 15 && answer.second >= FIRST_ASSUMPTION as u64;
+    let [taken_earlier, taken_within] = taken_kinds(case, answer);
     let [later, behind_13, behind_above_127, line_ended, ended] = place_kinds(case, answer);
     [
         points_skipped(case, answer),
         before_assumption,
+        taken_earlier,
+        taken_within,
         later,
         behind_13,
         behind_above_127,
@@ -42,6 +48,20 @@ fn points_skipped(case: &Case, answer: &Answer) -> bool {
     let script = script::read(&case.script).expect("a sound script after 0");
     let points = whole_points(&case.points, &script.variables);
     answer.second < points.len() as u64
+}
+
+/// Whether a name is taken, and where the declaration stands that the second number names: in an earlier command or in the same one.
+fn taken_kinds(case: &Case, answer: &Answer) -> [bool; 2] {
+    if answer.number != 7 || answer.second == 0 {
+        return [false; 2];
+    }
+    let words = words::read(&case.script, script::MOST_WORDS).expect("sound words after 7");
+    let [place, declared] = [answer.place, answer.second].map(|at| at as usize);
+    let holds = |tree: &Tree| (tree.start()..tree.end()).contains(&place);
+    let trees = trees(words);
+    let command = trees.iter().find(|tree| holds(tree));
+    let within = command.is_some_and(|tree| declared > tree.start());
+    [!within, within]
 }
 
 /// Of which kinds the place of an answer is that carries a line and a column.

@@ -44,7 +44,7 @@ impl fmt::Display for Position {
 /// | 4 | `PastLimit` | past a limit of the checker | the word past it |
 /// | 5 | `UnknownShape` | the shape of a command is unknown | the command's bracket, or the word |
 /// | 6 | `NotCarried` | SyGuS 2.1 has it, the checker does not carry it | the command's bracket, or the word |
-/// | 7 | `Name` | a name unknown, taken or reserved | the name |
+/// | 7 | `Name` | a name unknown, taken or reserved | the name, and where it was declared if it is taken |
 /// | 8 | `Sort` | a faulty sort, or a term that has none or another one | its first word |
 /// | 9 | `Grammar` | a grammar is not listed as declared, or a rule has another sort | its word |
 /// | 10 | `Fail` | the response is `fail` | |
@@ -91,11 +91,12 @@ pub enum Outcome {
         at: u64,
         position: Position,
     },
-    /// 7: a name unknown, taken or reserved.
+    /// 7: a name unknown, taken or reserved; `declared` is the offset in the script at which one that is taken was declared.
     Name {
         text: Text,
         at: u64,
         position: Position,
+        declared: Option<u64>,
     },
     /// 8: a sort fault.
     Sort {
@@ -166,7 +167,12 @@ impl From<Answer> for Outcome {
             4 => Outcome::PastLimit { text, at, position },
             5 => Outcome::UnknownShape { text, at, position },
             6 => Outcome::NotCarried { text, at, position },
-            7 => Outcome::Name { text, at, position },
+            7 => Outcome::Name {
+                text,
+                at,
+                position,
+                declared: (second > 0).then_some(second),
+            },
             8 => Outcome::Sort { text, at, position },
             9 => Outcome::Grammar { at, position },
             10 => Outcome::Fail,
@@ -205,7 +211,8 @@ impl fmt::Display for Outcome {
             Outcome::PastLimit { text, position, .. } => write!(to, "{text}, {position}: past a limit"),
             Outcome::UnknownShape { text, position, .. } => write!(to, "{text}, {position}: of no shape that is known"),
             Outcome::NotCarried { text, position, .. } => write!(to, "{text}, {position}: not carried"),
-            Outcome::Name { text, position, .. } => write!(to, "{text}, {position}: a name unknown, taken or reserved"),
+            Outcome::Name { text, position, declared: None, .. } => write!(to, "{text}, {position}: a name unknown or reserved"),
+            Outcome::Name { text, position, declared: Some(declared), .. } => write!(to, "{text}, {position}: a name that is taken, declared at offset {declared}"),
             Outcome::Sort { text, position, .. } => write!(to, "{text}, {position}: a sort fault"),
             Outcome::Grammar { position, .. } => write!(to, "script, {position}: a grammar fault"),
             Outcome::Fail => to.write_str("the response is fail"),
@@ -266,8 +273,16 @@ mod tests {
     fn sentences() {
         let said = |number, text| Outcome::from(answer(number, text)).to_string();
         assert_eq!(
-            said(7, 1),
-            "response, line 8, column 9: a name unknown, taken or reserved"
+            said(7, 0),
+            "script, line 8, column 9: a name that is taken, declared at offset 5"
+        );
+        let unknown = Answer {
+            second: 0,
+            ..answer(7, 1)
+        };
+        assert_eq!(
+            Outcome::from(unknown).to_string(),
+            "response, line 8, column 9: a name unknown or reserved"
         );
         assert_eq!(
             said(14, 2),

@@ -1,6 +1,6 @@
-//! The library through its Rust interface: the swap case, refusals, the texts' own answers, places, the enquiries, its digest, and many checks by one process.
+//! The library through its Rust interface: the swap case, refusals, the texts' own answers, names that are taken, places, the enquiries, its digest, and many checks by one process.
 
-use sverdhyll::{Answer, Library, Position, AREA_LENGTH, UNUSED};
+use sverdhyll::{Answer, Library, Outcome, Position, Text, AREA_LENGTH, UNUSED};
 
 /// The script of the shipped example.
 const SCRIPT: &[u8] = include_bytes!("../../../examples/swap.sy");
@@ -91,6 +91,27 @@ fn texts_alone() {
     ] {
         assert_eq!(read(&mut library, script, response), expected);
     }
+}
+
+#[test]
+fn a_name_that_is_taken() {
+    let mut library = Library::open().expect("a library");
+    let script = b"(set-logic BV)\n(declare-var xy Bool)\n(declare-var xy Bool)";
+    let taken = read(&mut library, script, RESPONSE);
+    let expected = Answer {
+        end: 52,
+        line: 3,
+        column: 14,
+        ..answer(7, 0, 50, 28)
+    };
+    assert_eq!(taken, expected);
+    let outcome = Outcome::Name {
+        text: Text::Script,
+        at: 50,
+        position: taken.position().expect("a position"),
+        declared: Some(28),
+    };
+    assert_eq!(taken.outcome(), outcome);
 }
 
 #[test]

@@ -7,10 +7,11 @@ use crate::tree::Tree;
 use std::collections::HashMap;
 use std::fmt;
 
-/// An argument, a variable or a non-terminal with its sort.
+/// An argument, a variable or a non-terminal with its sort: "Each declared name's record must hold the place of its declaration".
 #[derive(Clone, Debug, PartialEq, Eq)]
 pub struct Sorted {
     pub name: String,
+    pub place: usize,
     pub sort: Sort,
 }
 

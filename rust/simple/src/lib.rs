@@ -62,25 +62,31 @@ pub struct Answer {
     pub column: u64,
 }
 
-/// The number and place of a fault in a text.
+/// The number and place of a fault in a text, and its second number: where a name that is taken was declared, else 0.
 #[derive(Clone, Copy, Debug, PartialEq, Eq)]
 pub struct Fault {
     pub number: u8,
     pub place: usize,
+    pub second: usize,
 }
 
 impl Fault {
     /// A fault of a number at a place.
     fn new(number: u8, place: usize) -> Fault {
-        Fault { number, place }
+        Fault {
+            number,
+            place,
+            second: 0,
+        }
     }
 
-    /// The answer for a fault in a text; its second number and its units are 0, and its place is still to be located.
+    /// The answer for a fault in a text; its units are 0, and its place is still to be located.
     fn in_text(self, text: u8) -> Answer {
         Answer {
             number: self.number,
             text,
             place: self.place as u64,
+            second: self.second as u64,
             ..Answer::default()
         }
     }

@@ -30,6 +30,7 @@ const MOST_RULES: usize = 128;
 /// A `define-fun` of the script.
 pub struct Definition {
     pub name: String,
+    pub place: usize,
     pub arguments: Vec<Sorted>,
     pub sort: Sort,
     pub body: Tree,
@@ -38,6 +39,7 @@ pub struct Definition {
 /// A `synth-fun`: its header also as words, its grammar, and how many `define-fun`s stand before it.
 pub struct Synthesized {
     pub name: String,
+    pub place: usize,
     pub arguments: Vec<Sorted>,
     pub sort: Sort,
     pub header: Vec<String>,
@@ -89,6 +91,7 @@ pub fn before_fault(trees: &[Tree]) -> (Script, Option<(&Tree, Fault)>) {
 fn sorted(name: &Tree, sort_tree: &Tree) -> Sorted {
     Sorted {
         name: symbol(name).to_string(),
+        place: name.start(),
         sort: sort(sort_tree),
     }
 }
@@ -133,18 +136,31 @@ fn function(name: &str, arguments: &[Sorted], sort: Sort) -> Name {
     }
 }
 
-/// The places of new names that are reserved or in scope: "A new name, argument or non-terminal may not equal a
-/// reserved word or a name then in scope."
-fn taken_names(new_names: &[&Tree], in_scope: &[&str]) -> Vec<usize> {
+/// A declared name and the place of its declaration.
+type Declared<'a> = (&'a str, usize);
+
+/// A fault of a name: its place, and the place of the declaration where it is taken; "0 for unknown or reserved".
+type NameFault = (usize, usize);
+
+/// The faults of new names that are reserved or in scope: "A new name, argument or non-terminal may not equal a reserved word
+/// or a name then in scope."
+fn refused_names(new_names: &[&Tree], in_scope: &[Declared]) -> Vec<NameFault> {
     let mut in_scope = in_scope.to_vec();
-    let mut places = Vec::new();
+    let mut faults = Vec::new();
     for name in new_names {
-        if is_reserved(symbol(name)) || in_scope.contains(&symbol(name)) {
-            places.push(name.start());
+        let declared = in_scope.iter().find(|(one, _)| *one == symbol(name));
+        match declared {
+            _ if is_reserved(symbol(name)) => faults.push((name.start(), 0)),
+            Some((_, place)) => faults.push((name.start(), *place)),
+            None => in_scope.push((symbol(name), name.start())),
         }
-        in_scope.push(symbol(name));
     }
-    places
+    faults
+}
+
+/// The fault of a name that is unknown at a place.
+fn unknown(place: usize) -> NameFault {
+    (place, 0)
 }
 
 /// The names alone of what a term sees.
@@ -165,8 +181,11 @@ impl Script {
         if let Some(place) = self.past_limit(tree, &command) {
             return Some(Fault::new(4, place));
         }
-        if let Some(place) = self.name_fault(&command) {
-            return Some(Fault::new(7, place));
+        if let Some((place, second)) = self.name_fault(&command) {
+            return Some(Fault {
+                second,
+                ..Fault::new(7, place)
+            });
         }
         if let Some(place) = self.sort_fault(&command) {
             return Some(Fault::new(8, place));
@@ -218,25 +237,24 @@ impl Script {
     }
 
     /// 7: "name unknown, taken or reserved".
-    fn name_fault(&self, command: &Command) -> Option<usize> {
-        let in_scope = self.names_in_scope();
+    fn name_fault(&self, command: &Command) -> Option<NameFault> {
+        let refused = refused_names(&new_names(command), &self.names_in_scope());
+        let places = self.unknown_names(command).into_iter().map(unknown);
+        refused.into_iter().chain(places).min()
+    }
+
+    /// The places of sorts that are no sorts, and of the first name of each term that it doesn't see.
+    fn unknown_names(&self, command: &Command) -> Vec<usize> {
         let mut places = Vec::new();
         match command {
-            Command::DeclareVar { name, sort } => {
-                places.extend(taken_names(&[name], &in_scope));
-                places.extend(unknown_sort(sort));
-            }
+            Command::DeclareVar { sort, .. } => places.extend(unknown_sort(sort)),
             Command::DefineFun(definition) => {
                 let header = &definition.header;
-                places.extend(taken_names(&header_names(header), &in_scope));
                 places.extend(header.sorts().into_iter().filter_map(unknown_sort));
                 let seen = self.seen_by_function(&arguments(header), self.definitions.len());
                 places.extend(unknown_name(definition.body, &names_of(&seen)));
             }
             Command::SynthFun(synth) => {
-                let mut new_names = header_names(&synth.header);
-                new_names.extend(synth.predeclared.iter().map(|pair| pair.name));
-                places.extend(taken_names(&new_names, &in_scope));
                 places.extend(synth_fun_sorts(synth).into_iter().filter_map(unknown_sort));
                 let seen = self.seen_by_rule(synth);
                 let names = names_of(&seen);
@@ -248,7 +266,7 @@ impl Script {
             }
             Command::SetLogic | Command::CheckSynth => {}
         }
-        places.into_iter().min()
+        places
     }
 
     /// 8: "first word of a faulty sort, or of a faulty term whose operands have none".
@@ -318,12 +336,14 @@ impl Script {
             Command::DeclareVar { name, sort } => self.variables.push(sorted(name, sort)),
             Command::DefineFun(definition) => self.definitions.push(Definition {
                 name: symbol(definition.header.name).to_string(),
+                place: definition.header.name.start(),
                 arguments: arguments(&definition.header),
                 sort: sort(definition.header.sort),
                 body: definition.body.clone(),
             }),
             Command::SynthFun(synth) => self.synthesized.push(Synthesized {
                 name: symbol(synth.header.name).to_string(),
+                place: synth.header.name.start(),
                 arguments: arguments(&synth.header),
                 sort: sort(synth.header.sort),
                 header: header_words(&synth.header),
@@ -337,10 +357,13 @@ impl Script {
     }
 
     /// "A command's name is in scope from there to the end".
-    fn names_in_scope(&self) -> Vec<&str> {
-        let variables = self.variables.iter().map(|one| one.name.as_str());
-        let definitions = self.definitions.iter().map(|one| one.name.as_str());
-        let synthesized = self.synthesized.iter().map(|one| one.name.as_str());
+    fn names_in_scope(&self) -> Vec<Declared<'_>> {
+        let variables = self.variables.iter();
+        let variables = variables.map(|one| (one.name.as_str(), one.place));
+        let definitions = self.definitions.iter();
+        let definitions = definitions.map(|one| (one.name.as_str(), one.place));
+        let synthesized = self.synthesized.iter();
+        let synthesized = synthesized.map(|one| (one.name.as_str(), one.place));
         variables.chain(definitions).chain(synthesized).collect()
     }
 
@@ -371,9 +394,23 @@ impl Script {
 }
 
 /// The new names of a header: the command's and its arguments'.
-pub fn header_names<'a>(header: &Header<'a>) -> Vec<&'a Tree> {
+fn header_names<'a>(header: &Header<'a>) -> Vec<&'a Tree> {
     let arguments = header.arguments.iter().map(|argument| argument.name);
     [header.name].into_iter().chain(arguments).collect()
+}
+
+/// The new names of a command, in the order of their places.
+pub fn new_names<'a>(command: &Command<'a>) -> Vec<&'a Tree> {
+    match command {
+        Command::DeclareVar { name, .. } => vec![name],
+        Command::DefineFun(definition) => header_names(&definition.header),
+        Command::SynthFun(synth) => {
+            let nonterminals = synth.predeclared.iter().map(|pair| pair.name);
+            let names = header_names(&synth.header).into_iter();
+            names.chain(nonterminals).collect()
+        }
+        _ => Vec::new(),
+    }
 }
 
 /// The words of a header as they are written.

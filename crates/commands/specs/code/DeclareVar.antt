@@ -6,7 +6,7 @@ use mathlib.Core.Path.{_≡_}
 use lib.Seq.{sets}
 use Rattle.forest.specs.Forest.{tree}
 use Rattle.operators.specs.Sorts.{maxWidth}
-use Rattle.words.specs.Trees.{list}
+use Rattle.words.specs.Trees.{list, wordOf}
 use Rattle.lexemes.specs.Lists.{Items, inside, isList, item, nameOf}
 use Rattle.lexemes.specs.code.Standing.{Stands}
 use Rattle.shapes.specs.Shapes.{declareVarShape}
@@ -14,12 +14,14 @@ use Rattle.written_sorts.specs.code.Places.{SortAt}
 use Rattle.written_sorts.specs.Written.{sortOf, sortPlace}
 use Rattle.written_sorts.specs.declared.Fault.the-variants.{TooWide, Unknown}
 use Rattle.forest.specs.Limits.{allowed}
-use Rattle.names.specs.code.Lookup.{Names, ShortNames, sourceOf}
+use Rattle.names.specs.code.Lookup.{LowWords, Names, ShortNames, sourceOf}
 use Rattle.names.specs.code.Table.{nameRow, rowCount, rowWidth}
 use Rattle.names.specs.New.{newName}
 use Rattle.script.specs.Limits.{commandPast}
 use Rattle.script.specs.Script.{scope}
 use Rattle.script.specs.code.Tables.{After, CommandOf, NamesHold, Tested}
+use Rattle.script.specs.code.Answers.{nameAnswer}
+use Rattle.script.specs.code.Taken.{VariableTaken}
 use Rattle.script.specs.declared.Command.{Command}
 use Rattle.script.specs.declared.Progress.{Progress}
 use Rattle.script.specs.declared.Verdict.{Verdict}
@@ -29,11 +31,12 @@ pub record Declaring (text lexemes names : List ℕ) (p : Progress) (i nowhere :
   pub of : CommandOf "declare-var" text lexemes p i nowhere
   pub names-hold : NamesHold names (of .known)
 
--- The command is tested, and where it passes, its name is known.
+-- The command is tested, and where it passes, its name is known; where its name is taken, the table has what tells by which.
 pub record Declared {text lexemes names : List ℕ} {p : Progress} {i nowhere : ℕ} (d : Declaring text lexemes names p i nowhere)
     (namesAfter : List ℕ) (v : Verdict) : Type 0 where
   pub verdict-is : Tested (d .of) v
   pub names-hold : v .number ≡ 0 → NamesHold namesAfter (After (d .of))
+  pub taken : v .number ≡ nameAnswer → VariableTaken namesAfter p (d .of .known) (d .of .here .command)
 
 -- The same, for whatever stands there.
 abbrev pub Declares : (text lexemes names : List ℕ) → Command → (namesAfter : List ℕ) → Verdict → Type 0
@@ -73,14 +76,15 @@ pub record Adding (text lexemes names : List ℕ) (row i : ℕ) : Type 0 where
   pub here : VariableAt text lexemes i
   pub narrow : sortOf (item 2 (here .command)) (inside 2 (here .command)) ≤ maxWidth
   pub short : ShortNames (sourceOf text lexemes)
+  pub low-words : LowWords (sourceOf text lexemes)
   pub table : Names names
   pub fits : row < rowCount
 
--- The variable and its sort are put into the row.
+-- The variable, its word and its sort are put into the row.
 abbrev pub Added : {text lexemes names : List ℕ} {row i : ℕ} → Adding text lexemes names row i → (namesAfter : List ℕ) → Type 0
 Added {names = names} {row = row} a namesAfter =
     let c = a .here .command in
-    namesAfter ≡ sets names (rowWidth * row) (nameRow (sortOf (item 2 c) (inside 2 c)) (nameOf (item 1 c)))
+    namesAfter ≡ sets names (rowWidth * row) (nameRow (sortOf (item 2 c) (inside 2 c)) (wordOf (item 1 c)) (nameOf (item 1 c)))
 
 -- The same, for whatever stands there.
 abbrev pub Adds : (text lexemes names : List ℕ) → (row i : ℕ) → (namesAfter : List ℕ) → Type 0

@@ -17,6 +17,8 @@ use Rattle.script.specs.Script.{limitPlace}
 use Rattle.script.specs.code.Signatures.{SignedIn, Signing}
 use Rattle.script.specs.code.Tables.{After, CommandOf, NamesHold, PlacesHold, Tested}
 use Rattle.script.specs.code.Places.{bodiesPlace, functionsPlace}
+use Rattle.script.specs.code.Answers.{nameAnswer}
+use Rattle.script.specs.code.Taken.{DefinitionTaken}
 use Rattle.script.specs.declared.Command.{Command}
 use Rattle.script.specs.declared.Progress.{Progress}
 use Rattle.script.specs.declared.Verdict.{Verdict}
@@ -30,11 +32,13 @@ pub record Defining (text lexemes names raw places nodes : List ℕ) (p : Progre
   pub nodes-room : nodeWidth * nowhere ≤ length nodes
   pub within : p .nodes ≤ i
 
--- The command is tested, and where it passes, its function is known; the numbers of synthesized functions are what they were.
+-- The command is tested, and where it passes, its function is known; where a name is taken, the table has what tells by which; the numbers of synthesized
+-- functions are what they were.
 pub record Defined {text lexemes names raw places nodes : List ℕ} {p : Progress} {i nowhere : ℕ}
     (d : Defining text lexemes names raw places nodes p i nowhere) (namesAfter rawAfter placesAfter nodesAfter : List ℕ) (v : Verdict) : Type 0 where
   pub verdict-is : Tested (d .of) v
   pub names-hold : v .number ≡ 0 → NamesHold namesAfter (After (d .of))
+  pub taken : v .number ≡ nameAnswer → DefinitionTaken namesAfter p (d .of .known) (d .of .here .command)
   pub places-hold : v .number ≡ 0 → PlacesHold placesAfter nodesAfter (p .nodes + v .rows) (After (d .of))
   pub within : v .number ≡ 0 → p .nodes + v .rows ≤ d .of .here .close
   pub kept : drop functionsPlace placesAfter ≡ drop functionsPlace places
@@ -72,6 +76,7 @@ pub record Settled {text lexemes names raw places nodes : List ℕ} {p : Progres
     (w : Within text lexemes names raw places nodes p rows i nowhere) (namesAfter rawAfter placesAfter nodesAfter : List ℕ) (v : Verdict) : Type 0 where
   pub verdict-is : Tested (w .of) v
   pub names-hold : v .number ≡ 0 → NamesHold namesAfter (After (w .of))
+  pub taken : v .number ≡ nameAnswer → DefinitionTaken namesAfter p (w .of .known) (w .of .here .command)
   pub places-hold : v .number ≡ 0 → PlacesHold placesAfter nodesAfter (p .nodes + v .rows) (After (w .of))
   pub within : v .number ≡ 0 → p .nodes + v .rows ≤ w .of .here .close
   pub kept : drop functionsPlace placesAfter ≡ drop functionsPlace places

@@ -19,14 +19,15 @@ use Rattle.written_sorts.specs.code.Headers.{SynthFunAt}
 use Rattle.term_nodes.specs.code.Table.{rawTable, uncountedTable, rowWidth as rawWidth}
 use Rattle.names.specs.Scopes.{Defined, Named, View, definedNames, formsOf, inOrder, namesOf, namedSorts}
 use Rattle.names.specs.code.Lookup.{Kept, Names, sourceOf}
-use Rattle.names.specs.code.Table.{definedRow, namesFrom, nonTerminalRow, ownArgumentRow, sortsFrom}
+use Rattle.names.specs.code.Table.{declaredFrom, definedRow, namesFrom, nonTerminalRow, ownArgumentRow, sortsFrom}
+use Rattle.names.specs.Earlier.{declaredNames}
 use Rattle.names.specs.New.{namedBy}
 use Rattle.names.specs.code.New.{AllNarrow, Few, namesIn}
 use Rattle.names.specs.declared.Target.{Target}
 use Rattle.names.specs.declared.Scope.{Scope}
 use Rattle.term_faults.specs.Faults.{scopeOf}
 use Rattle.term_faults.specs.code.Bodies.{Lawful, Sought}
-use Rattle.forest.specs.Limits.{allowed, mostRules, mostNonTerminals}
+use Rattle.forest.specs.Limits.{allowed, mostRules, mostNonTerminals, scriptWords}
 use Rattle.term_nodes.specs.Rules.{rulesIn, sides}
 use Rattle.term_nodes.specs.code.RuleGathering.{startTable}
 use Rattle.term_nodes.specs.declared.Gathered.{Gathered}
@@ -54,8 +55,9 @@ pub record Limited {lexemes raw rules : List ℕ} {i : ℕ} (p : GrammarAt lexem
   pub rules-long : length rulesAfter ≡ length rules
   pub place-is : g .place ≡ grammarPast allowed nowhere (p .command .here .operands)
 
--- A `synth-fun` stands at word i of a lawful text, whose non-terminals are at most 16, of sorts at most 64 wide; its rules are gathered, not counted yet; the
--- table has the names in scope, its arguments among them, and the `define-fun`s; and there is room for the forms from row `base` on.
+-- A `synth-fun` stands at word i of a lawful text of no more words than a script may have, whose non-terminals are at most 16, of sorts at most 64 wide; its
+-- rules are gathered, not counted yet; the table has the names in scope, its arguments among them, and the `define-fun`s; and there is room for the forms from
+-- row `base` on.
 pub record Naming (text lexemes names raw forms : List ℕ) (scope : Scope) (i nodes base nowhere : ℕ) : Type 0 where
   pub close : ℕ
   pub command : Items
@@ -65,6 +67,7 @@ pub record Naming (text lexemes names raw forms : List ℕ) (scope : Scope) (i n
   pub named : isSymbol (item 0 command) ≡ true
   pub shaped : synthFunShape command ≡ true
   pub lawful : Lawful (sourceOf text lexemes) nowhere
+  pub few-words : nowhere ≤ scriptWords
   pub narrow : AllNarrow (inside 4 command)
   pub few-listed : count (inside 4 command) ≤ mostNonTerminals
   pub rest : List ℕ
@@ -85,13 +88,14 @@ abbrev pub viewIn : {text lexemes names raw forms : List ℕ} {scope : Scope} {i
     → Naming text lexemes names raw forms scope i nodes base nowhere → View
 viewIn p = record { names = p .arguments; defined = p .defined; functions = []; nonTerminals = namedBy (inside 4 (p .command)) }
 
--- The non-terminals stand in their rows, the nodes are counted, the forms are written, and the least word at fault in a name is found.
+-- The non-terminals stand in their rows, with their words, the nodes are counted, the forms are written, and the least word at fault in a name is found.
 pub record GrammarNamed {text lexemes names raw forms : List ℕ} {scope : Scope} {i nodes base nowhere : ℕ}
     (p : Naming text lexemes names raw forms scope i nodes base nowhere) (namesAfter rawAfter formsAfter : List ℕ) (r : ℕ) : Type 0 where
   pub table : Names namesAfter
   pub kept : Kept names nonTerminalRow (count (inside 4 (p .command))) namesAfter
   pub names-are : namesFrom namesAfter nonTerminalRow (count (inside 4 (p .command))) ≡ namesOf (namedBy (inside 4 (p .command)))
   pub sorts-are : sortsFrom namesAfter nonTerminalRow (count (inside 4 (p .command))) ≡ namedSorts (namedBy (inside 4 (p .command)))
+  pub declared-are : declaredFrom namesAfter nonTerminalRow (count (inside 4 (p .command))) ≡ declaredNames (namedBy (inside 4 (p .command)))
   pub raw-is : rawAfter ≡ rawTable (sides (rulesIn 0 (inside 5 (p .command)))) ++ p .rest
   pub forms-are : formsAfter ≡ sets forms (nodeWidth * base) (formTable (formsOf (viewIn p) (sides (rulesIn 0 (inside 5 (p .command))))))
   pub place-is : r ≡ grammarNames nowhere (namesIn names scope) (viewIn p) (p .command)

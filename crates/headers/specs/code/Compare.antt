@@ -11,7 +11,7 @@ use Rattle.lexemes.specs.code.Standing.{Stands}
 use Rattle.shapes.specs.Shapes.{all, defineFunShape, pairShape}
 use Rattle.names.specs.Scopes.{Function, Named, namesOf, namedSorts}
 use Rattle.names.specs.code.Lookup.{Names, sourceOf}
-use Rattle.names.specs.code.Table.{functionRow, nameIn, namesFrom, ownArgumentRow, rowCount, sortIn, sortsFrom}
+use Rattle.names.specs.code.Table.{functionRow, nameIn, namesFrom, ownArgumentRow, rowCount, sortIn, sortsFrom, wordIn}
 use Rattle.headers.specs.Tokens.{Placed, Token, argumentTokens, closing, differing, headerOf, headerTokens, sameToken, wordsIn}
 
 -- A `define-fun` stands at word i, and the table has the name and the arguments of synthesized function j, so many of these.
@@ -59,7 +59,7 @@ pub record PairAt (text lexemes names : List ℕ) (i row : ℕ) : Type 0 where
 -- The pair is held to the argument in the row.
 abbrev pub PairHeld : {text lexemes names : List ℕ} {i row : ℕ} → PairAt text lexemes names i row → (r : ℕ) → Type 0
 PairHeld {names = names} {row = row} p r =
-    Held (wordsIn (tree (p .label) (p .operands) none)) (argumentTokens (record { name = nameIn names row; sort = sortIn names row } ∷ [])) r
+    Held (wordsIn (tree (p .label) (p .operands) none)) (argumentTokens (record { name = nameIn names row; at = wordIn names row; sort = sortIn names row } ∷ [])) r
 
 -- Pairs stand from word i, which is not the first of the text, to the bracket that closes their list, and the table has so many arguments from a row on.
 pub record PairsAt (text lexemes names : List ℕ) (i close row arguments : ℕ) : Type 0 where

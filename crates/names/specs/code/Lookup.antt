@@ -4,7 +4,7 @@ use mathlib.Core.Bool.{false, _||_}
 use mathlib.Core.List.{List}
 use mathlib.Core.Option.{Option}
 use mathlib.Core.Path.{_≡_}
-use lib.ListN.{getD, length}
+use lib.ListN.{length}
 use Rattle.forest.specs.Limits.{mostDefined, mostFunctions, mostNonTerminals}
 use Rattle.word_kinds.specs.Limits.{numeralDigits}
 use Rattle.operators.specs.Operators.{operatorCount}
@@ -18,26 +18,47 @@ use Rattle.lexemes.specs.code.Standing.{Source, spelt}
 use Rattle.lexemes.specs.code.Table.{codeAt, literalCode, numeralCode, valueAt, widthAt}
 use Rattle.term_nodes.specs.Terms.{Raw, constant, cut, decimal, number, pattern, word}
 use Rattle.names.specs.Scopes.{View, definedNames, functionNames, inOrder, itemOr, namesOf, namedSorts}
-use Rattle.names.specs.code.Table.{definedRow, functionRow, longest, namesFrom, nonTerminalRow, rowCount, rowWidth, sortIn, sortsFrom}
+use Rattle.names.specs.code.Table.{
+  declaredFrom,
+  definedRow,
+  functionRow,
+  lengthIn,
+  longest,
+  namesFrom,
+  nonTerminalRow,
+  rowCount,
+  rowWidth,
+  sortIn,
+  sortsFrom,
+  wordsTold,
+}
 use Rattle.names.specs.declared.Meaning.{Meaning}
 use Rattle.names.specs.declared.Seen.{Seen}
 
 -- A table of names: its size, no name is too long, and no sort is too wide.
 pub record Names (names : List ℕ) : Type 0 where
   pub sized : length names ≡ rowWidth * rowCount
-  pub short : (r : ℕ) → r < rowCount → getD names (rowWidth * r + 1) 0 ≤ longest
+  pub short : (r : ℕ) → r < rowCount → lengthIn names r ≤ longest
   pub narrow : (r : ℕ) → r < rowCount → sortIn names r ≤ maxWidth
+
+-- Two tables hold the same in m rows from row r on.
+pub record SameRows (one other : List ℕ) (r m : ℕ) : Type 0 where
+  pub names : namesFrom one r m ≡ namesFrom other r m
+  pub sorts : sortsFrom one r m ≡ sortsFrom other r m
+  pub declared : declaredFrom one r m ≡ declaredFrom other r m
 
 -- The rows of a table but n from `row` on are what they were.
 pub record Kept (names : List ℕ) (row n : ℕ) (namesAfter : List ℕ) : Type 0 where
-  pub names-before : (r m : ℕ) → r + m ≤ row → namesFrom namesAfter r m ≡ namesFrom names r m
-  pub sorts-before : (r m : ℕ) → r + m ≤ row → sortsFrom namesAfter r m ≡ sortsFrom names r m
-  pub names-behind : (r m : ℕ) → row + n ≤ r → namesFrom namesAfter r m ≡ namesFrom names r m
-  pub sorts-behind : (r m : ℕ) → row + n ≤ r → sortsFrom namesAfter r m ≡ sortsFrom names r m
+  pub rows-before : (r m : ℕ) → r + m ≤ row → SameRows namesAfter names r m
+  pub rows-behind : (r m : ℕ) → row + n ≤ r → SameRows namesAfter names r m
 
 -- Every symbol of a text is a name that a row holds.
 abbrev pub ShortNames : Source → Type 0
 ShortNames s = (i : ℕ) → literalCode < codeAt (s .lexemes) i → length (spelt s i) ≤ longest
+
+-- Every word of a text is one that a row tells.
+abbrev pub LowWords : Source → Type 0
+LowWords s = (i : ℕ) → 0 < codeAt (s .lexemes) i → i < wordsTold
 
 -- The rows that are seen hold what the view says; `define-fun`s and functions stand in script order.
 pub record Sees (names : List ℕ) (seen : Seen) (view : View) : Type 0 where

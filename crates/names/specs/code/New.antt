@@ -7,14 +7,15 @@ use lib.Seq.{sets}
 use Rattle.forest.specs.Forest.{count, none, tree}
 use Rattle.forest.specs.Limits.{mostDefined, mostFunctions, mostVariables}
 use Rattle.operators.specs.Sorts.{maxWidth}
-use Rattle.words.specs.Trees.{Lexeme}
+use Rattle.words.specs.Trees.{Lexeme, wordOf}
 use Rattle.lexemes.specs.Lists.{Items, inside, isSymbol, item, nameOf}
 use Rattle.lexemes.specs.code.Standing.{Stands}
 use Rattle.shapes.specs.Shapes.{all, pairShape}
 use Rattle.written_sorts.specs.Written.{sortOf}
 use Rattle.names.specs.Scopes.{namesOf, namedSorts}
-use Rattle.names.specs.code.Lookup.{Kept, Names, ShortNames, sourceOf}
-use Rattle.names.specs.code.Table.{argumentRow, definedRow, functionRow, nameRow, namesFrom, rowCount, rowWidth, sortsFrom, variableRow}
+use Rattle.names.specs.code.Lookup.{Kept, LowWords, Names, ShortNames, sourceOf}
+use Rattle.names.specs.code.Table.{argumentRow, declaredFrom, definedRow, functionRow, nameRow, namesFrom, rowCount, rowWidth, sortsFrom, variableRow}
+use Rattle.names.specs.Earlier.{declaredNames}
 use Rattle.names.specs.New.{namedBy, newName, newPairs}
 use Rattle.names.specs.declared.Scope.{Scope}
 
@@ -63,19 +64,21 @@ pub record NewPairs (text lexemes names : List ℕ) (scope : Scope) (row i e : �
   pub shaped : all pairShape items ≡ true
   pub narrow : AllNarrow items
   pub short : ShortNames (sourceOf text lexemes)
+  pub low-words : LowWords (sourceOf text lexemes)
   pub table : Names names
   pub few : Few scope
   pub low : argumentRow ≤ row
   pub apart : (k : ℕ) → k < scope .arguments → row + count items ≤ scope .first + k
   pub fits : row + count items ≤ rowCount
 
--- The least word at fault is found, and the names and sorts of the pairs stand in the rows from `row` on.
+-- The least word at fault is found, and the names and sorts of the pairs stand in the rows from `row` on, with the words at which they are declared.
 pub record PairsNamed {text lexemes names : List ℕ} {scope : Scope} {row i e : ℕ} (p : NewPairs text lexemes names scope row i e) (nowhere : ℕ)
     (namesAfter : List ℕ) (r : ℕ) : Type 0 where
   pub place-is : r ≡ newPairs nowhere (namesIn names scope) (p .items)
   pub table : Names namesAfter
   pub names-are : namesFrom namesAfter row (count (p .items)) ≡ namesOf (namedBy (p .items))
   pub sorts-are : sortsFrom namesAfter row (count (p .items)) ≡ namedSorts (namedBy (p .items))
+  pub declared-are : declaredFrom namesAfter row (count (p .items)) ≡ declaredNames (namedBy (p .items))
   pub kept : Kept names row (count (p .items)) namesAfter
 
 -- The same, for whatever the tables hold.
@@ -92,10 +95,12 @@ pub record PairAt (text lexemes names : List ℕ) (row i : ℕ) : Type 0 where
   pub shaped : pairShape label operands ≡ true
   pub narrow : sortOf (item 1 operands) (inside 1 operands) ≤ maxWidth
   pub short : ShortNames (sourceOf text lexemes)
+  pub low-words : LowWords (sourceOf text lexemes)
   pub table : Names names
   pub fits : row < rowCount
 
--- The name and the sort of the pair are put into the row.
+-- The name, its word and the sort of the pair are put into the row.
 abbrev pub PairPut : {text lexemes names : List ℕ} {row i : ℕ} → PairAt text lexemes names row i → (namesAfter : List ℕ) → Type 0
 PairPut {names = names} {row = row} p namesAfter =
-    namesAfter ≡ sets names (rowWidth * row) (nameRow (sortOf (item 1 (p .operands)) (inside 1 (p .operands))) (nameOf (item 0 (p .operands))))
+    let name = item 0 (p .operands) in
+    namesAfter ≡ sets names (rowWidth * row) (nameRow (sortOf (item 1 (p .operands)) (inside 1 (p .operands))) (wordOf name) (nameOf name))

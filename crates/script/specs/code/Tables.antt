@@ -24,8 +24,9 @@ use Rattle.derivation.specs.code.Rules.{ruleWidth}
 use Rattle.derivation.specs.code.Tables.{formTable, rightSides, ruleTable}
 use Rattle.term_sorts.specs.code.Signatures.{RowsAre, functionSignature}
 use Rattle.names.specs.Scopes.{Defined, Function, definedNames, functionNames, inOrder, namesOf, signatureOf, namedSorts}
+use Rattle.names.specs.Earlier.{Declared, declaredDefined, declaredFunctions, declaredNames}
 use Rattle.names.specs.code.Lookup.{Names, sourceOf}
-use Rattle.names.specs.code.Table.{definedRow, functionRow, namesFrom, ownArgumentRow, sortsFrom, variableRow}
+use Rattle.names.specs.code.Table.{declaredFrom, definedRow, functionRow, namesFrom, ownArgumentRow, sortsFrom, variableRow}
 use Rattle.script.specs.Script.{Known, Read, knownAfter, passed, refused, tested, definitionsOf}
 use Rattle.script.specs.declared.Progress.{Progress}
 use Rattle.script.specs.declared.Verdict.{Verdict}
@@ -55,6 +56,17 @@ ArgumentsHold names (f ∷ earlier) =
     × (length (f .arguments) ≤ mostArguments)
     × ArgumentsHold names earlier
 
+-- Declared names that stand the last first, in script order.
+unfoldable pub declaredInOrder : List Declared → List Declared
+declaredInOrder [] = []
+declaredInOrder (d ∷ earlier) = declaredInOrder earlier ++ d ∷ []
+
+-- The table of names has the names that are known with the places of their declarations.
+pub record PlacedNames (names : List ℕ) (k : Known) : Type 0 where
+  pub variables-are : declaredFrom names variableRow (length (k .variables)) ≡ declaredNames (k .variables)
+  pub defined-are : declaredFrom names definedRow (length (k .defined)) ≡ declaredInOrder (declaredDefined (k .defined))
+  pub functions-are : declaredFrom names functionRow (length (k .functions)) ≡ declaredInOrder (declaredFunctions (k .functions))
+
 -- The table of names has the names that are known.
 pub record NamesHold (names : List ℕ) (k : Known) : Type 0 where
   pub table : Names names
@@ -63,6 +75,7 @@ pub record NamesHold (names : List ℕ) (k : Known) : Type 0 where
   pub defined-are : namesFrom names definedRow (length (k .defined)) ≡ inOrder (definedNames (k .defined))
   pub functions-are : namesFrom names functionRow (length (k .functions)) ≡ inOrder (functionNames (k .functions))
   pub arguments-are : ArgumentsHold names (k .functions)
+  pub placed : PlacedNames names k
 
 -- Their signatures.
 abbrev pub definedSignatures : List Defined → List Signature
@@ -111,9 +124,9 @@ pub record TablesHold (names places nodes forms : List ℕ) (p : Progress) (k : 
   pub grammars-hold : GrammarsHold (drop functionsPlace places) forms (p .forms) (k .functions)
   pub forms-room : nodeWidth * p .forms ≤ length forms
 
--- A verdict is what a test finds.
+-- A verdict is what a test finds, but for the second number, which is looked up where a command is refused.
 abbrev pub Says : Verdict → Read → Type 0
-Says v (refused number place) = (v .number ≡ number) × (v .place ≡ place)
+Says v (refused number place second) = (v .number ≡ number) × (v .place ≡ place)
 Says v (passed k) = v .number ≡ 0
 
 -- A command stands at word i of a lawful text of so many words, no more than a script may have.

@@ -7,12 +7,14 @@ use Rattle.shapes.specs.Shapes.{commandShape}
 use Rattle.lexemes.specs.code.Table.{codeAt}
 use Rattle.forest.specs.Limits.{allowed}
 use Rattle.script.specs.Script.{Known, judged, knownAfter, tested}
+use Rattle.script.specs.code.Answers.{nameAnswer}
 use Rattle.script.specs.code.Tables.{CommandAt, Says, TablesHold}
 use Rattle.script.specs.declared.Command.{Command}
 use Rattle.script.specs.declared.Progress.{Progress}
 use Rattle.script.specs.declared.Verdict.{Verdict}
 use Rattle.script_reader.specs.declared.Step.{Step}
 use Rattle.script_reader.specs.code.Commands.{Reads, Roomy, saidBy}
+use Rattle.script_reader.specs.code.Taken.{TakenBy}
 
 -- A command stands at word i; the tables hold what is known before it, in no more rows than words before it.
 pub record Commanded (text lexemes names raw places nodes forms : List ℕ) (p : Progress) (i nowhere : ℕ) : Type 0 where
@@ -47,7 +49,8 @@ pub record Shaped (text lexemes names raw places nodes forms : List ℕ) (p : Pr
 abbrev pub saidAt : (lexemes : List ℕ) → Progress → (i rows : ℕ) → Progress
 saidAt lexemes p i rows = saidBy p (codeAt lexemes (i + 1)) rows
 
--- The command is tested, and where it passes, the tables hold what is known after it.
+-- The command is tested, and where it passes, the tables hold what is known after it; where it is refused for a name, the table of names has what tells by which
+-- name a new one is taken.
 pub record CommandTested {text lexemes names raw places nodes forms : List ℕ} {p : Progress} {i nowhere : ℕ}
     (c : Shaped text lexemes names raw places nodes forms p i nowhere) (namesAfter placesAfter nodesAfter formsAfter : List ℕ) (v : Verdict)
     : Type 0 where
@@ -55,6 +58,7 @@ pub record CommandTested {text lexemes names raw places nodes forms : List ℕ} 
       Says v (tested allowed nowhere known i command (knownAfter known command))
   pub tables : let after = knownAfter (c .commanded .known) (c .commanded .here .command) in
       v .number ≡ 0 → TablesHold namesAfter placesAfter nodesAfter formsAfter (saidAt lexemes p i (v .rows)) after
+  pub taken : v .number ≡ nameAnswer → TakenBy (codeAt lexemes (i + 1)) namesAfter p (c .commanded .known) (c .commanded .here .command)
   pub nodes-within : v .number ≡ 0 → saidAt lexemes p i (v .rows) .nodes ≤ c .commanded .here .close
   pub forms-within : v .number ≡ 0 → saidAt lexemes p i (v .rows) .forms ≤ c .commanded .here .close
 

@@ -13,9 +13,9 @@ use Rattle.script.specs.code.Tables.{TablesHold}
 use Rattle.script.specs.declared.Progress.{Progress}
 use Rattle.script_reader.specs.declared.Step.{Step}
 
--- What was read: a refusal with its number and word; or what is known, which the tables hold.
+-- What was read: a refusal with its number, its word and the word of its second number; or what is known, which the tables hold.
 abbrev pub Reads : Read → (names places nodes forms : List ℕ) → Step → Type 0
-Reads (refused number place) names places nodes forms s = (s .number ≡ number) × (s .place ≡ place)
+Reads (refused number place second) names places nodes forms s = (s .number ≡ number) × (s .place ≡ place) × (s .second ≡ second)
 Reads (passed k) names places nodes forms s = (s .number ≡ 0) × TablesHold names places nodes forms (s .progress) k
 
 -- A row for each word of a text in the table of what is gathered, in that of nodes and in that of forms.

@@ -25,8 +25,9 @@ pub record Few (p : Progress) : Type 0 where
   pub nodes : p .nodes ≤ scriptWords
   pub forms : p .forms ≤ scriptWords
 
--- The step is that of the verdict.
-pub record Stepped (p : Progress) (code : ℕ) (v : Verdict) (s : Step) : Type 0 where
+-- The step is that of the verdict and the word of its second number.
+pub record Stepped (p : Progress) (code : ℕ) (v : Verdict) (second : ℕ) (s : Step) : Type 0 where
   pub number-is : s .number ≡ v .number
   pub place-is : s .place ≡ v .place
+  pub second-is : s .second ≡ second
   pub progress-is : v .number ≡ 0 → s .progress ≡ saidBy p code (v .rows)

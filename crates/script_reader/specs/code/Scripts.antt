@@ -45,4 +45,4 @@ nothingSaid =
 
 -- The step at the end of a script, by whether there was a `check-synth`.
 abbrev pub lastStep : (nowhere : ℕ) → (ended : Bool) → Progress → Step
-lastStep nowhere ended p = record { number = cond ended 0 shapeAnswer; place = nowhere; progress = p }
+lastStep nowhere ended p = record { number = cond ended 0 shapeAnswer; place = nowhere; second = 0; progress = p }

@@ -20,6 +20,7 @@ use Rattle.forest.specs.Limits.{allowed, mostRules}
 use Rattle.script.specs.Script.{limitPlace, namePlace}
 use Rattle.script.specs.code.Tables.{After, CommandOf, NamesHold}
 use Rattle.script.specs.code.Places.{ownRules}
+use Rattle.script.specs.code.Taken.{FunctionTaken}
 use Rattle.script.specs.declared.Command.{Command}
 use Rattle.script.specs.declared.Progress.{Progress}
 use Rattle.script.specs.declared.Verdict.{Verdict}
@@ -41,11 +42,12 @@ pub record Unnamed (text lexemes names raw forms : List ℕ) (p : Progress) (arg
   pub rows-are : rows ≡ size (sides (ruledBy (of .here .command)))
   pub room : nodeWidth * (p .forms + rows) ≤ length forms
 
--- Its names stand in their rows, the nodes are counted, the forms are written, and the least word at fault in a name is found.
+-- Its names stand in their rows, behind those that were known, the nodes are counted, the forms are written, and the least word at fault in a name is found.
 pub record NamesFound {text lexemes names raw forms : List ℕ} {p : Progress} {arguments rows i nowhere : ℕ}
     (u : Unnamed text lexemes names raw forms p arguments rows i nowhere) (namesAfter rawAfter formsAfter : List ℕ) (r : ℕ) : Type 0 where
   pub place-is : r ≡ namePlace nowhere (u .of .known) (u .of .here .command)
   pub names-hold : NamesHold namesAfter (After (u .of))
+  pub taken : FunctionTaken namesAfter p (u .of .known) (u .of .here .command)
   pub listed-are : namesFrom namesAfter nonTerminalRow (count (inside 4 (u .of .here .command))) ≡ namesOf (namedBy (inside 4 (u .of .here .command)))
   pub listed-sorts : sortsFrom namesAfter nonTerminalRow (count (inside 4 (u .of .here .command))) ≡ namedSorts (namedBy (inside 4 (u .of .here .command)))
   pub raw-is : rawAfter ≡ rawTable (sides (ruledBy (u .of .here .command))) ++ u .rest

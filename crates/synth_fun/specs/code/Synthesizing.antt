@@ -14,6 +14,8 @@ use Rattle.term_nodes.specs.Rules.{Ruled, rulesIn, sides}
 use Rattle.script.specs.Script.{Known, viewOf}
 use Rattle.script.specs.code.Tables.{After, CommandOf, GrammarsHold, NamesHold, PlacesHold, Tested}
 use Rattle.script.specs.code.Places.{functionsPlace}
+use Rattle.script.specs.code.Answers.{nameAnswer}
+use Rattle.script.specs.code.Taken.{FunctionTaken}
 use Rattle.script.specs.declared.Progress.{Progress}
 use Rattle.script.specs.declared.Verdict.{Verdict}
 use Rattle.synth_fun.specs.declared.Header.{Header}
@@ -29,11 +31,12 @@ pub record Synthesizing (text lexemes names raw places forms : List ℕ) (p : Pr
   pub forms-room : nodeWidth * nowhere ≤ length forms
   pub within : p .forms ≤ i
 
--- The command is tested, and where it passes, its function and its grammar are known.
+-- The command is tested, and where it passes, its function and its grammar are known; where a name is taken, the table has what tells by which.
 pub record Synthesized {text lexemes names raw places forms : List ℕ} {p : Progress} {i nowhere : ℕ}
     (d : Synthesizing text lexemes names raw places forms p i nowhere) (namesAfter rawAfter placesAfter formsAfter : List ℕ) (v : Verdict) : Type 0 where
   pub verdict-is : Tested (d .of) v
   pub names-hold : v .number ≡ 0 → NamesHold namesAfter (After (d .of))
+  pub taken : v .number ≡ nameAnswer → FunctionTaken namesAfter p (d .of .known) (d .of .here .command)
   pub places-hold : v .number ≡ 0 → PlacesHold placesAfter (d .nodes) (p .nodes) (After (d .of))
   pub grammars-hold : v .number ≡ 0 → GrammarsHold (drop functionsPlace placesAfter) formsAfter (p .forms + v .rows) (After (d .of) .functions)
   pub within : v .number ≡ 0 → p .forms + v .rows ≤ d .of .here .close

@@ -9,7 +9,7 @@ use Rattle.names.specs.code.Lookup.{Names}
 use Rattle.script.specs.code.Tables.{TablesHold}
 use Rattle.script.specs.code.Places.{placesLength}
 use Rattle.script_reader.specs.declared.Step.{Step}
-use Rattle.script.specs.Outcome.{ScriptOutcome, faulty, said, scriptOutcome}
+use Rattle.script.specs.Outcome.{ScriptOutcome, faulty, offsetOf, said, scriptOutcome, secondOf}
 use Rattle.words.specs.Limits.{scriptLimits}
 use Rattle.texts.specs.code.Texts.{RowEach}
 
@@ -20,10 +20,16 @@ pub record Lent (text names places nodes forms : List ℕ) : Type 0 where
   pub nodes-room : RowEach scriptLimits text nodeWidth nodes
   pub forms-room : RowEach scriptLimits text nodeWidth forms
 
--- What was read of a script: a refusal with its number and offset; or what it says, which the tables hold, in no more rows than a script has words, and its
--- text bytes.
+-- A step with the offsets of its words in their place.
+abbrev pub inOffsets : (text : List ℕ) → Step → Step
+inOffsets text s =
+    record { number = s .number; place = offsetOf text (s .place); second = secondOf text (s .second); progress = s .progress }
+
+-- What was read of a script: a refusal with its number, its offset and its second number; or what it says, which the tables hold, in no more rows than a script
+-- has words, and its text bytes.
 abbrev pub ScriptTold : ScriptOutcome → (text names places nodes forms : List ℕ) → Step → Type 0
-ScriptTold (ScriptOutcome.faulty number offset) text names places nodes forms s = (s .number ≡ number) × (s .place ≡ offset)
+ScriptTold (ScriptOutcome.faulty number offset second) text names places nodes forms s =
+    (s .number ≡ number) × (s .place ≡ offset) × (s .second ≡ second)
 ScriptTold (said k) text names places nodes forms s =
     (s .number ≡ 0) × TablesHold names places nodes forms (s .progress) k × (s .progress .nodes ≤ scriptWords) × (s .progress .nodes ≤ length text)
 

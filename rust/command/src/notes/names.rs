@@ -1,11 +1,11 @@
-//! Answer 7: whether a name is unknown, taken or reserved.
+//! Answer 7: whether a name is unknown, taken or reserved. The answer's second number says whether it is taken, and where it was declared.
 
 use super::near::question;
 use super::shapes::SORTS;
 use super::{Cause, Hint, Reading};
 use simple::commands::{command, define_fun, Command};
 use simple::operators::OPERATORS;
-use simple::script::{arguments, header_names, names_of, synth_fun_sorts};
+use simple::script::{self, arguments, names_of, synth_fun_sorts};
 use simple::terms::{is_reserved, Name};
 use simple::tree::Tree;
 use simple::words::is_numeral;
@@ -17,15 +17,17 @@ const NOT_CARRIED: [&str; 4] = ["bvnand", "bvnor", "bvxnor", "bvcomp"];
 pub fn cause(reading: &Reading) -> Option<Cause> {
     let tree = reading.faulty?;
     let (_, word) = tree.words().into_iter().find(|(place, _)| *place == reading.place)?;
+    if reading.second > 0 {
+        return Some(taken(reading, word));
+    }
     if sorts(tree).iter().any(|sort| sort.start() == reading.place) {
         return Some(Cause::said(format!("`{word}` is no sort: {SORTS}")));
     }
     let new = new_names(tree).iter().any(|name| name.start() == reading.place);
-    Some(match (new && !reading.in_response, is_reserved(word)) {
+    Some(match (is_reserved(word), new && !reading.in_response) {
         (true, true) => Cause::said(format!("the name `{word}` is reserved")),
-        (true, false) => taken(reading, tree, word),
-        (false, true) => Cause::said(format!("the word `{word}` is reserved, and stands for nothing here")),
-        (false, false) => unknown(reading, tree, word),
+        (true, false) => Cause::said(format!("the word `{word}` is reserved, and stands for nothing here")),
+        (false, _) => unknown(reading, tree, word),
     })
 }
 
@@ -41,26 +43,15 @@ fn sorts(tree: &Tree) -> Vec<&Tree> {
 
 /// The new names of a command.
 fn new_names(tree: &Tree) -> Vec<&Tree> {
-    match command(tree) {
-        Some(Command::DeclareVar { name, .. }) => vec![name],
-        Some(Command::DefineFun(definition)) => header_names(&definition.header),
-        Some(Command::SynthFun(synth)) => {
-            let nonterminals = synth.predeclared.iter().map(|pair| pair.name);
-            header_names(&synth.header).into_iter().chain(nonterminals).collect()
-        }
-        _ => Vec::new(),
-    }
+    command(tree).map_or(Vec::new(), |command| script::new_names(&command))
 }
 
-/// A name that is taken, and where the other one stands.
-fn taken(reading: &Reading, tree: &Tree, word: &str) -> Cause {
-    let earlier = reading.trees.iter().take_while(|one| one.start() < tree.start());
-    let earlier = earlier.filter_map(|one| new_names(one).first().copied());
-    let mut names = earlier.chain(new_names(tree));
-    let other = names.find(|name| name.symbol() == Some(word) && name.start() < reading.place);
+/// A name that is taken, and where the second number says that it was declared.
+fn taken(reading: &Reading, word: &str) -> Cause {
+    let declared = reading.second..reading.second + word.len();
     Cause {
         sentence: Some(format!("the name `{word}` is taken")),
-        hints: other.map(|name| Hint::at(name, "it is taken here")).into_iter().collect(),
+        hints: vec![Hint::within(declared, format!("`{word}` is first declared here"))],
     }
 }
 

@@ -175,7 +175,7 @@ fn reserved_word(random: &mut Random) -> String {
 
 /// Changes a draft in one place.
 pub fn mutate(random: &mut Random, draft: &mut Draft) {
-    match random.below(32) {
+    match random.below(35) {
         0 | 1 => mutate_points(random, &mut draft.points),
         2 => draft.response = words(random.pick(&RESPONSES)),
         3 => mutate_operator(random, &mut draft.response),
@@ -187,6 +187,7 @@ pub fn mutate(random: &mut Random, draft: &mut Draft) {
         15 | 16 => mutate_literal(random, &mut draft.script),
         17..=20 => mutate_operands(random, &mut draft.script),
         21 => cut_off(random, draft),
+        22..=24 => take_name(random, &mut draft.script),
         _ => mutate_words(random, &mut draft.script),
     }
 }
@@ -303,7 +304,7 @@ fn mutate_words(random: &mut Random, words: &mut Vec<String>) {
 
 /// Changes a sort, a literal, a name, an operator, its operands, a count or a grammar.
 fn mutate_within_shape(random: &mut Random, words: &mut Vec<String>) {
-    match random.below(18) {
+    match random.below(21) {
         0..=2 => mutate_sort(random, words),
         3 => mutate_literal(random, words),
         4 | 5 => mutate_name(random, words),
@@ -314,6 +315,7 @@ fn mutate_within_shape(random: &mut Random, words: &mut Vec<String>) {
         11 => mutate_numeral(random, words),
         12 => regroup(random, words),
         13 | 14 => mutate_operands(random, words),
+        15..=17 => take_name(random, words),
         _ => mutate_grammar(random, words),
     }
 }
@@ -651,6 +653,39 @@ fn declared(words: &[String]) -> Vec<usize> {
     places
         .filter(|&at| words[at] != "(" && words[at] != ")")
         .collect()
+}
+
+/// The places of all new names: of commands, of arguments and of predeclared non-terminals.
+fn new_names(words: &[String]) -> Vec<usize> {
+    let mut places = declared(words);
+    for command in commands(words) {
+        let parts = items(words, &command);
+        let lists = [parts.get(2), parts.get(4)].into_iter().flatten();
+        let pairs = lists.flat_map(|list| items(words, list));
+        places.extend(
+            pairs
+                .filter(|pair| pair.len() > 2)
+                .map(|pair| pair.start + 1),
+        );
+    }
+    places.sort_unstable();
+    places
+}
+
+/// Gives a new name the spelling of one that is declared before it, in scope or no more; mostly wherever it stands in its command.
+fn take_name(random: &mut Random, words: &mut [String]) {
+    let places = new_names(words);
+    if places.len() < 2 {
+        return;
+    }
+    let index = random.between(1, places.len() - 1);
+    let (at, earlier) = (places[index], places[random.below(index)]);
+    let (from, to) = (words[at].clone(), words[earlier].clone());
+    let own = commands(words).into_iter().find(|one| one.contains(&at));
+    match own {
+        Some(command) if random.percent(60) => rename(&mut words[at..command.end], &from, &to),
+        _ => words[at] = to,
+    }
 }
 
 /// A name of the text and another one of it or a reserved word.

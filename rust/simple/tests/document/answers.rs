@@ -95,20 +95,9 @@ fn what_is_not_carried_is_6() {
 
 #[test]
 fn names_are_7() {
-    refused(7, "(declare-var f Bool)", "f Bool)\n(check");
     refused(7, "(declare-var and Bool)", "and");
     refused(7, "(declare-var set-option Bool)", "set-option");
     refused(7, "(declare-var x Int)", "Int");
-    refused(
-        7,
-        "(declare-var x Bool)(define-fun g ((x Bool)) Bool x)",
-        "x Bool)) Bool x",
-    );
-    refused(
-        7,
-        "(define-fun g ((a Bool) (a Bool)) Bool a)",
-        "a Bool)) Bool a",
-    );
     refused(7, "(define-fun g () Bool f)", "f)\n(check");
     refused(
         7,

@@ -196,8 +196,8 @@ fn cases_about_limits_have_32_assumptions_and_33() {
 #[test]
 fn mutations_misuse_assume() {
     let mut found = HashSet::new();
-    for seed in 0..4_000 {
-        let case = mutated(seed);
+    let cases = (0..4_000).flat_map(|seed| [mutated(seed), crowded(seed)]);
+    for case in cases {
         let (answer, texts) = (answer(&case), [&case.script, &case.response]);
         let Some(text) = texts.get(usize::from(answer.text)) else {
             continue;

@@ -1,5 +1,5 @@
-//! Document 01 run: the readings, the vectors, the bench, constants, signed operators, assumptions, ends, lines and columns, the texts' own answers, every limit and
-//! every row of the table of answers.
+//! Document 01 run: the readings, the vectors, the bench, constants, signed operators, assumptions, ends, lines and columns, names that are taken, the texts' own
+//! answers, every limit and every row of the table of answers.
 
 mod answers;
 mod assumptions;
@@ -9,6 +9,7 @@ mod constants;
 mod generated;
 mod judge;
 mod limits;
+mod names;
 mod places;
 mod readings;
 mod reserved;

@@ -7,8 +7,8 @@ use Rattle.checker.proofs.reading.read_texts.Tie as tie
 read-script-text-requires : tie.Need-read-script-text-requires
 read-script-text-requires c κs = to-read (c .before .before .before .before .before .before .before .before .before .before .pre)
 
-refusal-requires : tie.Need-refusal-requires
-refusal-requires c κs = search needs
+script-refusal-requires : tie.Need-script-refusal-requires
+script-refusal-requires c κs = search needs
 
 same-length : tie.Need-same-length
 same-length c = c .before .before .before .before .before .before .before .before .before .before .before .before .read-script-text .kept .1 .0
@@ -23,13 +23,13 @@ same-length-4 : tie.Need-same-length-4
 same-length-4 c = c .before .before .before .before .before .before .before .before .before .before .before .before .read-script-text .kept .1 .1 .1 .1 .0
 
 returns : tie.Need-returns
-returns c = script-declined (c .before .before .before .before .before .before .before .before .before .before .before .before .read-script-text .ensures) (c .refusal .ensures) (c .before .if1 .taken)
+returns c = script-declined (c .before .before .before .before .before .before .before .before .before .before .before .before .read-script-text .ensures) (c .script-refusal .ensures) (c .before .if1 .taken)
 
 read-response-text-requires : tie.Need-read-response-text-requires
 read-response-text-requires c κs = ready (c .before .before .before .before .before .before .before .before .before .before .before .before .before .before .read-script-text .ensures) (c .before .before .before .if1 .left) (c .before .before .before .before .before .before .before .before .before .before .before .before .before .before .before .before .before .before .before .before .before .before .before .before .before .pre .rooms) (c .before .before .before .before .before .before .before .before .before .before .before .before .before .before .read-script-text .kept .1 .1 .1 .0)
 
-refusal-requires-2 : tie.Need-refusal-requires-2
-refusal-requires-2 c κs = search needs
+refusal-requires : tie.Need-refusal-requires
+refusal-requires c κs = search needs
 
 same-length-5 : tie.Need-same-length-5
 same-length-5 c = c .before .before .before .before .before .before .before .before .before .before .before .before .before .before .before .before .before .before .before .before .read-script-text .kept .1 .0
@@ -45,21 +45,21 @@ same-length-8 c = c .before .before .before .before .before .before .before .bef
 
 returns-2 : tie.Need-returns-2
 returns-2 c = response-read (c .before .before .before .before .before .before .before .before .before .before .before .before .before .before .before .before .before .before .before .before .read-script-text .ensures) (c .before .before .before .before .before .before .before .before .before .if1 .left) (c .before .before .before .before .before .before .before .before .before .before .before .before .before .before .before .before .before .before .before .before .before .before .before .before .before .before .before .before .before .before .before .pre .rooms) (c .before .before .before .before .before .before .before .before .before .before .before .before .before .before .before .before .before .before .before .before .read-script-text .kept .1 .1 .1 .0)
-    (c .before .before .before .before .before .read-response-text .ensures) (c .refusal2 .ensures)
+    (c .before .before .before .before .before .read-response-text .ensures) (c .refusal .ensures)
 
 pub read-texts-spec : {M : Type 1} → statement M
 read-texts-spec =
     tie.close
     (tie.spec
     read-script-text-requires
-    refusal-requires
+    script-refusal-requires
     same-length
     same-length-2
     same-length-3
     same-length-4
     returns
     read-response-text-requires
-    refusal-requires-2
+    refusal-requires
     same-length-5
     same-length-6
     same-length-7

@@ -1,9 +1,17 @@
+use Rattle.headers.proofs.HeadParts.{bytes-fit, head-room, word-fits}
 use Rattle.headers.proofs.Named.{name-here, own-fits, own-named, result-sort, sort-small}
-use Rattle.headers.proofs.HeadParts.{bytes-fit, head-room}
 use native.Mathlib.Omega.{arith}
 use borrow.Author.Needs.{needs}
 use Rattle.headers.proofs.heads.own_name.Statement.{statement}
 use Rattle.headers.proofs.heads.own_name.Tie as tie
+use Rattle.headers.proofs.heads.own_name.Reads as reads
+use Rattle.headers.proofs.heads.own_name.Lts as lts
+use Rattle.headers.proofs.heads.own_row.Reads as own-row-reads
+use Rattle.lexemes.proofs.next_at.Reads as next-at-reads
+use Rattle.names.proofs.new.new_name.Reads as new-name-reads
+use Rattle.names.proofs.spelled.bytes_at.Reads as bytes-at-reads
+use Rattle.names.proofs.table.put_name.Reads as put-name-reads
+use Rattle.written_sorts.proofs.places.sort_of.Reads as sort-of-reads
 
 own-row-requires : tie.Need-own-row-requires
 own-row-requires c κs = search needs
@@ -21,15 +29,16 @@ sort-of-requires : tie.Need-sort-of-requires
 sort-of-requires c κs = search result-sort
 
 cast-sort : tie.Need-cast-sort
-cast-sort c =
-    let p = c .before .before .before .before .before .before .before .pre in
-    record { fits = omega (arith, sort-small p (c .before .before .next-at .ensures) (c .before .next-at2 .ensures) (c .sort-of .ensures)) }
+cast-sort c = let p = c .before .before .before .before .before .before .before .pre in record { fits = omega (arith, sort-small p (c .before .before .next-at .ensures) (c .before .next-at2 .ensures) (c .sort-of .ensures)) }
 
 add-new-name : tie.Need-add-new-name
 add-new-name c = omega (arith, head-room (c .before .before .before .before .before .before .before .before .pre))
 
 new-name-requires : tie.Need-new-name-requires
 new-name-requires c κs = search name-here
+
+add-put-name : tie.Need-add-put-name
+add-put-name c = omega (arith, head-room (c .before .before .before .before .before .before .before .before .before .before .pre))
 
 add-bytes-at : tie.Need-add-bytes-at
 add-bytes-at c = omega (arith, head-room (c .before .before .before .before .before .before .before .before .before .before .pre))
@@ -38,7 +47,7 @@ bytes-at-requires : tie.Need-bytes-at-requires
 bytes-at-requires c κs = search needs
 
 put-name-requires : tie.Need-put-name-requires
-put-name-requires c κs = (search needs, (search own-fits, search bytes-fit))
+put-name-requires c κs = (search needs, (search own-fits, (search word-fits, search bytes-fit)))
 
 same-length : tie.Need-same-length
 same-length c = search needs
@@ -58,6 +67,7 @@ own-name-spec =
     cast-sort
     add-new-name
     new-name-requires
+    add-put-name
     add-bytes-at
     bytes-at-requires
     put-name-requires
