@@ -105,7 +105,9 @@ enum {
    |     |                                      |         | term whose operands have no fault                 |              |       |
    |   9 | grammar fault                        | 0       | first word of the rule, the listed name (the      | 0            | 0     |
    |     |                                      |         | predeclared one for the start's sort), or the     |              |       |
-   |     |                                      |         | bracket that closes a list too early              |              |       |
+   |     |                                      |         | bracket that closes a list too early; where there |              |       |
+   |     |                                      |         | is none of these, the predeclared name of the     |              |       |
+   |     |                                      |         | first non-terminal that derives no term           |              |       |
    |  10 | the response is `fail`               | 1       | 0                                                 | 0            | 0     |
    |  11 | the response is `infeasible`         | 1       | 0                                                 | 0            | 0     |
    |  12 | response header differs              | 1       | its first word differing; a function missing: the | 0            | 0     |

@@ -483,8 +483,8 @@ def rings():
             ("ring", {"A": "B", "B": "A x"}), ("long-chain", {"A": "A B", "B": "A C", "C": "B D", "D": "C x"}),
             ("self", {"A": "A x"}), ("back", {"A": "(not A) B", "B": "(and B A) C", "C": "B A x"})):
         yield case(script("(synth-fun f ((x Bool)) Bool %s)" % grammar_of("Bool", groups)), body, accepted(), name=name)
-    ring = script("(synth-fun f ((x Bool)) Bool %s)" % grammar_of("Bool", {"A": "B", "B": "A"}))
-    yield case(ring, response(defined("f", "(x Bool)", "Bool", "§x")), underived(0), name="ring-without-end")
+    ring = script("(synth-fun f ((x Bool)) Bool ((§A Bool) (B Bool)) ((A Bool (B)) (B Bool (A))))")
+    yield case(ring, body, refused(9), name="ring-without-end")
 
 
 def slips():

@@ -1,6 +1,6 @@
-"""Cases of names that are taken (request E8: "Each declared name's record must hold the place of its declaration, and answer 7 returns it as second number; 0 for unknown
-or reserved."): a name like every kind of name in scope, names alike within one command, the first of several faults, names whose scope has ended, many names and a name far
-down, and names that are reserved or unknown."""
+"""Cases of names that are taken (request E8: "Each declared name's record must hold the place of its declaration, and answer 7 returns it as second number; 0 for
+unknown or reserved."): a name like every kind of name in scope, names alike within one command, the first of several faults, names whose scope has ended, many names
+and a name far down, and names that are reserved or unknown."""
 from cases import TRUE, accepted, beside, case, constraint, defined, function, grammar_of, named, refused, response, row, script, variables
 
 # What is declared before the name that is looked for, and behind it.
@@ -36,7 +36,8 @@ def within():
         taken(BEFORE, command) for command in (
             defined("d", "(¤a Bool) (§a Bool)"), defined("d", "(¤a Bool) (§a Bool) (a Bool)"), defined("d", "(a Bool) (¤x Bool) (y Bool) (§x Bool) (a Bool)"),
             defined("d", "(¤a Bool)" + row(6, "(a%d Bool)".__mod__) + "(§a Bool)"), defined("¤d", "(§d Bool)"), defined("¤d", "(a Bool) (§d Bool) (a Bool)"),
-            synth("¤f", "(§f Bool)", "(A Bool)"), synth("f", "(¤a Bool) (§a Bool)", "(A Bool)"), synth("¤f", "", "(§f Bool)"), synth("¤f", "(a Bool)", "(A Bool) (§f Bool)"),
+            synth("¤f", "(§f Bool)", "(A Bool)"), synth("f", "(¤a Bool) (§a Bool)", "(A Bool)"), synth("¤f", "", "(§f Bool)"),
+            synth("¤f", "(a Bool)", "(A Bool) (§f Bool)"),
             synth("f", "(¤a Bool)", "(§a Bool)"), synth("f", "(a Bool) (¤x Bool)", "(A Bool) (§x Bool)"), synth("f", "", "(¤A Bool) (§A Bool)"),
             synth("f", "", "(¤A Bool) (§A Bool) (A Bool)"), synth("f", "(a Bool)", "(A Bool) (¤B Bool) (C Bool) (§B Bool)"),
             synth("f", "", "(¤A Bool)" + row(14, "(A%d Bool)".__mod__) + "(§A Bool)"))])
@@ -80,9 +81,8 @@ def many():
 
 def not_taken():
     """Names that are reserved, and names that are unknown where they stand, declared elsewhere or not: the second number is 0."""
-    yield from named("reserved-0", [
-        taken(BEFORE, new % ("§" + word)) for new, word in zip(NEW + NEW, ("and", "let", "BitVec", "bvadd", "Constant", "synth-fun", "true", "extract", "Bool", "assume", "BitVec", "ite",
-                                                                       "declare-sort", "Variable"))])
+    words = ("and", "let", "BitVec", "bvadd", "Constant", "synth-fun", "true", "extract", "Bool", "assume", "BitVec", "ite", "declare-sort", "Variable")
+    yield from named("reserved-0", [taken(BEFORE, new % ("§" + word)) for new, word in zip(NEW + NEW, words)])
     declared = BEFORE + variables("Bool") + defined("d", "(a Bool)", "Bool", "a")
     yield from named("unknown-0", [
         taken(declared, constraint("§w")), taken(declared, constraint("(§w v0)")), taken(declared, constraint("§a")), taken(declared, constraint("§f"), function()),

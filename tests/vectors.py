@@ -2,7 +2,7 @@
 """The records of the program `test_vectors` and what it must write of them: tests/vectors.py [--check]
 
 It takes the readings of readings.jsonl, texts of its own whose words decide, and the cases of cases.py, operands.py, constants.py, signed.py, assumed.py,
-located.py, declared.py and limits.py, and writes crates/test_vectors/stdin and crates/test_vectors/stdout; with --check it only says whether these two files are what it would
+located.py, declared.py, dead.py and limits.py, and writes crates/test_vectors/stdin and crates/test_vectors/stdout; with --check it only says whether these two files are what it would
 write, and replays every list of rules in them (derivations.py). What the words of a text are is said by words.py, which is held to each reading whose answer arises
 from words. The checker's answer is that of the reading, or is known from how a text is made; the list shown is the one derivation that there is. The end, the line
 and the column that an answer carries are computed by words.py from its text and its place, and held to what the readings and the cases of located.py say of them.
@@ -18,6 +18,7 @@ import words
 from assumed import all_assumed
 from cases import AREA, Case, all_cases
 from constants import all_constants
+from dead import all_dead
 from declared import all_declared
 from limits import all_limits
 from located import all_located
@@ -241,6 +242,7 @@ def records():
     yield from all_assumed()
     yield from all_located()
     yield from all_declared()
+    yield from all_dead()
     yield from all_limits()
     yield from all_nearly()
 

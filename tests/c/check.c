@@ -88,6 +88,7 @@ static void scripts(void)
     const char *bad = SCRIPT(F "(constraint 00)"), *often = SCRIPT(")"), *open = "(set-logic BV)(", *wide = SCRIPT("(declare-var v (_ BitVec 65))");
     const char *unknown = SCRIPT("(foo)"), *other = "(set-logic LIA)", *name = SCRIPT(F "(constraint y)"), *sort = SCRIPT(F "(constraint #x00)");
     const char *rule = SCRIPT("(synth-fun g () Bool ((B Bool)) ((B Bool (true #x00))))"), *word = SCRIPT(F "(declare-var let Bool)");
+    const char *dead = SCRIPT("(synth-fun g () Bool ((B Bool) (C Bool)) ((B Bool (true)) (C Bool ((not C) (Variable Bool)))))");
     const char *taken = SCRIPT(F V "(define-fun d ((v Bool)) Bool v)"), *twice = SCRIPT(F "(define-fun d ((a Bool) (a Bool) (a Bool)) Bool a)");
     refused("a bad word is 2", bad, none, SVERDHYLL_BAD_WORD, SVERDHYLL_SCRIPT, at(bad, "00"), 0);
     refused("a bracket closed too often is 3", often, none, SVERDHYLL_BRACKET, SVERDHYLL_SCRIPT, at(often, ")("), 0);
@@ -100,6 +101,7 @@ static void scripts(void)
     refused("a name that is taken is 7, with its declaration", taken, none, SVERDHYLL_NAME, SVERDHYLL_SCRIPT, at(taken, "v Bool))"), at(taken, "v Bool)"));
     refused("of three that are alike the second is 7, with the first", twice, none, SVERDHYLL_NAME, SVERDHYLL_SCRIPT, at(twice, "a Bool) (a Bool))"), at(twice, "a Bool)"));
     refused("a constraint that is not Bool is 8", sort, none, SVERDHYLL_SORT, SVERDHYLL_SCRIPT, at(sort, "#x00"), 0);
+    refused("a non-terminal that derives no term is 9", dead, none, SVERDHYLL_GRAMMAR, SVERDHYLL_SCRIPT, at(dead, "C Bool"), 0);
     refused("a rule of another sort is 9", rule, none, SVERDHYLL_GRAMMAR, SVERDHYLL_SCRIPT, at(rule, "#x00"), 0);
 }
 

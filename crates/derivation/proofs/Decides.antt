@@ -44,14 +44,14 @@ some-elim zero p e = apart e
 some-elim (suc n) p e = ⊎-elim (λ q. (n, omega arith, q)) (λ q. let s = some-elim n p q in (s .0, omega (arith, s .1), s .2)) (or-true (p n) (someb n p) e)
 
 -- below k, S' has no more than S
-abbrev NoMore : (S S' : ℕ → Bool) → ℕ → Type 0
+abbrev pub NoMore : (S S' : ℕ → Bool) → ℕ → Type 0
 NoMore S S' k = (i : ℕ) → i < k → S' i ≡ true → S i ≡ true
 
 -- below k, S' has one that S has not
-abbrev New : (S S' : ℕ → Bool) → ℕ → Type 0
+abbrev pub New : (S S' : ℕ → Bool) → ℕ → Type 0
 New S S' k = (i : ℕ) × (i < k) × (S' i ≡ true) × (S i ≡ false)
 
-find-new : (S S' : ℕ → Bool) (k : ℕ) → NoMore S S' k ⊎ New S S' k
+pub find-new : (S S' : ℕ → Bool) (k : ℕ) → NoMore S S' k ⊎ New S S' k
 find-new S S' zero = inl (λ i l. absurd (omega arith))
 find-new S S' (suc k) = go (find-new S S' k) (S' k) (S k) refl refl
   where

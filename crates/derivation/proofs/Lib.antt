@@ -22,4 +22,7 @@ pub mod Top
 pub mod Copying
 pub mod Sorts
 pub mod Decides
+pub mod FoundExactly
+pub mod YieldWalk
+pub mod PassLoops
 pub mod Bench

@@ -7,3 +7,4 @@ pub mod Rules
 pub mod Masks
 pub mod Filling
 pub mod Showing
+pub mod Productive

@@ -16,6 +16,7 @@ use terms::ROW;
 mod filling;
 mod masks;
 mod matching;
+pub mod productive;
 mod rules;
 mod showing;
 

@@ -7,3 +7,4 @@ pub mod SynthFunParts
 pub mod Limits
 pub mod Named
 pub mod Lists
+pub mod Dead

@@ -1,5 +1,5 @@
 -- The start of a grammar: the first of the pairs that declare its non-terminals.
-use Prim.Native.Nat.{ℕ, _+_, _≤_, _<_}
+use Prim.Native.Nat.{ℕ, zero, suc, _+_, _≤_, _<_}
 use native.Mathlib.Omega.{arith}
 use mathlib.Core.Path.{_≡_, sym, _∙_}
 use mathlib.Core.Bool.{Bool, true, false}
@@ -7,7 +7,7 @@ use mathlib.Core.List.{List}
 use lib.Dec.{eqb}
 use borrow.Author.Tests.{eq-eqb, eqb-false, ne-eqb}
 use Rattle.forest.specs.Forest.{count, none, tree}
-use Rattle.forest.proofs.Bools.{and-left}
+use Rattle.forest.proofs.Bools.{and-left, and-right}
 use Rattle.words.specs.Trees.{Lexeme, wordOf}
 use Rattle.lexemes.specs.Lists.{Items, inside, item}
 use Rattle.lexemes.specs.code.Standing.{ItemAt, ListAt}
@@ -20,11 +20,12 @@ use Rattle.written_sorts.proofs.PairParts.{Sorted, pair-sort, shaped-come, sort
 use Rattle.grammars.specs.Listing.{startMisfit}
 use Rattle.grammars.specs.code.Listed.{PairsAt}
 
--- the first of items that all are of a shape
-pub first-shaped : (shape : Lexeme → Items → Bool) (F : Items) → all shape F ≡ true → 0 < count F → shape (item 0 F) (inside 0 F) ≡ true
+-- one of items that all are of a shape
+pub item-shaped : (shape : Lexeme → Items → Bool) (F : Items) → all shape F ≡ true → (n : ℕ) → n < count F → shape (item n F) (inside n F) ≡ true
 unfolding all count inside item
-first-shaped shape none e h = absurd (omega arith)
-first-shaped shape (tree l ops more) e h = and-left (shape l ops) (all shape more) e
+item-shaped shape none e n h = absurd (omega arith)
+item-shaped shape (tree l ops more) e zero h = and-left (shape l ops) (all shape more) e
+item-shaped shape (tree l ops more) e (suc n) h = item-shaped shape more (and-right (shape l ops) (all shape more) e) n (omega arith)
 
 -- the name of a pair or a group stands behind its bracket
 pub name-placed : {lexemes : List ℕ} {at : ℕ} (x : ItemAt lexemes at) {n : ℕ} → Sorted (x .label) (x .operands) n → 1 ≤ n
@@ -42,7 +43,7 @@ module _ {lexemes : List ℕ} {at : ℕ} {empty : Bool} (told : (x : ListAt lexe
     -- the start
     abbrev pub start-pair : (p : PairsAt lexemes at) → ShapedAt pairShape lexemes (at + 1)
     start-pair p =
-        shaped-come (p .here) (come-first (p .here)) (some-pairs p) (first-shaped pairShape (p .here .operands) (p .shaped) (some-pairs p))
+        shaped-come (p .here) (come-first (p .here)) (some-pairs p) (item-shaped pairShape (p .here .operands) (p .shaped) 0 (some-pairs p))
 
     -- its sort
     abbrev pub start-sort : (p : PairsAt lexemes at) → SortAt lexemes (at + 1 + 2)

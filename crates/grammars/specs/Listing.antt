@@ -1,10 +1,10 @@
 -- 9, "grammar fault", in what a grammar lists: the least word at fault; nowhere, a number past every word, where there is none.
-use Prim.Native.Nat.{ℕ, min}
+use Prim.Native.Nat.{ℕ, suc, min}
 use mathlib.Core.Bool.{cond, _&&_}
 use mathlib.Core.List.{List, [], _∷_}
 use lib.Dec.{eqb}
 use Rattle.forest.specs.Forest.{count, none, tree}
-use Rattle.forest.specs.Lists.{sameBytes}
+use Rattle.forest.specs.Lists.{among, sameBytes}
 use Rattle.words.specs.Trees.{wordOf}
 use Rattle.lexemes.specs.Lists.{Items, closeOf, inside, item, nameOf}
 use Rattle.names.specs.Scopes.{Named}
@@ -28,3 +28,8 @@ abbrev pub startMisfit : (nowhere result close : ℕ) → (pairs : Items) → �
 startMisfit nowhere result close pairs =
     cond (eqb (count pairs) 0) close
     (cond (eqb (sortOf (item 1 (inside 0 pairs)) (inside 1 (inside 0 pairs))) result) nowhere (wordOf (item 0 (inside 0 pairs))))
+
+-- "answer 9 at the first of them where predeclared" (E9): the name of the first of the pairs, which are those of the non-terminals from A on, that is not found.
+unfoldable pub deadMisfit : (nowhere : ℕ) → (found : List ℕ) → (A : ℕ) → (pairs : Items) → ℕ
+deadMisfit nowhere found A none = nowhere
+deadMisfit nowhere found A (tree l ops more) = cond (among A found) (deadMisfit nowhere found (suc A) more) (wordOf (item 0 ops))

@@ -1,4 +1,4 @@
-//! The four tests of a grammar.
+//! The tests of a grammar.
 use crate::listed::listing_misfit;
 use crate::listed::start_misfit;
 use crate::parts::close_at;
@@ -8,6 +8,7 @@ use crate::parts::result_at;
 use forest::limits;
 use forest::numbers::least;
 use lexemes::items::count_items;
+use lexemes::items::item_at;
 use names::Scope;
 use names::Seen;
 use names::Target;
@@ -22,7 +23,7 @@ use term_nodes::sizes::count_nodes;
 use written_sorts::Fault;
 use written_sorts::headers::grammar_place;
 use written_sorts::places::sort_of;
-ghost use Rattle.grammars.specs.code.Read.{Declared, GrammarAt, LimitsGrammar, ListsTested, NamesGrammar, Naming, Sorting, SortsGrammar};
+ghost use Rattle.grammars.specs.code.Read.{Declared, DeclaredAt, GrammarAt, LimitsGrammar, ListsTested, NamesDead, NamesGrammar, Naming, Sorting, SortsGrammar};
 
 // Gathers the rules of the `synth-fun` at a word, and finds the least word past a limit.
 pub fn grammar_past(
@@ -140,4 +141,18 @@ pub fn lists_misfit(
     let start = start_misfit(lexemes, non_terminals, sort, nowhere);
     let again = listing_misfit(text, lexemes, names, groups, listed, nowhere);
     least(start, again)
+}
+
+// The declared name of the first non-terminal that derives no term, the one numbered `dead` of the `listed` that the `synth-fun` at a word declares; `nowhere`
+// where there is none.
+pub fn dead_misfit(lexemes: &[u64], at: usize, dead: usize, listed: usize, nowhere: usize) -> usize
+    requires { ⌜ DeclaredAt (now lexemes) at listed ⌝ }
+    ensures { λ r. ⌜ ((p : DeclaredAt (now (lexemes .entry)) at listed) → NamesDead p dead nowhere r) ⌝ }
+{
+    if dead >= listed {
+        return nowhere;
+    }
+    let non_terminals = non_terminals_at(lexemes, at);
+    let close = close_at(lexemes, non_terminals);
+    item_at(lexemes, non_terminals + 1, close, dead) + 1
 }

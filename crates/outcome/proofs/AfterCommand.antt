@@ -13,13 +13,14 @@ use Rattle.names.specs.New.{namedBy}
 use Rattle.names.specs.Scopes.{Defined}
 use Rattle.written_sorts.specs.Written.{sortOf}
 use Rattle.term_faults.specs.Faults.{bodyFault, scopeOf}
+use Rattle.grammars.proofs.Dead.{misfit-none}
 use Rattle.script.specs.Script.{Known, argumentsOf, bodyView, constraintView, grammarPlace, knownAfter, sortingPlace, termOf, viewOf}
 use Rattle.outcome.specs.code.Sorted.{AllBool}
 use Rattle.outcome.proofs.BodiesPromised.{body-sorted}
 use Rattle.outcome.proofs.OneCommand.{Command, Tests, another, assuming, constraining, declaring, defining, synthesizing}
 use Rattle.outcome.proofs.Growing.{Sound, bool-more, with-definition, with-function, with-stated, with-variable}
 use Rattle.script.proofs.WordsBelow.{Below, inside-below, item-below}
-use Rattle.outcome.proofs.Rules.{groups-placed, heads-below, listed, rules-sorted, starts}
+use Rattle.script.proofs.Rules.{groups-placed, heads-below, listed, rules-sorted, starts}
 
 -- It is sound where what was known before is.
 module _ {nowhere : ℕ} (k : Known) (c : Items) (some-word : 0 < nowhere) (below : Below nowhere c) (sound : Sound k)
@@ -38,7 +39,7 @@ module _ {nowhere : ℕ} (k : Known) (c : Items) (some-word : 0 < nowhere) (belo
   after-function : Tests c false false true false false → Sound (knownAfter k c)
   unfolding grammarPlace knownAfter
   after-function t =
-      let fits = rw (t .declares, t .defines, t .synthesizes) at rules in
+      let fits = misfit-none (viewOf k c) c (rw (t .declares, t .defines, t .synthesizes) at rules) .0 in
       let pairs = inside 4 c in
       let groups = inside 5 c in
       let in-groups = inside-below nowhere 5 c below in

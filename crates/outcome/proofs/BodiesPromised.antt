@@ -6,9 +6,8 @@ use mathlib.Core.List.{List, [], _∷_}
 use mathlib.Core.Option.{Option, none as nothing, some}
 use mathlib.Core.Path.{_≡_, refl, sym, subst, _∙_}
 use lib.Dec.{leb, ltb}
-use borrow.Author.Tests.{eqb-true, le-ltb, ltb-true}
+use borrow.Author.Tests.{le-ltb, ltb-true}
 use Rattle.forest.specs.Forest.{Forest, none, tree}
-use Rattle.forest.proofs.Bools.{apart}
 use Rattle.word_kinds.specs.Decimals.{decimalValue}
 use Rattle.operators.specs.Operators.{operatorCount, operatorOf, operatorSort}
 use Rattle.operators.specs.Sorts.{maxWidth}
@@ -23,6 +22,7 @@ use Rattle.term_nodes.specs.Terms.{Raw, constant, cut, decimal, number, pattern
 use Rattle.names.specs.Scopes.{Named, View, definedNames, formsOf, functionNames, isNamed, itemOr, means, namesOf, namedSorts as sortsIn, symbolMeans}
 use Rattle.term_faults.specs.Faults.{bodyFault, oneSort, rawSorts, scopeOf, termFault}
 use Rattle.script.specs.Script.{labelOf, termOf, termsIn}
+use Rattle.script.proofs.Rules.{one-sort}
 use Rattle.script.proofs.WordsBelow.{WordsBelow, no-fault}
 use Rattle.script.proofs.TermsOfForms.{AllWritten, Written, also-written, terms-written}
 
@@ -83,13 +83,6 @@ module _ (scope : Scope) where
   terms-sorts view none w = refl
   terms-sorts view (tree r ops more) (also-written w o m) =
       rw (terms-sorts view ops o, terms-sorts view more m, over-labelled (node-labelled view r w))
-
--- A term of one sort has that sort.
-pub one-sort : (sorts : Option (List ℕ)) (s : ℕ) → oneSort sorts s ≡ true → sorts ≡ some (s ∷ [])
-one-sort nothing s h = apart h
-one-sort (some []) s h = apart h
-one-sort (some (t ∷ [])) s h = rw (eqb-true t s h)
-one-sort (some (t ∷ u ∷ more)) s h = apart h
 
 module _ {nowhere : ℕ} (view : View) (s : ℕ) (l : Lexeme) (ops : Items) (below : WordsBelow nowhere l) where
   -- A term without a fault has its sort.

@@ -1,6 +1,5 @@
 pub mod Widening
 pub mod BodiesPromised
-pub mod Rules
 pub mod OneCommand
 pub mod Growing
 pub mod AfterCommand
@@ -23,8 +22,6 @@ pub mod Small
 pub mod Located
 pub mod Variables
 pub mod Demands
-pub mod Proper
-pub mod Limited
 pub mod Script
 pub mod BodiesAssured
 pub mod Nodes
@@ -34,3 +31,4 @@ pub mod Apart
 pub mod Scoped
 pub mod Second
 pub mod NameTable
+pub mod Alive

@@ -23,15 +23,16 @@ use Rattle.script.proofs.Within.{items-few, past-neither, past-none}
 use Rattle.outcome.specs.Sorted.{grammarScope}
 use Rattle.outcome.specs.code.Sorted.{AllRulesSorted, RulesSorted}
 use Rattle.outcome.proofs.OneCommand.{Command, Tests, another, assuming, command, constraining, declaring, defining, synthesizing}
-use Rattle.outcome.proofs.Rules.{groups-placed}
+use Rattle.script.proofs.Rules.{groups-placed}
 use Rattle.script.specs.Outcome.{said, scriptOutcome}
 use Rattle.script.proofs.Keeping.{script-keeps}
 use Rattle.outcome.proofs.Promised.{script-sorted}
 use Rattle.outcome.proofs.Variables.{variables-small}
 use Rattle.outcome.proofs.SmallTerms.{script-few}
 use Rattle.outcome.specs.code.Assured.{AllAdmitted, Assured}
-use Rattle.outcome.proofs.Proper.{AllBounded, sorted-proper, sorts-counted}
-use Rattle.outcome.proofs.Limited.{rules-few, said-bounded}
+use Rattle.script.proofs.Admitted.{sorted-admitted}
+use Rattle.script.proofs.Proper.{AllBounded}
+use Rattle.script.proofs.Limited.{rules-few, said-bounded}
 
 -- The grammar of a function is within its limits.
 record Limited (f : Function) : Type 0 where
@@ -51,14 +52,8 @@ record Within (k : Known) : Type 0 where
 -- A grammar within its limits, whose rules have their sorts, is one that document 01 admits.
 limited-admitted : {defs : List Defined} {f : Function} → RulesSorted defs f → Limited f → Admitted (f .grammar)
 limited-admitted {defs} {f} s l =
-    let scope = grammarScope defs f in
-    let few : length (scope .nonTerminals) ≤ mostNonTerminals = omega (arith, length-map (f .nonTerminals) (λ (n : Named). n .sort), l .nonTerminals) in
-    record {
-      few = l .rules;
-      low = λ r h. omega (arith, s .heads r h, l .nonTerminals);
-      proper = λ r h. sorted-proper scope mostNonTerminals few (formOf (f .grammar .rules) r) (s .rules r h) (l .sides r h);
-      single = λ r h. sorts-counted scope (formOf (f .grammar .rules) r) (s .rules r h);
-    }
+    let long = length-map (f .nonTerminals) (λ (n : Named). n .sort) in
+    sorted-admitted (grammarScope defs f) (f .grammar) (l .rules) (omega (arith, l .nonTerminals)) (λ r h. omega (arith, s .heads r h)) (l .sides) (s .rules)
 
 -- The same of every function.
 all-admitted : (defs : List Defined) (fs : List Function) → AllRulesSorted defs fs → AllLimited fs → AllAdmitted fs
@@ -112,7 +107,7 @@ module _ {nowhere : ℕ} (k : Known) (at : ℕ) (c : Items) (some-word : 0 < now
 pub script-assured : (text : List ℕ) {k : Known} → scriptOutcome text ≡ said k → Assured k
 unfolding AllLimited
 script-assured text {k} e =
-    let within = script-keeps Within (λ nowhere k at c some-word below limited sorted h. after-command k at c some-word below limited h (command c)) text e
+    let within = script-keeps Within (λ nowhere k at c some-word below limited sorted ruled h. after-command k at c some-word below limited h (command c)) text e
     (record { functions = tt }) in
     let sorted = script-sorted text e in
     record {

@@ -99,5 +99,5 @@ module _ {nowhere : ℕ} (k : Known) (at : ℕ) (c : Items) (some-word : 0 < now
 pub script-few : (text : List ℕ) {k : Known} → scriptOutcome text ≡ said k → FewNodes k
 unfolding SmallBodies SmallTerms
 script-few text e =
-    script-keeps FewNodes (λ nowhere k at c some-word below limited sorted few. after-command k at c some-word below limited sorted few (command c)) text e
+    script-keeps FewNodes (λ nowhere k at c some-word below limited sorted ruled few. after-command k at c some-word below limited sorted few (command c)) text e
     (record { bodies = tt; constraints = tt; assumptions = tt })

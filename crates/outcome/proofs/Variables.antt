@@ -13,7 +13,7 @@ use Rattle.written_sorts.specs.Written.{sortOf, sortPlace}
 use Rattle.written_sorts.specs.declared.Fault.the-variants.{TooWide}
 use Rattle.names.specs.Scopes.{Named, namedSorts}
 use Rattle.forest.specs.Limits.{allowed}
-use Rattle.script.specs.Script.{Known, knownAfter, limitPlace, sortingPlace}
+use Rattle.script.specs.Script.{Known, grammarPlace, knownAfter, limitPlace, sortingPlace}
 use Rattle.script.proofs.WordsBelow.{Below, inside-below, item-below, sort-narrow}
 use Rattle.script.specs.Outcome.{said, scriptOutcome}
 use Rattle.script.proofs.Keeping.{script-keeps}
@@ -27,9 +27,9 @@ small-more (u ∷ vs) v all h (suc i) = small-more vs v (λ j. all (suc j)) h i
 
 -- So it stays after a command within its limits.
 small-after : (nowhere : ℕ) (k : Known) (at : ℕ) (c : Items) → 0 < nowhere → Below nowhere c → nowhere ≤ limitPlace allowed nowhere k at c
-    → nowhere ≤ sortingPlace nowhere k c → SortsSmall (namedSorts (k .variables)) → SortsSmall (namedSorts (knownAfter k c .variables))
+    → nowhere ≤ sortingPlace nowhere k c → nowhere ≤ grammarPlace nowhere k c → SortsSmall (namedSorts (k .variables)) → SortsSmall (namedSorts (knownAfter k c .variables))
 unfolding knownAfter limitPlace
-small-after nowhere k at c some-word below limited sorted small = go (is "declare-var" (item 0 c)) _ _ limited
+small-after nowhere k at c some-word below limited sorted ruled small = go (is "declare-var" (item 0 c)) _ _ limited
   where
     sort : ℕ
     sort = sortOf (item 2 c) (inside 2 c)

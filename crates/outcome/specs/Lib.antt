@@ -1,5 +1,6 @@
 pub mod Sorted
 pub mod Scoped
+pub mod Alive
 pub mod Derived
 pub mod Evaluated
 pub mod Checked

@@ -1,9 +1,10 @@
 -- The head of a command that is not past a limit: its sorts are at most 64 wide, and it has at most 8 arguments.
-use Prim.Native.Nat.{ℕ, _≤_, _<_}
+use Prim.Native.Nat.{ℕ, zero, suc, _≤_, _<_}
 use native.Mathlib.Omega.{arith}
 use mathlib.Core.Bool.{Bool, true, false, cond}
 use mathlib.Core.Path.{_≡_, refl}
 use lib.Dec.{leb}
+use lib.ListN.{getD}
 use borrow.Author.Tests.{leb-true}
 use Rattle.forest.specs.Forest.{count, none, tree}
 use Rattle.operators.specs.Sorts.{maxWidth}
@@ -12,6 +13,8 @@ use Rattle.lexemes.specs.Lists.{Items, inside, item}
 use Rattle.written_sorts.specs.Written.{leastIn, pairPlace, sortOf}
 use Rattle.written_sorts.specs.declared.Fault.the-variants.{TooWide}
 use Rattle.term_nodes.specs.Rules.{itemPast}
+use Rattle.names.specs.New.{namedBy}
+use Rattle.names.specs.Scopes.{namedSorts}
 use Rattle.names.specs.code.New.{AllNarrow}
 use Rattle.headers.specs.Heads.{headerPast}
 use Rattle.forest.specs.Limits.{allowed}
@@ -34,6 +37,13 @@ pairs-narrow nowhere some (tree l ops more) below h =
       sort-narrow nowhere (item 1 ops) (inside 1 ops) (item-below some 2 (inside 1 ops) held .first) (omega arith),
       pairs-narrow nowhere some more (below .2) (omega arith),
     )
+
+-- The sort of one of such pairs.
+pub narrow-sort : (F : Items) (j : ℕ) → AllNarrow F → getD (namedSorts (namedBy F)) j 0 ≤ maxWidth
+unfolding AllNarrow namedBy
+narrow-sort none j narrow = omega arith
+narrow-sort (tree l ops more) zero narrow = narrow .0
+narrow-sort (tree l ops more) (suc j) narrow = narrow-sort more j (narrow .1)
 
 -- What a head that is not past a limit keeps to.
 pub record Narrow (c : Items) : Type 0 where

@@ -1,4 +1,4 @@
--- What every command within its limits and without a fault in its sorts keeps to, a script that passes keeps to.
+-- What every command within its limits and without a fault in its sorts and its grammar keeps to, a script that passes keeps to.
 use Prim.Native.Nat.{ℕ, _≤_, _<_}
 use native.Mathlib.Omega.{arith}
 use mathlib.Core.Bool.{Bool, true, false, cond, not, _||_}
@@ -22,10 +22,10 @@ use Rattle.script.specs.Script.{sortingPlace, nothingKnown, tested}
 use Rattle.script.proofs.WordsBelow.{Below, stands-below}
 use Rattle.script.specs.Outcome.{ScriptOutcome, byCommands, byWords, said, scriptOutcome}
 
--- Every command within its limits and without a fault in its sorts keeps to P.
+-- Every command within its limits and without a fault in its sorts and its grammar keeps to P.
 module _ (P : Known → Type 0)
     (kept : (nowhere : ℕ) (k : Known) (at : ℕ) (c : Items) → 0 < nowhere → Below nowhere c → nowhere ≤ limitPlace allowed nowhere k at c
-    → nowhere ≤ sortingPlace nowhere k c → P k → P (knownAfter k c)) where
+    → nowhere ≤ sortingPlace nowhere k c → nowhere ≤ grammarPlace nowhere k c → P k → P (knownAfter k c)) where
   -- What is known keeps to P, where the reading passes.
   data Keeps : Read → Type 0 where
     ends : {number place second : ℕ} → Keeps (refused number place second)
@@ -41,9 +41,10 @@ module _ (P : Known → Type 0)
   then-keeps next ends later = ends
   then-keeps next (goes-on {k = k} p) later = later k p
 
-  -- A command that passes is within its limits and has no fault in its sorts.
+  -- A command that passes is within its limits and has no fault in its sorts and its grammar.
   judged-keeps : (nowhere : ℕ) (k : Known) (at : ℕ) (c : Items) (after : Known)
-      → (nowhere ≤ limitPlace allowed nowhere k at c → nowhere ≤ sortingPlace nowhere k c → P after) → Keeps (judged allowed nowhere k at c after)
+      → (nowhere ≤ limitPlace allowed nowhere k at c → nowhere ≤ sortingPlace nowhere k c → nowhere ≤ grammarPlace nowhere k c → P after)
+      → Keeps (judged allowed nowhere k at c after)
   unfolding judged tested
   judged-keeps nowhere k at c after p =
       either-keeps (notCarried c) (λ e. ends)
@@ -52,7 +53,7 @@ module _ (P : Known → Type 0)
       (λ limited. either-keeps (ltb (namePlace nowhere k c) nowhere) (λ e. ends)
       (λ e. either-keeps (ltb (sortingPlace nowhere k c) nowhere) (λ e. ends)
       (λ sorted. either-keeps (ltb (grammarPlace nowhere k c) nowhere) (λ e. ends)
-      (λ e. goes-on (p (ltb-false _ _ limited) (ltb-false _ _ sorted))))))))
+      (λ ruled. goes-on (p (ltb-false _ _ limited) (ltb-false _ _ sorted) (ltb-false _ _ ruled))))))))
 
   -- All commands.
   all-keep : (nowhere : ℕ) (items : Items) {k : Known} → Below nowhere items → P k → Keeps (readAll allowed nowhere k items)
@@ -61,7 +62,7 @@ module _ (P : Known → Type 0)
   all-keep nowhere (tree l c more) {k} below p =
       let some-word : 0 < nowhere = omega (arith, below .0 .first) in
       let after = kept nowhere k (wordOf l) c some-word (below .1) in
-      let command = judged-keeps nowhere k (wordOf l) c (knownAfter k c) (λ limited sorted. after limited sorted p) in
+      let command = judged-keeps nowhere k (wordOf l) c (knownAfter k c) (λ limited sorted ruled. after limited sorted ruled p) in
       either-keeps (isList l) (λ e. then-keeps _ command (λ later q. all-keep nowhere more (below .2) q)) (λ e. ends)
 
   -- What the script says keeps to P.

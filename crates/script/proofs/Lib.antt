@@ -17,3 +17,8 @@ pub mod WordFaults
 pub mod Rows
 pub mod Numbers
 pub mod Keeping
+pub mod Rules
+pub mod Proper
+pub mod Limited
+pub mod RulesNarrow
+pub mod Admitted

@@ -37,7 +37,7 @@ pub data TextRow (text : List ℕ) : (number place : ℕ) → Type 0 where
 
 -- Those of a script, with their second numbers:
 -- "9 | grammar fault | first word of the rule, the non-terminal's listed name (predeclared for the start's sort), or the bracket that closes a list too early;
--- 0"
+-- 0"; "at the first of them where predeclared" (E9)
 -- "answer 7 returns it as second number" (E8): the place of the declaration of a name that is taken, which stands before.
 pub data ScriptRow (text : List ℕ) : (number place second : ℕ) → Type 0 where
   of-text : {number place : ℕ} → TextRow text number place → ScriptRow text number place 0

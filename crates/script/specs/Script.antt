@@ -13,7 +13,7 @@ use Rattle.words.specs.Trees.{Lexeme, wordOf}
 use Rattle.shapes.specs.Carried.{notCarried}
 use Rattle.headers.specs.Heads.{headerNames, headerPast}
 use Rattle.forest.specs.Limits.{Counts}
-use Rattle.grammars.specs.Grammars.{grammarFault, grammarMisfit, grammarNames, grammarOf, grammarPast}
+use Rattle.grammars.specs.Grammars.{grammarFault, grammarIn, grammarMisfit, grammarNames, grammarPast}
 use Rattle.script.specs.Limits.{commandPast, nodePast}
 use Rattle.lexemes.specs.Lists.{Items, inside, is, isList, item, nameOf}
 use Rattle.script.specs.Naming.{termNames}
@@ -151,7 +151,8 @@ tested counts nowhere k at c said =
     (cond (ltb (grammarPlace nowhere k c) nowhere) (refused 9 (grammarPlace nowhere k c) 0)
     (passed said))))
 
--- "in it 6, then 5, 4, 7, 8, 9, least offset each": of a command, whose bracket is word `at`, and which says `said` where it passes.
+-- "in it 6, then 5, 4, 7, 8, 9, least offset each", of 9 a dead non-terminal "after the other causes" (E9): of a command, whose bracket is word `at`, and which
+-- says `said` where it passes.
 unfoldable pub judged : Counts → (nowhere : ℕ) → Known → (at : ℕ) → Items → (said : Known) → Read
 judged counts nowhere k at c said =
     cond (notCarried c) (refused 6 at 0) (cond (not (commandShape c) || outOfPlace k c) (refused 5 at 0) (tested counts nowhere k at c said))
@@ -185,7 +186,7 @@ knownAfter k c =
       arguments = argumentsOf c;
       result = sortOf (item 3 c) (inside 3 c);
       nonTerminals = namedBy (inside 4 c);
-      grammar = record { arguments = header .arguments; rules = grammarOf (viewOf k c) (inside 5 c) };
+      grammar = grammarIn (viewOf k c) c;
       before = length (k .defined);
     } in
     record {

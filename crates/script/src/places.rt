@@ -9,10 +9,10 @@ ghost use mathlib.Core.Path.{_≡_};
 ghost use Prim.Native.Nat.{_+_, _*_, _≤_, _<_};
 ghost use lib.ListN.{drop, length, set};
 ghost use lib.Seq.{sets};
-ghost use Rattle.forest.specs.Limits.{mostDefined, mostFunctions, mostRules};
+ghost use Rattle.forest.specs.Limits.{mostArguments, mostDefined, mostFunctions, mostRules};
 ghost use Rattle.script.specs.code.Places.{argumentsIn, beforeIn, bodiesPlace, bodyIn, constraintsPlace, formRowsIn, formsIn};
 ghost use Rattle.script.specs.code.Places.{functionBodiesPlace, functionWidth, functionsPlace, offsetIn, offsetsPlace, ownRules, placesLength};
-ghost use Rattle.script.specs.code.Places.{resultIn, ruleCountIn, rulesOf, statedCount, statedOf};
+ghost use Rattle.script.specs.code.Places.{resultIn, ruleCountIn, rulesOf, sortsOf, statedCount, statedOf};
 
 // Where the numbers of bodies begin, behind the rows of signatures: those of `define-fun`s, then those of synthesized functions.
 const BODIES: usize = signatures::ROW * signatures::ROWS;
@@ -127,6 +127,18 @@ pub fn rules_of<'a>(places: &'a [u64], function: usize) -> &'a [u64]
 {
     let first = rules_place(function);
     let end = first + derivation::RULE * rule_count_of(places, function);
+    &places[first..end]
+}
+
+// The sorts of the arguments of a synthesized function.
+pub fn sorts_of<'a>(places: &'a [u64], function: usize) -> &'a [u64]
+    requires { ⌜ function < mostFunctions ⌝ }
+    requires { ⌜ length (now places) ≡ placesLength ⌝ }
+    requires { ⌜ argumentsIn (now places) function ≤ mostArguments ⌝ }
+    ensures { λ r. ⌜ now r ≡ sortsOf (now (places .entry)) function ⌝ }
+{
+    let first = signatures::ROW * (signatures::FUNCTION_ROW + function) + 2;
+    let end = first + arguments_of(places, function);
     &places[first..end]
 }
 

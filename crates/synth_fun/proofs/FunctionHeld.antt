@@ -10,6 +10,7 @@ use Rattle.forest.specs.code.Cursors.{size}
 use Rattle.lexemes.specs.Lists.{inside}
 use Rattle.terms.specs.code.Nodes.{rowWidth as nodeWidth}
 use Rattle.derivation.specs.code.Rules.{ruleWidth}
+use Rattle.derivation.specs.code.Tables.{formTable, rightSides, ruleTable}
 use Rattle.term_sorts.specs.code.Signatures.{functionSignature, signatureWidth}
 use Rattle.names.specs.Scopes.{Defined, formsOf, signatureOf, namedSorts}
 use Rattle.names.specs.code.Table.{ownArgumentRow, sortsFrom}
@@ -18,13 +19,14 @@ use Rattle.term_nodes.specs.code.RuleGathering.{startTable}
 use Rattle.term_nodes.specs.declared.Gathered.{Gathered}
 use Rattle.term_nodes.proofs.Listing.{length-starts}
 use Rattle.script.specs.code.Signatures.{Listed, Signing, signatureRow}
-use Rattle.script.proofs.Signed.{back-kept, rows-grow, rows-kept}
+use Rattle.script.proofs.Signed.{back-kept, length-sorts, rows-grow, rows-kept}
 use Rattle.script.proofs.SortsPut.{rows-before}
 use Rattle.script.proofs.Written.{before-written, drop-written, read-written}
 use Rattle.script.specs.Script.{argumentsOf, viewOf, definitionsOf}
-use Rattle.forest.specs.Limits.{firstAssumption}
+use Rattle.forest.specs.Limits.{firstAssumption, mostArguments}
 use Rattle.script.specs.code.Tables.{ArgumentsHold, GrammarHeld, GrammarsHold, PlacesHold, definedSignatures}
-use Rattle.script.specs.code.Places.{bodiesPlace, constraintsPlace, functionWidth, functionsPlace, ownRules, placesLength, rulesPlace}
+use Rattle.script.specs.code.Places.{argumentsIn, bodiesPlace, constraintsPlace, functionWidth, functionsPlace, ownRules, placesLength, ruleCountIn, rulesOf}
+use Rattle.script.specs.code.Places.{rulesPlace, sortsOf}
 use Rattle.script.specs.declared.Progress.{Progress}
 use Rattle.synth_fun.specs.code.Synthesizing.{formsSaid, ruledBy}
 use Rattle.synth_fun.specs.code.Rows.{Put, Putting, numbersOf}
@@ -33,7 +35,7 @@ use Rattle.synth_fun.specs.declared.Header.{Header}
 use Rattle.names.proofs.PairNames.{named-long}
 use Rattle.synth_fun.proofs.FunctionKnown.{after-is, functionOf, withFunction}
 use Rattle.synth_fun.proofs.RulesSaid.{forms-size, length-forms, said-long, sides-said, starts-said}
-use Rattle.synth_fun.proofs.SortsSought.{forms-there, limits, same-behind}
+use Rattle.synth_fun.proofs.SortsSought.{forms-there, limits, same-behind, written-there}
 use Rattle.synth_fun.proofs.TablesKept.{Same, bodies-same, stated-same, grammars-kept, part-before, rows-elsewhere}
 
 module _ {text lexemes names raw places forms : List ℕ} {p : Progress} {g : Gathered} {h : Header} {i nowhere : ℕ}
@@ -188,6 +190,52 @@ module _ {text lexemes names raw places forms : List ℕ} {p : Progress} {g : Ga
         (drop-drop (rulesPlace (p .functions)) functionsPlace placesAfter ∙ rules-same (ownRules (p .functions)) (omega arith) ∙ s .rules-are)
         ∙ take-at (startTable 0 (ruledBy c)) (s .more) (ruleWidth * g .rule) (length-starts 0 (ruledBy c) ∙ ap (λ (n : ℕ). ruleWidth * n) (sym (s .counted)))
 
+    -- how many there are
+    pub rules-counted : ruleCountIn placesAfter (p .functions) ≡ g .rule
+    rules-counted =
+        let at : functionsPlace + (functionWidth * p .functions + 2) ≡ functionsPlace + functionWidth * p .functions + 2 = omega arith in
+        rw at at (sym (getD-drop functionsPlace placesAfter (functionWidth * p .functions + 2) 0) ∙ number-put 2 (omega arith))
+
+    -- they are those of its grammar
+    pub rules-grammar : rulesOf placesAfter (p .functions)
+        ≡ ruleTable 0 (functionOf (s .given .of .known) (s .given .of .here .command) .grammar .rules)
+    rules-grammar =
+        let c = s .given .of .here .command in
+        ap (λ (n : ℕ). take (ruleWidth * n) (drop (ownRules (p .functions)) placesAfter)) rules-counted
+        ∙ ap (take (ruleWidth * g .rule)) (sym (drop-drop (rulesPlace (p .functions)) functionsPlace placesAfter))
+        ∙ rules-put
+        ∙ sym (starts-said (viewOf (s .given .of .known) c) 0 (ruledBy c))
+
+    -- its signature
+    pub arguments-counted : argumentsIn placesAfter (p .functions) ≡ h .arguments
+    unfolding withSignature
+    arguments-counted =
+        let at = signatureWidth * (functionSignature + p .functions) in
+        let row = signatureRow names (ownArgumentRow (p .functions)) (h .arguments) (h .result) in
+        let long = length-sorts names (ownArgumentRow (p .functions)) (h .arguments) in
+        number-before at (omega (arith, limits s .one-more))
+        ∙ rw add-zero at (read-written placesBetween at row 0
+        (omega (arith, listed .long, s .given .places-hold .long, limits s .one-more, limits s .few-arguments, s .header .arguments-are)) (omega arith))
+
+    -- the sorts of its arguments
+    pub sorts-grammar : sortsOf placesAfter (p .functions) ≡ namedSorts (argumentsOf (s .given .of .here .command))
+    unfolding withSignature
+    sorts-grammar =
+        let at = signatureWidth * (functionSignature + p .functions) in
+        let sorts = sortsFrom names (ownArgumentRow (p .functions)) (h .arguments) in
+        let row = signatureRow names (ownArgumentRow (p .functions)) (h .arguments) (h .result) in
+        let long = length-sorts names (ownArgumentRow (p .functions)) (h .arguments) in
+        let few : h .arguments ≤ mostArguments = omega (arith, limits s .few-arguments, s .header .arguments-are) in
+        ap (λ (n : ℕ). take n (drop (at + 2) placesAfter)) arguments-counted
+        ∙ ap (λ (l : List ℕ). take (h .arguments) (drop (at + 2) l)) put-last
+        ∙ part-before (h .arguments) (at + 2) withSignature (functionsPlace + functionWidth * p .functions) (numbersOf p g)
+        (omega (arith, limits s .one-more))
+        ∙ ap (take (h .arguments)) (sym (drop-drop 2 at withSignature))
+        ∙ ap (λ (l : List ℕ). take (h .arguments) (drop 2 l))
+        (written-there placesBetween at row (omega (arith, listed .long, s .given .places-hold .long, limits s .one-more)))
+        ∙ take-at sorts _ (h .arguments) long
+        ∙ sym own-sorts
+
     -- its forms
     forms-put : take (nodeWidth * g .row) (drop (nodeWidth * p .forms) forms) ≡ formsSaid (s .given .of .known) (s .given .of .here .command)
     forms-put =
@@ -196,6 +244,13 @@ module _ {text lexemes names raw places forms : List ℕ} {p : Progress} {g : Ga
         ap (take (nodeWidth * g .row)) (forms-there s)
         ∙ take-at (formsSaid (s .given .of .known) (s .given .of .here .command)) _ (nodeWidth * g .row)
         (length-forms (formsOf view F) ∙ ap (λ (n : ℕ). nodeWidth * n) (forms-size view F ∙ sym (s .rows-are)))
+
+    -- they are those of its grammar
+    pub forms-grammar : take (nodeWidth * g .row) (drop (nodeWidth * p .forms) forms)
+        ≡ formTable (rightSides (functionOf (s .given .of .known) (s .given .of .here .command) .grammar .rules))
+    forms-grammar =
+        let view = viewOf (s .given .of .known) (s .given .of .here .command) in
+        forms-put ∙ ap formTable (sym (sides-said view (ruledBy (s .given .of .here .command))))
 
     -- its grammar stands in the tables
     own-held : GrammarHeld (drop functionsPlace placesAfter) forms (p .forms + g .row) (p .functions)

@@ -9,7 +9,7 @@ use Rattle.lexemes.specs.Lists.{Items, inside, is, item, nameOf}
 use Rattle.written_sorts.specs.Written.{sortOf}
 use Rattle.names.specs.Scopes.{Function, namedSorts}
 use Rattle.names.specs.New.{namedBy}
-use Rattle.grammars.specs.Grammars.{grammarOf}
+use Rattle.grammars.specs.Grammars.{grammarIn}
 use Rattle.script.specs.Script.{Known, argumentsOf, knownAfter, viewOf}
 use Rattle.script.specs.code.Tables.{After, CommandOf}
 use Rattle.script.specs.declared.Progress.{Progress}
@@ -23,7 +23,7 @@ functionOf k c = record {
   arguments = argumentsOf c;
   result = sortOf (item 3 c) (inside 3 c);
   nonTerminals = namedBy (inside 4 c);
-  grammar = record { arguments = namedSorts (argumentsOf c); rules = grammarOf (viewOf k c) (inside 5 c) };
+  grammar = grammarIn (viewOf k c) c;
   before = length (k .defined);
 }
 

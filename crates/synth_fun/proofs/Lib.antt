@@ -1,4 +1,3 @@
-pub mod RulesNarrow
 pub mod SynthFunParts
 pub mod PastLimits
 pub mod HeaderRead
@@ -10,5 +9,6 @@ pub mod SortsSought
 pub mod TablesKept
 pub mod RulesGathered
 pub mod FunctionHeld
+pub mod GrammarAsked
 pub mod SortVerdicts
 pub mod NameVerdicts

@@ -2,7 +2,7 @@
 use Prim.Native.Nat.{ℕ, zero, suc, _+_, _-_, _*_, _≤_, _<_, min}
 use native.Mathlib.Nat.{add-zero}
 use native.Mathlib.Omega.{arith}
-use mathlib.Core.Path.{_≡_, refl, sym, ap, ap₂, _∙_}
+use mathlib.Core.Path.{_≡_, refl, sym, ap, ap₂, _∙_, subst}
 use mathlib.Core.List.{List, [], _∷_, _++_, append-assoc}
 use lib.ListN.{drop, getD, length, length-drop, length-map, take}
 use lib.Seq.{drop-at, drop-drop, length-sets, length-take-le, sets, sets-eq, take-all}
@@ -25,26 +25,27 @@ use Rattle.written_sorts.specs.code.Headers.{HeaderAt}
 use Rattle.written_sorts.specs.Written.{grammarSorts, headerPlace}
 use Rattle.written_sorts.specs.declared.Fault.the-variants.{Empty, Unknown}
 use Rattle.written_sorts.proofs.HeaderSorts.{header}
-use Rattle.term_faults.specs.Faults.{scopeOf}
+use Rattle.term_faults.specs.Faults.{ruleMisfit, scopeOf}
 use Rattle.term_faults.specs.code.Grammars.{RulesFound, RulesSought}
 use Rattle.term_faults.specs.code.Bodies.{Signed}
 use Rattle.headers.specs.Heads.{headerNames}
-use Rattle.grammars.specs.Grammars.{grammarNames}
+use Rattle.grammars.specs.Grammars.{grammarNames, listMisfit}
 use Rattle.grammars.specs.code.Read.{Declared, ListsTested, Sorted, Sorting}
 use Rattle.term_nodes.specs.Rules.{sides}
 use Rattle.term_nodes.specs.code.RuleGathering.{startTable}
 use Rattle.term_nodes.specs.declared.Gathered.{Gathered}
 use Rattle.script.specs.code.Signatures.{Listed, Listing}
+use Rattle.script.proofs.Headers.{narrow-sort}
 use Rattle.script.proofs.SortsPut.{rows-before}
-use Rattle.script.specs.Script.{Known, argumentsOf, grammarPlace, scope, sortingPlace, viewOf}
+use Rattle.script.specs.Script.{Known, argumentsOf, scope, sortingPlace, viewOf}
 use Rattle.script.specs.code.Places.{bodiesPlace, ownRules}
 use Rattle.script.specs.code.Tables.{definedSignatures}
 use Rattle.script.specs.declared.Progress.{Progress}
 use Rattle.synth_fun.specs.code.Synthesizing.{formsSaid, ruledBy}
-use Rattle.synth_fun.specs.code.SortTests.{Unsorted}
+use Rattle.synth_fun.specs.code.SortTests.{Comparing, Unsorted, fromPlace}
 use Rattle.synth_fun.specs.declared.Header.{Header}
 use Rattle.script.proofs.Within.{past-neither, past-none}
-use Rattle.synth_fun.proofs.SynthFunParts.{Small, closes-within, grammar-is, name-is, nodes-rise, nodes-say, rules-trees, small, sorting-is, synth-at}
+use Rattle.synth_fun.proofs.SynthFunParts.{Small, closes-within, name-is, nodes-rise, nodes-say, rules-trees, small, sorting-is, synth-at}
 use Rattle.synth_fun.proofs.SynthFunParts.{synth-named, synth-shaped}
 use Rattle.names.proofs.PairNames.{named-long}
 use Rattle.synth_fun.proofs.RulesSaid.{forms-size, length-forms}
@@ -62,13 +63,6 @@ sort-in-row names r zero j h = absurd (omega arith)
 sort-in-row names r (suc n) zero h = rw add-zero
 sort-in-row names r (suc n) (suc j) h = let next : r + suc j ≡ r + 1 + j = omega arith in rw next (sort-in-row names (r + 1) n j (omega arith))
 
--- The sort of one of the pairs.
-pub narrow-sort : (F : Items) (j : ℕ) → AllNarrow F → getD (namedSorts (namedBy F)) j 0 ≤ maxWidth
-unfolding AllNarrow namedBy
-narrow-sort none j narrow = omega arith
-narrow-sort (tree l ops more) zero narrow = narrow .0
-narrow-sort (tree l ops more) (suc j) narrow = narrow-sort more j (narrow .1)
-
 -- What is written into a table from a place on stands there.
 pub written-there : (l : List ℕ) (at : ℕ) (vs : List ℕ) → at + length vs ≤ length l → drop at (sets l at vs) ≡ vs ++ drop (at + length vs) l
 written-there l at vs h = ap (drop at) (sets-eq vs l at h) ∙ rw append-assoc (drop-at (take at l) _ at (length-take-le at l (omega arith)))
@@ -79,13 +73,28 @@ same-behind n l m same d far =
     let at : n + (d - n) ≡ d = omega arith in
     rw at at (sym (drop-drop (d - n) n l) ∙ ap (drop (d - n)) same ∙ drop-drop (d - n) n m)
 
--- A table from a place on.
-abbrev pub fromPlace : (first : ℕ) → (table : List ℕ) → List ℕ
-fromPlace first table = take (length table - first) (drop first table)
-
 -- The sorts of the nodes of its rules.
 abbrev pub columnSaid : Known → Items → List ℕ
 columnSaid k c = sortColumn (scopeOf (viewOf k c)) (formsOf (viewOf k c) (sides (ruledBy c)))
+
+-- ---- the least word at fault in what the command lists
+
+module _ {text lexemes names raw places column : List ℕ} {p : Progress} {g : Gathered} {h : Header} {i first : ℕ} (first-is : first ≡ ownRules (p .functions)) where
+  -- the rules from a place on
+  pub rules-from : Comparing text lexemes names raw places column p g h i → RulesSought raw (fromPlace first places) places column (g .rule) (h .listed)
+  rules-from q = subst (λ (n : ℕ). RulesSought raw (fromPlace n places) places column (g .rule) (h .listed)) (sym first-is) (q .rules)
+
+  -- the least of two
+  pub misfit-found : (nowhere : ℕ) {lists : ℕ} → ((q : Declared text lexemes names i (h .listed)) → ListsTested q nowhere lists)
+      → {misfits : ℕ} → ((q : RulesSought raw (fromPlace first places) places column (g .rule) (h .listed)) → RulesFound q nowhere misfits)
+      → {r : ℕ} → r ≡ min lists misfits → (q : Comparing text lexemes names raw places column p g h i)
+      → r ≡ min (listMisfit nowhere (q .lists .view) (q .lists .command)) (ruleMisfit nowhere (q .rules .view) (q .rules .ruled))
+  misfit-found nowhere by-lists {misfits} by-rules e q =
+      let there =
+      subst (λ (n : ℕ). (q : RulesSought raw (fromPlace n places) places column (g .rule) (h .listed)) → RulesFound q nowhere misfits) first-is by-rules in
+      e ∙ ap₂ min (by-lists (q .lists)) (there (q .rules))
+
+-- ---- a command whose names are in order
 
 module _ {text lexemes names raw places forms : List ℕ} {p : Progress} {g : Gathered} {h : Header} {i nowhere : ℕ}
     (s : Unsorted text lexemes names raw places forms p g h i nowhere) where
@@ -122,6 +131,13 @@ module _ {text lexemes names raw places forms : List ℕ} {p : Progress} {g : Ga
   -- the table of forms is as long as it was
   pub forms-long : length forms ≡ length (s .lentForms)
   forms-long = ap length (s .forms-are) ∙ length-sets (s .lentForms) (nodeWidth * p .forms) (formsSaid (s .given .of .known) (s .given .of .here .command))
+
+  -- for each of their nodes
+  pub forms-room : nodeWidth * (p .forms + g .row) ≤ length forms
+  forms-room =
+      let view = viewOf (s .given .of .known) (s .given .of .here .command) in
+      let F = sides (ruledBy (s .given .of .here .command)) in
+      omega (arith, length-forms (formsOf view F), forms-size view F, s .rows-are, forms-fit, forms-long)
 
   -- the forms start within it
   pub forms-start : nodeWidth * p .forms ≤ length forms
@@ -264,10 +280,7 @@ module _ {text lexemes names raw places forms : List ℕ} {p : Progress} {g : Ga
           few = omega (arith, s .header .listed-are, limits .few-listed);
         }
 
-        -- the least word at fault in the grammar
-        pub grammar-place : {lists : ℕ} → ((q : Declared text lexemes names i (h .listed)) → ListsTested q nowhere lists)
-            → {first : ℕ} → first ≡ ownRules (p .functions)
-            → {misfits : ℕ}
-            → ((q : RulesSought raw (fromPlace first placesBetween) placesBetween columnAfter (g .rule) (h .listed)) → RulesFound q nowhere misfits)
-            → {r : ℕ} → r ≡ min lists misfits → r ≡ grammarPlace nowhere (s .given .of .known) (s .given .of .here .command)
-        grammar-place by-lists first-is by-rules e = e ∙ ap₂ min (by-lists lists-here) (by-rules (rules-here first-is)) ∙ sym (grammar-is (s .given .of))
+        -- what it lists may be tested
+        abbrev pub comparing-here : Comparing text lexemes names raw placesBetween columnAfter p g h i
+        comparing-here =
+            record { lists = lists-here; one-more = omega (arith, limits .one-more); room = rules-start refl; rules = rules-here refl }

@@ -43,7 +43,7 @@ use Rattle.script.proofs.Headers.{head-narrow, pairs-narrow}
 use Rattle.script.proofs.WordsBelow.{command-below, command-word, inside-below, no-fault}
 use Rattle.synth_fun.specs.code.Synthesizing.{ruledBy}
 use Rattle.grammars.proofs.Within.{rising-few}
-use Rattle.synth_fun.proofs.RulesNarrow.{rules-narrow}
+use Rattle.script.proofs.RulesNarrow.{rules-narrow}
 use Rattle.script.proofs.Within.{Amid, amid, items-few, past-neither, past-none, rules-few}
 
 -- What a `synth-fun` keeps to within its limits.

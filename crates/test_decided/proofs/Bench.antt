@@ -10,10 +10,12 @@ use borrow.Author.Tests.{eq-eqb, eqb-false, eqb-true}
 use lib.Dec.{eqb}
 use lib.ListN.{length}
 use Rattle.forest.specs.Lists.{spelling, sameBytes}
+use Rattle.derivation.specs.Productive.{formYields, onePass, passes}
 use Rattle.derivation.specs.Sorts.{formSorts, itemSort}
 use Rattle.forest.specs.Forest.{count, join, nodesOf, Forest, none, tree}
 use Rattle.forest.specs.Search.{placeIn}
-use Rattle.grammars.specs.Listing.{listingMisfit}
+use Rattle.grammars.specs.Grammars.{deadPlace}
+use Rattle.grammars.specs.Listing.{deadMisfit, listingMisfit}
 use Rattle.headers.specs.Tokens.{argumentTokens, differing, wordsIn}
 use Rattle.lexemes.specs.Lists.{after, allNumerals, inside, item, itemsOf}
 use Rattle.lexemes.specs.Reserved.{isOneOf, isReserved, reservedWords}
@@ -178,7 +180,7 @@ ringFunction = overX (record { name = spelling "A"; at = 24; sort = 32 } ∷ rec
 
 -- The swap case.
 swap-settled : Shown (spelling swapScript) (spelling swapResponse) (7 ∷ 15 ∷ 3 ∷ 8 ∷ [])
-unfolding after all allIn allNumerals answered anyUncarried argumentTokens bytesAt calledSort commandShape constantsPast count depthAfter differing faultAt formSorts formed formsOf foundFrom grammarPlace hashed inOrder inScriptOrder inside isKnown isNamed isOneOf isReserved item itemSort itemsOf join judged judgedAll judgedBody judgedExtra kindOf knownAfter labelSort leastIn levelsAt levelsBefore limitPlace listingMisfit literalKind namePlace named namedBy newPairs nodeWord nodesOf nodesPast notCarried numeralKind operatorAt operatorOf operatorSort operators placeIn rawTerms readAll readingOf reservedWords responseWithin ruleMisfit rulePast rulesIn rulesOf runEnd sameBytes sameSorts scriptOutcome sides sortBy sortOver sortingPlace spelled startsFrom symbolKind symbolMeans termFault termShapes termsIn tested treesFrom unknownIn withSort wordAt wordEnd wordStarts wordsIn wordsOf
+unfolding after all allIn allNumerals answered anyUncarried argumentTokens bytesAt calledSort commandShape constantsPast count deadMisfit deadPlace depthAfter differing faultAt formSorts formYields formed formsOf foundFrom grammarPlace hashed inOrder inScriptOrder inside isKnown isNamed isOneOf isReserved item itemSort itemsOf join judged judgedAll judgedBody judgedExtra kindOf knownAfter labelSort leastIn levelsAt levelsBefore limitPlace listingMisfit literalKind namePlace named namedBy newPairs nodeWord nodesOf nodesPast notCarried numeralKind onePass operatorAt operatorOf operatorSort operators passes placeIn rawTerms readAll readingOf reservedWords responseWithin ruleMisfit rulePast rulesIn rulesOf runEnd sameBytes sameSorts scriptOutcome sides sortBy sortOver sortingPlace spelled startsFrom symbolKind symbolMeans termFault termShapes termsIn tested treesFrom unknownIn withSort wordAt wordEnd wordStarts wordsIn wordsOf
 swap-settled =
     record {
       k = saying [] swapFunction;
@@ -193,7 +195,7 @@ swap-settled =
 
 -- The ring.
 ring-settled : Shown (spelling ringScript) (spelling ringResponse) (0 ∷ 2 ∷ [])
-unfolding after all allIn allNumerals answered anyUncarried argumentTokens bytesAt calledSort commandShape constantsPast count depthAfter differing faultAt formSorts formed formsOf foundFrom grammarPlace hashed inOrder inScriptOrder inside isKnown isNamed isOneOf isReserved item itemSort itemsOf join judged judgedAll judgedBody judgedExtra kindOf knownAfter labelSort leastIn levelsAt levelsBefore limitPlace listingMisfit literalKind namePlace named namedBy newPairs nodeWord nodesOf nodesPast notCarried numeralKind operatorAt operatorOf operatorSort operators placeIn rawTerms readAll readingOf reservedWords responseWithin ruleMisfit rulePast rulesIn rulesOf runEnd sameBytes sameSorts scriptOutcome sides sortBy sortOver sortingPlace spelled startsFrom symbolKind symbolMeans termFault termShapes termsIn tested treesFrom unknownIn withSort wordAt wordEnd wordStarts wordsIn wordsOf
+unfolding after all allIn allNumerals answered anyUncarried argumentTokens bytesAt calledSort commandShape constantsPast count deadMisfit deadPlace depthAfter differing faultAt formSorts formYields formed formsOf foundFrom grammarPlace hashed inOrder inScriptOrder inside isKnown isNamed isOneOf isReserved item itemSort itemsOf join judged judgedAll judgedBody judgedExtra kindOf knownAfter labelSort leastIn levelsAt levelsBefore limitPlace listingMisfit literalKind namePlace named namedBy newPairs nodeWord nodesOf nodesPast notCarried numeralKind onePass operatorAt operatorOf operatorSort operators passes placeIn rawTerms readAll readingOf reservedWords responseWithin ruleMisfit rulePast rulesIn rulesOf runEnd sameBytes sameSorts scriptOutcome sides sortBy sortOver sortingPlace spelled startsFrom symbolKind symbolMeans termFault termShapes termsIn tested treesFrom unknownIn withSort wordAt wordEnd wordStarts wordsIn wordsOf
 ring-settled =
     record {
       k = saying [] ringFunction;
@@ -225,7 +227,7 @@ always =
 
 -- The costs.
 costs-settled : Costing (spelling costScript) (3 ∷ 9 ∷ 21 ∷ [])
-unfolding after all allIn allNumerals answered anyUncarried argumentTokens bytesAt calledSort commandShape constantsPast count depthAfter differing faultAt formSorts formed formsOf foundFrom grammarPlace hashed inOrder inScriptOrder inside isKnown isNamed isOneOf isReserved item itemSort itemsOf join judged judgedAll judgedBody judgedExtra kindOf knownAfter labelSort leastIn levelsAt levelsBefore limitPlace listingMisfit literalKind namePlace named namedBy newPairs nodeWord nodesOf nodesPast notCarried numeralKind operatorAt operatorOf operatorSort operators placeIn rawTerms readAll readingOf reservedWords responseWithin ruleMisfit rulePast rulesIn rulesOf runEnd sameBytes sameSorts scriptOutcome sides sortBy sortOver sortingPlace spelled startsFrom symbolKind symbolMeans termFault termShapes termsIn tested treesFrom unknownIn withSort wordAt wordEnd wordStarts wordsIn wordsOf summedCosts definedCost
+unfolding after all allIn allNumerals answered anyUncarried argumentTokens bytesAt calledSort commandShape constantsPast count deadMisfit deadPlace depthAfter differing faultAt formSorts formYields formed formsOf foundFrom grammarPlace hashed inOrder inScriptOrder inside isKnown isNamed isOneOf isReserved item itemSort itemsOf join judged judgedAll judgedBody judgedExtra kindOf knownAfter labelSort leastIn levelsAt levelsBefore limitPlace listingMisfit literalKind namePlace named namedBy newPairs nodeWord nodesOf nodesPast notCarried numeralKind onePass operatorAt operatorOf operatorSort operators passes placeIn rawTerms readAll readingOf reservedWords responseWithin ruleMisfit rulePast rulesIn rulesOf runEnd sameBytes sameSorts scriptOutcome sides sortBy sortOver sortingPlace spelled startsFrom symbolKind symbolMeans termFault termShapes termsIn tested treesFrom unknownIn withSort wordAt wordEnd wordStarts wordsIn wordsOf summedCosts definedCost
 costs-settled = record { k = saying (called "d2" 56 d2 ∷ called "d1" 30 d1 ∷ called "d0" 6 d0 ∷ []) always; says = refl; costs-are = refl }
 
 -- A value that is computed.

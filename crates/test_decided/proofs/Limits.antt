@@ -6,12 +6,14 @@ use mathlib.Core.List.{List, [], _∷_, map}
 use mathlib.Core.Path.{_≡_, refl}
 use lib.ListN.{length}
 use Rattle.forest.specs.Lists.{spelling}
+use Rattle.derivation.specs.Productive.{formYields, onePass, passes}
 use Rattle.derivation.specs.Sorts.{formSorts, itemSort}
 use Rattle.forest.specs.Forest.{count, join, nodesOf}
 use Rattle.forest.specs.Limits.{allowed}
 use Rattle.forest.specs.Lists.{sameBytes}
 use Rattle.forest.specs.Search.{placeIn}
-use Rattle.grammars.specs.Listing.{listingMisfit}
+use Rattle.grammars.specs.Grammars.{deadPlace}
+use Rattle.grammars.specs.Listing.{deadMisfit, listingMisfit}
 use Rattle.headers.specs.Tokens.{argumentTokens, differing, wordsIn}
 use Rattle.lexemes.specs.Lists.{after, allNumerals, inside, item, itemsOf}
 use Rattle.lexemes.specs.Reserved.{isOneOf, isReserved, reservedWords}
@@ -47,7 +49,7 @@ operands-constraint-texts =
 
 -- The definitions answer every one of them so.
 pub operands-constraint-held : map defined operands-constraint-texts ≡ map (λ (r : Reading). r .answer) operands-constraint-texts
-unfolding after all allIn allNumerals answered anyUncarried argumentTokens bytesAt calledSort chained commandShape constantsPast count differing earlier formSorts formed formsOf grammarPlace groupLeft groupRight hashed inOrder inScriptOrder inside isDecimal isKnown isNamed isOneOf isReserved item itemSort itemsOf join judged judgedAll judgedBody judgedExtra kindOf knownAfter labelSort lastBefore leastIn levelsAt levelsBefore limitPlace listingMisfit literalKind namePlace named namedBy newNames newPairs nodeWord nodesOf nodesPast notCarried numeralKind operatorAt operatorOf operatorSort operators pairwise placeIn rawTerms readAll reservedWords ruleMisfit rulePast rulesIn rulesOf runEnd sameBytes sameSorts sides sortBy sortOver sortingPlace spelled startsFrom symbolKind symbolMeans termFault termShapes termsIn tested treesFrom unknownIn withEach withSort wordAt wordEnd wordStarts wordsIn wordsOf
+unfolding after all allIn allNumerals answered anyUncarried argumentTokens bytesAt calledSort chained commandShape constantsPast count deadMisfit deadPlace differing earlier formSorts formYields formed formsOf grammarPlace groupLeft groupRight hashed inOrder inScriptOrder inside isDecimal isKnown isNamed isOneOf isReserved item itemSort itemsOf join judged judgedAll judgedBody judgedExtra kindOf knownAfter labelSort lastBefore leastIn levelsAt levelsBefore limitPlace listingMisfit literalKind namePlace named namedBy newNames newPairs nodeWord nodesOf nodesPast notCarried numeralKind onePass operatorAt operatorOf operatorSort operators pairwise passes placeIn rawTerms readAll reservedWords ruleMisfit rulePast rulesIn rulesOf runEnd sameBytes sameSorts sides sortBy sortOver sortingPlace spelled startsFrom symbolKind symbolMeans termFault termShapes termsIn tested treesFrom unknownIn withEach withSort wordAt wordEnd wordStarts wordsIn wordsOf
 operands-constraint-held = refl
 
 -- The limit on operands rule.
@@ -59,7 +61,7 @@ operands-rule-texts =
 
 -- The definitions answer every one of them so.
 pub operands-rule-held : map defined operands-rule-texts ≡ map (λ (r : Reading). r .answer) operands-rule-texts
-unfolding after all allIn allNumerals answered anyUncarried argumentTokens bytesAt calledSort chained commandShape constantsPast count differing earlier formSorts formed formsOf grammarPlace groupLeft groupRight hashed inOrder inScriptOrder inside isDecimal isKnown isNamed isOneOf isReserved item itemSort itemsOf join judged judgedAll judgedBody judgedExtra kindOf knownAfter labelSort lastBefore leastIn levelsAt levelsBefore limitPlace listingMisfit literalKind namePlace named namedBy newNames newPairs nodeWord nodesOf nodesPast notCarried numeralKind operatorAt operatorOf operatorSort operators pairwise placeIn rawTerms readAll reservedWords ruleMisfit rulePast rulesIn rulesOf runEnd sameBytes sameSorts sides sortBy sortOver sortingPlace spelled startsFrom symbolKind symbolMeans termFault termShapes termsIn tested treesFrom unknownIn withEach withSort wordAt wordEnd wordStarts wordsIn wordsOf
+unfolding after all allIn allNumerals answered anyUncarried argumentTokens bytesAt calledSort chained commandShape constantsPast count deadMisfit deadPlace differing earlier formSorts formYields formed formsOf grammarPlace groupLeft groupRight hashed inOrder inScriptOrder inside isDecimal isKnown isNamed isOneOf isReserved item itemSort itemsOf join judged judgedAll judgedBody judgedExtra kindOf knownAfter labelSort lastBefore leastIn levelsAt levelsBefore limitPlace listingMisfit literalKind namePlace named namedBy newNames newPairs nodeWord nodesOf nodesPast notCarried numeralKind onePass operatorAt operatorOf operatorSort operators pairwise passes placeIn rawTerms readAll reservedWords ruleMisfit rulePast rulesIn rulesOf runEnd sameBytes sameSorts sides sortBy sortOver sortingPlace spelled startsFrom symbolKind symbolMeans termFault termShapes termsIn tested treesFrom unknownIn withEach withSort wordAt wordEnd wordStarts wordsIn wordsOf
 operands-rule-held = refl
 
 -- The limit on constant width.
@@ -71,7 +73,7 @@ constant-width-texts =
 
 -- The definitions answer every one of them so.
 pub constant-width-held : map defined constant-width-texts ≡ map (λ (r : Reading). r .answer) constant-width-texts
-unfolding after all allIn allNumerals answered anyUncarried argumentTokens bytesAt calledSort chained commandShape constantsPast count differing earlier formSorts formed formsOf grammarPlace groupLeft groupRight hashed inOrder inScriptOrder inside isDecimal isKnown isNamed isOneOf isReserved item itemSort itemsOf join judged judgedAll judgedBody judgedExtra kindOf knownAfter labelSort lastBefore leastIn levelsAt levelsBefore limitPlace listingMisfit literalKind namePlace named namedBy newNames newPairs nodeWord nodesOf nodesPast notCarried numeralKind operatorAt operatorOf operatorSort operators pairwise placeIn rawTerms readAll reservedWords ruleMisfit rulePast rulesIn rulesOf runEnd sameBytes sameSorts sides sortBy sortOver sortingPlace spelled startsFrom symbolKind symbolMeans termFault termShapes termsIn tested treesFrom unknownIn withEach withSort wordAt wordEnd wordStarts wordsIn wordsOf
+unfolding after all allIn allNumerals answered anyUncarried argumentTokens bytesAt calledSort chained commandShape constantsPast count deadMisfit deadPlace differing earlier formSorts formYields formed formsOf grammarPlace groupLeft groupRight hashed inOrder inScriptOrder inside isDecimal isKnown isNamed isOneOf isReserved item itemSort itemsOf join judged judgedAll judgedBody judgedExtra kindOf knownAfter labelSort lastBefore leastIn levelsAt levelsBefore limitPlace listingMisfit literalKind namePlace named namedBy newNames newPairs nodeWord nodesOf nodesPast notCarried numeralKind onePass operatorAt operatorOf operatorSort operators pairwise passes placeIn rawTerms readAll reservedWords ruleMisfit rulePast rulesIn rulesOf runEnd sameBytes sameSorts sides sortBy sortOver sortingPlace spelled startsFrom symbolKind symbolMeans termFault termShapes termsIn tested treesFrom unknownIn withEach withSort wordAt wordEnd wordStarts wordsIn wordsOf
 constant-width-held = refl
 
 -- The limit on digits.
@@ -84,7 +86,7 @@ digits-texts =
 
 -- The definitions answer every one of them so.
 pub digits-held : map defined digits-texts ≡ map (λ (r : Reading). r .answer) digits-texts
-unfolding after all allIn allNumerals answered anyUncarried argumentTokens bytesAt calledSort chained commandShape constantsPast count differing earlier formSorts formed formsOf grammarPlace groupLeft groupRight hashed inOrder inScriptOrder inside isDecimal isKnown isNamed isOneOf isReserved item itemSort itemsOf join judged judgedAll judgedBody judgedExtra kindOf knownAfter labelSort lastBefore leastIn levelsAt levelsBefore limitPlace listingMisfit literalKind namePlace named namedBy newNames newPairs nodeWord nodesOf nodesPast notCarried numeralKind operatorAt operatorOf operatorSort operators pairwise placeIn rawTerms readAll reservedWords ruleMisfit rulePast rulesIn rulesOf runEnd sameBytes sameSorts sides sortBy sortOver sortingPlace spelled startsFrom symbolKind symbolMeans termFault termShapes termsIn tested treesFrom unknownIn withEach withSort wordAt wordEnd wordStarts wordsIn wordsOf
+unfolding after all allIn allNumerals answered anyUncarried argumentTokens bytesAt calledSort chained commandShape constantsPast count deadMisfit deadPlace differing earlier formSorts formYields formed formsOf grammarPlace groupLeft groupRight hashed inOrder inScriptOrder inside isDecimal isKnown isNamed isOneOf isReserved item itemSort itemsOf join judged judgedAll judgedBody judgedExtra kindOf knownAfter labelSort lastBefore leastIn levelsAt levelsBefore limitPlace listingMisfit literalKind namePlace named namedBy newNames newPairs nodeWord nodesOf nodesPast notCarried numeralKind onePass operatorAt operatorOf operatorSort operators pairwise passes placeIn rawTerms readAll reservedWords ruleMisfit rulePast rulesIn rulesOf runEnd sameBytes sameSorts sides sortBy sortOver sortingPlace spelled startsFrom symbolKind symbolMeans termFault termShapes termsIn tested treesFrom unknownIn withEach withSort wordAt wordEnd wordStarts wordsIn wordsOf
 digits-held = refl
 
 -- The limit on functions.
@@ -96,7 +98,7 @@ functions-texts =
 
 -- The definitions answer every one of them so.
 pub functions-held : map defined functions-texts ≡ map (λ (r : Reading). r .answer) functions-texts
-unfolding after all allIn allNumerals answered anyUncarried argumentTokens bytesAt calledSort chained commandShape constantsPast count differing earlier formSorts formed formsOf grammarPlace groupLeft groupRight hashed inOrder inScriptOrder inside isDecimal isKnown isNamed isOneOf isReserved item itemSort itemsOf join judged judgedAll judgedBody judgedExtra kindOf knownAfter labelSort lastBefore leastIn levelsAt levelsBefore limitPlace listingMisfit literalKind namePlace named namedBy newNames newPairs nodeWord nodesOf nodesPast notCarried numeralKind operatorAt operatorOf operatorSort operators pairwise placeIn rawTerms readAll reservedWords ruleMisfit rulePast rulesIn rulesOf runEnd sameBytes sameSorts sides sortBy sortOver sortingPlace spelled startsFrom symbolKind symbolMeans termFault termShapes termsIn tested treesFrom unknownIn withEach withSort wordAt wordEnd wordStarts wordsIn wordsOf
+unfolding after all allIn allNumerals answered anyUncarried argumentTokens bytesAt calledSort chained commandShape constantsPast count deadMisfit deadPlace differing earlier formSorts formYields formed formsOf grammarPlace groupLeft groupRight hashed inOrder inScriptOrder inside isDecimal isKnown isNamed isOneOf isReserved item itemSort itemsOf join judged judgedAll judgedBody judgedExtra kindOf knownAfter labelSort lastBefore leastIn levelsAt levelsBefore limitPlace listingMisfit literalKind namePlace named namedBy newNames newPairs nodeWord nodesOf nodesPast notCarried numeralKind onePass operatorAt operatorOf operatorSort operators pairwise passes placeIn rawTerms readAll reservedWords ruleMisfit rulePast rulesIn rulesOf runEnd sameBytes sameSorts sides sortBy sortOver sortingPlace spelled startsFrom symbolKind symbolMeans termFault termShapes termsIn tested treesFrom unknownIn withEach withSort wordAt wordEnd wordStarts wordsIn wordsOf
 functions-held = refl
 
 -- The limit on arguments.
@@ -108,7 +110,7 @@ arguments-texts =
 
 -- The definitions answer every one of them so.
 pub arguments-held : map defined arguments-texts ≡ map (λ (r : Reading). r .answer) arguments-texts
-unfolding after all allIn allNumerals answered anyUncarried argumentTokens bytesAt calledSort chained commandShape constantsPast count differing earlier formSorts formed formsOf grammarPlace groupLeft groupRight hashed inOrder inScriptOrder inside isDecimal isKnown isNamed isOneOf isReserved item itemSort itemsOf join judged judgedAll judgedBody judgedExtra kindOf knownAfter labelSort lastBefore leastIn levelsAt levelsBefore limitPlace listingMisfit literalKind namePlace named namedBy newNames newPairs nodeWord nodesOf nodesPast notCarried numeralKind operatorAt operatorOf operatorSort operators pairwise placeIn rawTerms readAll reservedWords ruleMisfit rulePast rulesIn rulesOf runEnd sameBytes sameSorts sides sortBy sortOver sortingPlace spelled startsFrom symbolKind symbolMeans termFault termShapes termsIn tested treesFrom unknownIn withEach withSort wordAt wordEnd wordStarts wordsIn wordsOf
+unfolding after all allIn allNumerals answered anyUncarried argumentTokens bytesAt calledSort chained commandShape constantsPast count deadMisfit deadPlace differing earlier formSorts formYields formed formsOf grammarPlace groupLeft groupRight hashed inOrder inScriptOrder inside isDecimal isKnown isNamed isOneOf isReserved item itemSort itemsOf join judged judgedAll judgedBody judgedExtra kindOf knownAfter labelSort lastBefore leastIn levelsAt levelsBefore limitPlace listingMisfit literalKind namePlace named namedBy newNames newPairs nodeWord nodesOf nodesPast notCarried numeralKind onePass operatorAt operatorOf operatorSort operators pairwise passes placeIn rawTerms readAll reservedWords ruleMisfit rulePast rulesIn rulesOf runEnd sameBytes sameSorts sides sortBy sortOver sortingPlace spelled startsFrom symbolKind symbolMeans termFault termShapes termsIn tested treesFrom unknownIn withEach withSort wordAt wordEnd wordStarts wordsIn wordsOf
 arguments-held = refl
 
 -- The limit on defined arguments.
@@ -120,7 +122,7 @@ defined-arguments-texts =
 
 -- The definitions answer every one of them so.
 pub defined-arguments-held : map defined defined-arguments-texts ≡ map (λ (r : Reading). r .answer) defined-arguments-texts
-unfolding after all allIn allNumerals answered anyUncarried argumentTokens bytesAt calledSort chained commandShape constantsPast count differing earlier formSorts formed formsOf grammarPlace groupLeft groupRight hashed inOrder inScriptOrder inside isDecimal isKnown isNamed isOneOf isReserved item itemSort itemsOf join judged judgedAll judgedBody judgedExtra kindOf knownAfter labelSort lastBefore leastIn levelsAt levelsBefore limitPlace listingMisfit literalKind namePlace named namedBy newNames newPairs nodeWord nodesOf nodesPast notCarried numeralKind operatorAt operatorOf operatorSort operators pairwise placeIn rawTerms readAll reservedWords ruleMisfit rulePast rulesIn rulesOf runEnd sameBytes sameSorts sides sortBy sortOver sortingPlace spelled startsFrom symbolKind symbolMeans termFault termShapes termsIn tested treesFrom unknownIn withEach withSort wordAt wordEnd wordStarts wordsIn wordsOf
+unfolding after all allIn allNumerals answered anyUncarried argumentTokens bytesAt calledSort chained commandShape constantsPast count deadMisfit deadPlace differing earlier formSorts formYields formed formsOf grammarPlace groupLeft groupRight hashed inOrder inScriptOrder inside isDecimal isKnown isNamed isOneOf isReserved item itemSort itemsOf join judged judgedAll judgedBody judgedExtra kindOf knownAfter labelSort lastBefore leastIn levelsAt levelsBefore limitPlace listingMisfit literalKind namePlace named namedBy newNames newPairs nodeWord nodesOf nodesPast notCarried numeralKind onePass operatorAt operatorOf operatorSort operators pairwise passes placeIn rawTerms readAll reservedWords ruleMisfit rulePast rulesIn rulesOf runEnd sameBytes sameSorts sides sortBy sortOver sortingPlace spelled startsFrom symbolKind symbolMeans termFault termShapes termsIn tested treesFrom unknownIn withEach withSort wordAt wordEnd wordStarts wordsIn wordsOf
 defined-arguments-held = refl
 
 -- The limit on defined.
@@ -132,7 +134,7 @@ defined-texts =
 
 -- The definitions answer every one of them so.
 pub defined-held : map defined defined-texts ≡ map (λ (r : Reading). r .answer) defined-texts
-unfolding after all allIn allNumerals answered anyUncarried argumentTokens bytesAt calledSort chained commandShape constantsPast count differing earlier formSorts formed formsOf grammarPlace groupLeft groupRight hashed inOrder inScriptOrder inside isDecimal isKnown isNamed isOneOf isReserved item itemSort itemsOf join judged judgedAll judgedBody judgedExtra kindOf knownAfter labelSort lastBefore leastIn levelsAt levelsBefore limitPlace listingMisfit literalKind namePlace named namedBy newNames newPairs nodeWord nodesOf nodesPast notCarried numeralKind operatorAt operatorOf operatorSort operators pairwise placeIn rawTerms readAll reservedWords ruleMisfit rulePast rulesIn rulesOf runEnd sameBytes sameSorts sides sortBy sortOver sortingPlace spelled startsFrom symbolKind symbolMeans termFault termShapes termsIn tested treesFrom unknownIn withEach withSort wordAt wordEnd wordStarts wordsIn wordsOf
+unfolding after all allIn allNumerals answered anyUncarried argumentTokens bytesAt calledSort chained commandShape constantsPast count deadMisfit deadPlace differing earlier formSorts formYields formed formsOf grammarPlace groupLeft groupRight hashed inOrder inScriptOrder inside isDecimal isKnown isNamed isOneOf isReserved item itemSort itemsOf join judged judgedAll judgedBody judgedExtra kindOf knownAfter labelSort lastBefore leastIn levelsAt levelsBefore limitPlace listingMisfit literalKind namePlace named namedBy newNames newPairs nodeWord nodesOf nodesPast notCarried numeralKind onePass operatorAt operatorOf operatorSort operators pairwise passes placeIn rawTerms readAll reservedWords ruleMisfit rulePast rulesIn rulesOf runEnd sameBytes sameSorts sides sortBy sortOver sortingPlace spelled startsFrom symbolKind symbolMeans termFault termShapes termsIn tested treesFrom unknownIn withEach withSort wordAt wordEnd wordStarts wordsIn wordsOf
 defined-held = refl
 
 -- The limit on variables.
@@ -144,7 +146,7 @@ variables-texts =
 
 -- The definitions answer every one of them so.
 pub variables-held : map defined variables-texts ≡ map (λ (r : Reading). r .answer) variables-texts
-unfolding after all allIn allNumerals answered anyUncarried argumentTokens bytesAt calledSort chained commandShape constantsPast count differing earlier formSorts formed formsOf grammarPlace groupLeft groupRight hashed inOrder inScriptOrder inside isDecimal isKnown isNamed isOneOf isReserved item itemSort itemsOf join judged judgedAll judgedBody judgedExtra kindOf knownAfter labelSort lastBefore leastIn levelsAt levelsBefore limitPlace listingMisfit literalKind namePlace named namedBy newNames newPairs nodeWord nodesOf nodesPast notCarried numeralKind operatorAt operatorOf operatorSort operators pairwise placeIn rawTerms readAll reservedWords ruleMisfit rulePast rulesIn rulesOf runEnd sameBytes sameSorts sides sortBy sortOver sortingPlace spelled startsFrom symbolKind symbolMeans termFault termShapes termsIn tested treesFrom unknownIn withEach withSort wordAt wordEnd wordStarts wordsIn wordsOf
+unfolding after all allIn allNumerals answered anyUncarried argumentTokens bytesAt calledSort chained commandShape constantsPast count deadMisfit deadPlace differing earlier formSorts formYields formed formsOf grammarPlace groupLeft groupRight hashed inOrder inScriptOrder inside isDecimal isKnown isNamed isOneOf isReserved item itemSort itemsOf join judged judgedAll judgedBody judgedExtra kindOf knownAfter labelSort lastBefore leastIn levelsAt levelsBefore limitPlace listingMisfit literalKind namePlace named namedBy newNames newPairs nodeWord nodesOf nodesPast notCarried numeralKind onePass operatorAt operatorOf operatorSort operators pairwise passes placeIn rawTerms readAll reservedWords ruleMisfit rulePast rulesIn rulesOf runEnd sameBytes sameSorts sides sortBy sortOver sortingPlace spelled startsFrom symbolKind symbolMeans termFault termShapes termsIn tested treesFrom unknownIn withEach withSort wordAt wordEnd wordStarts wordsIn wordsOf
 variables-held = refl
 
 -- The limit on constraints.
@@ -156,7 +158,7 @@ constraints-texts =
 
 -- The definitions answer every one of them so.
 pub constraints-held : map defined constraints-texts ≡ map (λ (r : Reading). r .answer) constraints-texts
-unfolding after all allIn allNumerals answered anyUncarried argumentTokens bytesAt calledSort chained commandShape constantsPast count differing earlier formSorts formed formsOf grammarPlace groupLeft groupRight hashed inOrder inScriptOrder inside isDecimal isKnown isNamed isOneOf isReserved item itemSort itemsOf join judged judgedAll judgedBody judgedExtra kindOf knownAfter labelSort lastBefore leastIn levelsAt levelsBefore limitPlace listingMisfit literalKind namePlace named namedBy newNames newPairs nodeWord nodesOf nodesPast notCarried numeralKind operatorAt operatorOf operatorSort operators pairwise placeIn rawTerms readAll reservedWords ruleMisfit rulePast rulesIn rulesOf runEnd sameBytes sameSorts sides sortBy sortOver sortingPlace spelled startsFrom symbolKind symbolMeans termFault termShapes termsIn tested treesFrom unknownIn withEach withSort wordAt wordEnd wordStarts wordsIn wordsOf
+unfolding after all allIn allNumerals answered anyUncarried argumentTokens bytesAt calledSort chained commandShape constantsPast count deadMisfit deadPlace differing earlier formSorts formYields formed formsOf grammarPlace groupLeft groupRight hashed inOrder inScriptOrder inside isDecimal isKnown isNamed isOneOf isReserved item itemSort itemsOf join judged judgedAll judgedBody judgedExtra kindOf knownAfter labelSort lastBefore leastIn levelsAt levelsBefore limitPlace listingMisfit literalKind namePlace named namedBy newNames newPairs nodeWord nodesOf nodesPast notCarried numeralKind onePass operatorAt operatorOf operatorSort operators pairwise passes placeIn rawTerms readAll reservedWords ruleMisfit rulePast rulesIn rulesOf runEnd sameBytes sameSorts sides sortBy sortOver sortingPlace spelled startsFrom symbolKind symbolMeans termFault termShapes termsIn tested treesFrom unknownIn withEach withSort wordAt wordEnd wordStarts wordsIn wordsOf
 constraints-held = refl
 
 -- The limit on assumptions.
@@ -168,7 +170,7 @@ assumptions-texts =
 
 -- The definitions answer every one of them so.
 pub assumptions-held : map defined assumptions-texts ≡ map (λ (r : Reading). r .answer) assumptions-texts
-unfolding after all allIn allNumerals answered anyUncarried argumentTokens bytesAt calledSort chained commandShape constantsPast count differing earlier formSorts formed formsOf grammarPlace groupLeft groupRight hashed inOrder inScriptOrder inside isDecimal isKnown isNamed isOneOf isReserved item itemSort itemsOf join judged judgedAll judgedBody judgedExtra kindOf knownAfter labelSort lastBefore leastIn levelsAt levelsBefore limitPlace listingMisfit literalKind namePlace named namedBy newNames newPairs nodeWord nodesOf nodesPast notCarried numeralKind operatorAt operatorOf operatorSort operators pairwise placeIn rawTerms readAll reservedWords ruleMisfit rulePast rulesIn rulesOf runEnd sameBytes sameSorts sides sortBy sortOver sortingPlace spelled startsFrom symbolKind symbolMeans termFault termShapes termsIn tested treesFrom unknownIn withEach withSort wordAt wordEnd wordStarts wordsIn wordsOf
+unfolding after all allIn allNumerals answered anyUncarried argumentTokens bytesAt calledSort chained commandShape constantsPast count deadMisfit deadPlace differing earlier formSorts formYields formed formsOf grammarPlace groupLeft groupRight hashed inOrder inScriptOrder inside isDecimal isKnown isNamed isOneOf isReserved item itemSort itemsOf join judged judgedAll judgedBody judgedExtra kindOf knownAfter labelSort lastBefore leastIn levelsAt levelsBefore limitPlace listingMisfit literalKind namePlace named namedBy newNames newPairs nodeWord nodesOf nodesPast notCarried numeralKind onePass operatorAt operatorOf operatorSort operators pairwise passes placeIn rawTerms readAll reservedWords ruleMisfit rulePast rulesIn rulesOf runEnd sameBytes sameSorts sides sortBy sortOver sortingPlace spelled startsFrom symbolKind symbolMeans termFault termShapes termsIn tested treesFrom unknownIn withEach withSort wordAt wordEnd wordStarts wordsIn wordsOf
 assumptions-held = refl
 
 -- The limit on non terminals.
@@ -180,7 +182,7 @@ non-terminals-texts =
 
 -- The definitions answer every one of them so.
 pub non-terminals-held : map defined non-terminals-texts ≡ map (λ (r : Reading). r .answer) non-terminals-texts
-unfolding after all allIn allNumerals answered anyUncarried argumentTokens bytesAt calledSort chained commandShape constantsPast count differing earlier formSorts formed formsOf grammarPlace groupLeft groupRight hashed inOrder inScriptOrder inside isDecimal isKnown isNamed isOneOf isReserved item itemSort itemsOf join judged judgedAll judgedBody judgedExtra kindOf knownAfter labelSort lastBefore leastIn levelsAt levelsBefore limitPlace listingMisfit literalKind namePlace named namedBy newNames newPairs nodeWord nodesOf nodesPast notCarried numeralKind operatorAt operatorOf operatorSort operators pairwise placeIn rawTerms readAll reservedWords ruleMisfit rulePast rulesIn rulesOf runEnd sameBytes sameSorts sides sortBy sortOver sortingPlace spelled startsFrom symbolKind symbolMeans termFault termShapes termsIn tested treesFrom unknownIn withEach withSort wordAt wordEnd wordStarts wordsIn wordsOf
+unfolding after all allIn allNumerals answered anyUncarried argumentTokens bytesAt calledSort chained commandShape constantsPast count deadMisfit deadPlace differing earlier formSorts formYields formed formsOf grammarPlace groupLeft groupRight hashed inOrder inScriptOrder inside isDecimal isKnown isNamed isOneOf isReserved item itemSort itemsOf join judged judgedAll judgedBody judgedExtra kindOf knownAfter labelSort lastBefore leastIn levelsAt levelsBefore limitPlace listingMisfit literalKind namePlace named namedBy newNames newPairs nodeWord nodesOf nodesPast notCarried numeralKind onePass operatorAt operatorOf operatorSort operators pairwise passes placeIn rawTerms readAll reservedWords ruleMisfit rulePast rulesIn rulesOf runEnd sameBytes sameSorts sides sortBy sortOver sortingPlace spelled startsFrom symbolKind symbolMeans termFault termShapes termsIn tested treesFrom unknownIn withEach withSort wordAt wordEnd wordStarts wordsIn wordsOf
 non-terminals-held = refl
 
 -- The limit on rules.
@@ -192,7 +194,7 @@ rules-texts =
 
 -- The definitions answer every one of them so.
 pub rules-held : map defined rules-texts ≡ map (λ (r : Reading). r .answer) rules-texts
-unfolding after all allIn allNumerals answered anyUncarried argumentTokens bytesAt calledSort chained commandShape constantsPast count differing earlier formSorts formed formsOf grammarPlace groupLeft groupRight hashed inOrder inScriptOrder inside isDecimal isKnown isNamed isOneOf isReserved item itemSort itemsOf join judged judgedAll judgedBody judgedExtra kindOf knownAfter labelSort lastBefore leastIn levelsAt levelsBefore limitPlace listingMisfit literalKind namePlace named namedBy newNames newPairs nodeWord nodesOf nodesPast notCarried numeralKind operatorAt operatorOf operatorSort operators pairwise placeIn rawTerms readAll reservedWords ruleMisfit rulePast rulesIn rulesOf runEnd sameBytes sameSorts sides sortBy sortOver sortingPlace spelled startsFrom symbolKind symbolMeans termFault termShapes termsIn tested treesFrom unknownIn withEach withSort wordAt wordEnd wordStarts wordsIn wordsOf
+unfolding after all allIn allNumerals answered anyUncarried argumentTokens bytesAt calledSort chained commandShape constantsPast count deadMisfit deadPlace differing earlier formSorts formYields formed formsOf grammarPlace groupLeft groupRight hashed inOrder inScriptOrder inside isDecimal isKnown isNamed isOneOf isReserved item itemSort itemsOf join judged judgedAll judgedBody judgedExtra kindOf knownAfter labelSort lastBefore leastIn levelsAt levelsBefore limitPlace listingMisfit literalKind namePlace named namedBy newNames newPairs nodeWord nodesOf nodesPast notCarried numeralKind onePass operatorAt operatorOf operatorSort operators pairwise passes placeIn rawTerms readAll reservedWords ruleMisfit rulePast rulesIn rulesOf runEnd sameBytes sameSorts sides sortBy sortOver sortingPlace spelled startsFrom symbolKind symbolMeans termFault termShapes termsIn tested treesFrom unknownIn withEach withSort wordAt wordEnd wordStarts wordsIn wordsOf
 rules-held = refl
 
 -- The limit on nodes body.
@@ -204,7 +206,7 @@ nodes-body-texts =
 
 -- The definitions answer every one of them so.
 pub nodes-body-held : map defined nodes-body-texts ≡ map (λ (r : Reading). r .answer) nodes-body-texts
-unfolding after all allIn allNumerals answered anyUncarried argumentTokens bytesAt calledSort chained commandShape constantsPast count differing earlier formSorts formed formsOf grammarPlace groupLeft groupRight hashed inOrder inScriptOrder inside isDecimal isKnown isNamed isOneOf isReserved item itemSort itemsOf join judged judgedAll judgedBody judgedExtra kindOf knownAfter labelSort lastBefore leastIn levelsAt levelsBefore limitPlace listingMisfit literalKind namePlace named namedBy newNames newPairs nodeWord nodesOf nodesPast notCarried numeralKind operatorAt operatorOf operatorSort operators pairwise placeIn rawTerms readAll reservedWords ruleMisfit rulePast rulesIn rulesOf runEnd sameBytes sameSorts sides sortBy sortOver sortingPlace spelled startsFrom symbolKind symbolMeans termFault termShapes termsIn tested treesFrom unknownIn withEach withSort wordAt wordEnd wordStarts wordsIn wordsOf
+unfolding after all allIn allNumerals answered anyUncarried argumentTokens bytesAt calledSort chained commandShape constantsPast count deadMisfit deadPlace differing earlier formSorts formYields formed formsOf grammarPlace groupLeft groupRight hashed inOrder inScriptOrder inside isDecimal isKnown isNamed isOneOf isReserved item itemSort itemsOf join judged judgedAll judgedBody judgedExtra kindOf knownAfter labelSort lastBefore leastIn levelsAt levelsBefore limitPlace listingMisfit literalKind namePlace named namedBy newNames newPairs nodeWord nodesOf nodesPast notCarried numeralKind onePass operatorAt operatorOf operatorSort operators pairwise passes placeIn rawTerms readAll reservedWords ruleMisfit rulePast rulesIn rulesOf runEnd sameBytes sameSorts sides sortBy sortOver sortingPlace spelled startsFrom symbolKind symbolMeans termFault termShapes termsIn tested treesFrom unknownIn withEach withSort wordAt wordEnd wordStarts wordsIn wordsOf
 nodes-body-held = refl
 
 -- The limit on nodes constraint.
@@ -216,7 +218,7 @@ nodes-constraint-texts =
 
 -- The definitions answer every one of them so.
 pub nodes-constraint-held : map defined nodes-constraint-texts ≡ map (λ (r : Reading). r .answer) nodes-constraint-texts
-unfolding after all allIn allNumerals answered anyUncarried argumentTokens bytesAt calledSort chained commandShape constantsPast count differing earlier formSorts formed formsOf grammarPlace groupLeft groupRight hashed inOrder inScriptOrder inside isDecimal isKnown isNamed isOneOf isReserved item itemSort itemsOf join judged judgedAll judgedBody judgedExtra kindOf knownAfter labelSort lastBefore leastIn levelsAt levelsBefore limitPlace listingMisfit literalKind namePlace named namedBy newNames newPairs nodeWord nodesOf nodesPast notCarried numeralKind operatorAt operatorOf operatorSort operators pairwise placeIn rawTerms readAll reservedWords ruleMisfit rulePast rulesIn rulesOf runEnd sameBytes sameSorts sides sortBy sortOver sortingPlace spelled startsFrom symbolKind symbolMeans termFault termShapes termsIn tested treesFrom unknownIn withEach withSort wordAt wordEnd wordStarts wordsIn wordsOf
+unfolding after all allIn allNumerals answered anyUncarried argumentTokens bytesAt calledSort chained commandShape constantsPast count deadMisfit deadPlace differing earlier formSorts formYields formed formsOf grammarPlace groupLeft groupRight hashed inOrder inScriptOrder inside isDecimal isKnown isNamed isOneOf isReserved item itemSort itemsOf join judged judgedAll judgedBody judgedExtra kindOf knownAfter labelSort lastBefore leastIn levelsAt levelsBefore limitPlace listingMisfit literalKind namePlace named namedBy newNames newPairs nodeWord nodesOf nodesPast notCarried numeralKind onePass operatorAt operatorOf operatorSort operators pairwise passes placeIn rawTerms readAll reservedWords ruleMisfit rulePast rulesIn rulesOf runEnd sameBytes sameSorts sides sortBy sortOver sortingPlace spelled startsFrom symbolKind symbolMeans termFault termShapes termsIn tested treesFrom unknownIn withEach withSort wordAt wordEnd wordStarts wordsIn wordsOf
 nodes-constraint-held = refl
 
 -- The limit on nodes rule.
@@ -228,7 +230,7 @@ nodes-rule-texts =
 
 -- The definitions answer every one of them so.
 pub nodes-rule-held : map defined nodes-rule-texts ≡ map (λ (r : Reading). r .answer) nodes-rule-texts
-unfolding after all allIn allNumerals answered anyUncarried argumentTokens bytesAt calledSort chained commandShape constantsPast count differing earlier formSorts formed formsOf grammarPlace groupLeft groupRight hashed inOrder inScriptOrder inside isDecimal isKnown isNamed isOneOf isReserved item itemSort itemsOf join judged judgedAll judgedBody judgedExtra kindOf knownAfter labelSort lastBefore leastIn levelsAt levelsBefore limitPlace listingMisfit literalKind namePlace named namedBy newNames newPairs nodeWord nodesOf nodesPast notCarried numeralKind operatorAt operatorOf operatorSort operators pairwise placeIn rawTerms readAll reservedWords ruleMisfit rulePast rulesIn rulesOf runEnd sameBytes sameSorts sides sortBy sortOver sortingPlace spelled startsFrom symbolKind symbolMeans termFault termShapes termsIn tested treesFrom unknownIn withEach withSort wordAt wordEnd wordStarts wordsIn wordsOf
+unfolding after all allIn allNumerals answered anyUncarried argumentTokens bytesAt calledSort chained commandShape constantsPast count deadMisfit deadPlace differing earlier formSorts formYields formed formsOf grammarPlace groupLeft groupRight hashed inOrder inScriptOrder inside isDecimal isKnown isNamed isOneOf isReserved item itemSort itemsOf join judged judgedAll judgedBody judgedExtra kindOf knownAfter labelSort lastBefore leastIn levelsAt levelsBefore limitPlace listingMisfit literalKind namePlace named namedBy newNames newPairs nodeWord nodesOf nodesPast notCarried numeralKind onePass operatorAt operatorOf operatorSort operators pairwise passes placeIn rawTerms readAll reservedWords ruleMisfit rulePast rulesIn rulesOf runEnd sameBytes sameSorts sides sortBy sortOver sortingPlace spelled startsFrom symbolKind symbolMeans termFault termShapes termsIn tested treesFrom unknownIn withEach withSort wordAt wordEnd wordStarts wordsIn wordsOf
 nodes-rule-held = refl
 
 -- The limit on nodes response.
@@ -240,5 +242,5 @@ nodes-response-texts =
 
 -- The definitions answer every one of them so.
 pub nodes-response-held : map defined nodes-response-texts ≡ map (λ (r : Reading). r .answer) nodes-response-texts
-unfolding after all allIn allNumerals answered anyUncarried argumentTokens bytesAt calledSort chained commandShape constantsPast count differing earlier formSorts formed formsOf grammarPlace groupLeft groupRight hashed inOrder inScriptOrder inside isDecimal isKnown isNamed isOneOf isReserved item itemSort itemsOf join judged judgedAll judgedBody judgedExtra kindOf knownAfter labelSort lastBefore leastIn levelsAt levelsBefore limitPlace listingMisfit literalKind namePlace named namedBy newNames newPairs nodeWord nodesOf nodesPast notCarried numeralKind operatorAt operatorOf operatorSort operators pairwise placeIn rawTerms readAll reservedWords ruleMisfit rulePast rulesIn rulesOf runEnd sameBytes sameSorts sides sortBy sortOver sortingPlace spelled startsFrom symbolKind symbolMeans termFault termShapes termsIn tested treesFrom unknownIn withEach withSort wordAt wordEnd wordStarts wordsIn wordsOf
+unfolding after all allIn allNumerals answered anyUncarried argumentTokens bytesAt calledSort chained commandShape constantsPast count deadMisfit deadPlace differing earlier formSorts formYields formed formsOf grammarPlace groupLeft groupRight hashed inOrder inScriptOrder inside isDecimal isKnown isNamed isOneOf isReserved item itemSort itemsOf join judged judgedAll judgedBody judgedExtra kindOf knownAfter labelSort lastBefore leastIn levelsAt levelsBefore limitPlace listingMisfit literalKind namePlace named namedBy newNames newPairs nodeWord nodesOf nodesPast notCarried numeralKind onePass operatorAt operatorOf operatorSort operators pairwise passes placeIn rawTerms readAll reservedWords ruleMisfit rulePast rulesIn rulesOf runEnd sameBytes sameSorts sides sortBy sortOver sortingPlace spelled startsFrom symbolKind symbolMeans termFault termShapes termsIn tested treesFrom unknownIn withEach withSort wordAt wordEnd wordStarts wordsIn wordsOf
 nodes-response-held = refl

@@ -194,6 +194,7 @@ places =
     ∷ row "((define-fun f () Bool zz) (define-fun g ((x Bool)) Bool (let ((a x)) a)))" 23 25 1 24
     ∷ row "((define-fun f () Bool (not true)))" 34 35 1 35
     ∷ row "((define-fun f () Bool (not true)) (define-fun g ((x Bool)) Bool (and x x)))" 23 24 1 24
+    ∷ row "(set-logic BV)(define-fun d () Bool true)(synth-fun f () Bool ((A Bool)) ((A Bool ((Variable Bool)))))(check-synth)" 64 65 1 65
     ∷ row "((set-logic BV))" 0 1 1 1
     ∷ row "(set-logic BV)(declare-var x (_ BitVec 8))(declare-var p Bool)(constraint (as p Bool))" 75 77 1 76
     ∷ row "(set-logic BV)(declare-var x (_ BitVec 8))(declare-var p Bool)(constraint (match p ((q q))))" 62 63 1 63
@@ -224,7 +225,7 @@ places =
     ∷ row "(set-logic BV)(synth-fun f () Bool ((A Bool)) ((A Bool (B)) (B Bool (true))))(check-synth)" 56 57 1 57
     ∷ row "(set-logic BV)(synth-fun f () Bool () ((A Bool (true))))(check-synth)" 36 37 1 37
     ∷ row "(set-logic BV)(synth-fun f () Bool ((A Bool)) ())(check-synth)" 47 48 1 48
-    ∷ row "((define-fun f () Bool true))" 23 27 1 24
+    ∷ row "(set-logic BV)(synth-fun f () Bool ((A Bool) (B Bool)) ((A Bool (B)) (B Bool (A))))(check-synth)" 37 38 1 38
     ∷ row "(set-logic BV)(synth-fun f () Bool ((A (_ BitVec 0))) ((A (_ BitVec 0) (true))))(check-synth)" 39 40 1 40
     ∷ row "(set-logic BV)(synth-fun f () Int ((A Bool)) ((A Bool (true))))(check-synth)" 30 33 1 31
     ∷ row "((define-fun f () Bool zz))" 23 25 1 24
@@ -419,6 +420,11 @@ places =
     ∷ row "(set-logic BV)(define-fun g ((a Bool) (a Bool)) Bool true)" 39 40 1 40
     ∷ row "(set-logic BV)(define-fun g ((a Bool) (a Bool) (a Bool)) Bool true)" 39 40 1 40
     ∷ row "(set-logic BV)(synth-fun f ((a Bool)) Bool ((a Bool)) ((a Bool (true))))" 45 46 1 46
+    ∷ row "(set-logic BV)(synth-fun f () Bool ((A Bool) (B Bool)) ((A Bool (true)) (B Bool ((not B)))))(check-synth)" 46 47 1 47
+    ∷ row "(set-logic BV)(synth-fun f ((x (_ BitVec 8))) Bool ((A Bool)) ((A Bool ((Variable Bool)))))(check-synth)" 53 54 1 54
+    ∷ row "(set-logic BV)(synth-fun f () Bool ((A Bool) (B Bool)) ((A Bool (true #x00)) (B Bool ((not B)))))(check-synth)" 70 74 1 71
+    ∷ row "(set-logic BV)(synth-fun f () Bool ((A Bool) (B Bool) (C Bool)) ((A Bool (true)) (B Bool (C)) (C Bool (B))))(check-synth)" 46 47 1 47
+    ∷ row "(set-logic BV)(synth-fun f () Bool ((A Bool)) ((A Bool (A))))(declare-sort S 0)" 37 38 1 38
     ∷ row "(set-logic BV) ;c" 17 17 1 18
     ∷ row "(set-logic\nBV)" 14 14 2 4
     ∷ row "(set-logic\nBV" 13 13 2 3

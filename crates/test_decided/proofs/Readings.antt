@@ -5,12 +5,14 @@ use mathlib.Core.List.{List, [], _∷_, map}
 use mathlib.Core.Path.{_≡_, refl}
 use lib.ListN.{length}
 use Rattle.forest.specs.Lists.{spelling}
+use Rattle.derivation.specs.Productive.{formYields, onePass, passes}
 use Rattle.derivation.specs.Sorts.{formSorts, itemSort}
 use Rattle.forest.specs.Forest.{count, join, nodesOf}
 use Rattle.forest.specs.Limits.{allowed}
 use Rattle.forest.specs.Lists.{sameBytes}
 use Rattle.forest.specs.Search.{placeIn}
-use Rattle.grammars.specs.Listing.{listingMisfit}
+use Rattle.grammars.specs.Grammars.{deadPlace}
+use Rattle.grammars.specs.Listing.{deadMisfit, listingMisfit}
 use Rattle.headers.specs.Tokens.{argumentTokens, differing, wordsIn}
 use Rattle.lexemes.specs.Lists.{after, allNumerals, inside, item, itemsOf}
 use Rattle.lexemes.specs.Reserved.{isOneOf, isReserved, reservedWords}
@@ -224,7 +226,7 @@ readings =
     ∷ row "(set-logic BV)(synth-fun f () Bool ((A Bool)) ((A Bool (true false))))(synth-fun g ((x Bool)) Bool ((A Bool)) ((A Bool (x (not A)))))(check-synth)" "((define-fun f () Bool (not true)) (define-fun g ((x Bool)) Bool (and x x)))" []
     ∷ row "(set-logic BV)(synth-fun f () (_ BitVec 8) ((A (_ BitVec 8))) ((A (_ BitVec 8) (#xFF))))(check-synth)" "((define-fun f () (_ BitVec 8) #xff))" []
     ∷ row "(set-logic BV)(synth-fun f () Bool ((A Bool)) ((A Bool ((Constant Bool)))))(check-synth)" "((define-fun f () Bool true))" []
-    ∷ row "(set-logic BV)(define-fun d () Bool true)(synth-fun f () Bool ((A Bool)) ((A Bool ((Variable Bool)))))(check-synth)" "((define-fun f () Bool d))" []
+    ∷ row "(set-logic BV)(define-fun d () Bool true)(synth-fun f () Bool ((A Bool)) ((A Bool ((Variable Bool)))))(check-synth)" "" (9 ∷ 20 ∷ 0 ∷ [])
     ∷ row "(set-logic BV)(declare-var x (_ BitVec 8))(declare-var p Bool)(synth-fun f () Bool ((A Bool)) ((A Bool (true))))(constraint (= x x))(check-synth)" "((define-fun f () Bool true))" []
     ∷ row "(set-logic BV)(declare-var x (_ BitVec 8))(declare-var p Bool)(synth-fun f () Bool ((A Bool)) ((A Bool (true))))(constraint (distinct x x))(check-synth)" "((define-fun f () Bool true))" []
     ∷ row "(set-logic BV)(synth-fun f () Bool ((A Bool)) ((A Bool (true))))(check-synth)" "((define-fun f () Bool true))" []
@@ -265,7 +267,7 @@ readings =
     ∷ row "(set-logic BV)(synth-fun f () Bool ((A Bool)) ((A Bool (B)) (B Bool (true))))(check-synth)" "" (7 ∷ 21 ∷ 0 ∷ [])
     ∷ row "(set-logic BV)(synth-fun f () Bool () ((A Bool (true))))(check-synth)" "" (9 ∷ 11 ∷ 0 ∷ [])
     ∷ row "(set-logic BV)(synth-fun f () Bool ((A Bool)) ())(check-synth)" "" (9 ∷ 17 ∷ 0 ∷ [])
-    ∷ row "(set-logic BV)(synth-fun f () Bool ((A Bool) (B Bool)) ((A Bool (B)) (B Bool (A))))(check-synth)" "((define-fun f () Bool true))" []
+    ∷ row "(set-logic BV)(synth-fun f () Bool ((A Bool) (B Bool)) ((A Bool (B)) (B Bool (A))))(check-synth)" "" (9 ∷ 12 ∷ 0 ∷ [])
     ∷ row "(set-logic BV)(synth-fun f () Bool ((A Bool)) ((A Bool (true true))))(check-synth)" "((define-fun f () Bool true))" []
     ∷ row "(set-logic BV)(synth-fun f () Bool ((A Bool)) ((A Bool (A true))))(check-synth)" "((define-fun f () Bool true))" []
     ∷ row "(set-logic BV)(synth-fun f () Bool ((A (_ BitVec 0))) ((A (_ BitVec 0) (true))))(check-synth)" "" (8 ∷ 13 ∷ 0 ∷ [])
@@ -483,9 +485,14 @@ readings =
     ∷ row "(set-logic BV)(define-fun g ((a Bool) (a Bool) (a Bool)) Bool true)" "" (7 ∷ 13 ∷ 9 ∷ [])
     ∷ row "(set-logic BV)(synth-fun f ((a Bool)) Bool ((a Bool)) ((a Bool (true))))" "" (7 ∷ 16 ∷ 9 ∷ [])
     ∷ row "(set-logic BV)(define-fun g ((a Bool)) Bool a)(declare-var a Bool)(synth-fun f () Bool ((A Bool)) ((A Bool (true))))(check-synth)" "((define-fun f () Bool true))" []
+    ∷ row "(set-logic BV)(synth-fun f () Bool ((A Bool) (B Bool)) ((A Bool (true)) (B Bool ((not B)))))(check-synth)" "" (9 ∷ 16 ∷ 0 ∷ [])
+    ∷ row "(set-logic BV)(synth-fun f ((x (_ BitVec 8))) Bool ((A Bool)) ((A Bool ((Variable Bool)))))(check-synth)" "" (9 ∷ 20 ∷ 0 ∷ [])
+    ∷ row "(set-logic BV)(synth-fun f () Bool ((A Bool) (B Bool)) ((A Bool (true #x00)) (B Bool ((not B)))))(check-synth)" "" (9 ∷ 26 ∷ 0 ∷ [])
+    ∷ row "(set-logic BV)(synth-fun f () Bool ((A Bool) (B Bool) (C Bool)) ((A Bool (true)) (B Bool (C)) (C Bool (B))))(check-synth)" "" (9 ∷ 16 ∷ 0 ∷ [])
+    ∷ row "(set-logic BV)(synth-fun f () Bool ((A Bool)) ((A Bool (A))))(declare-sort S 0)" "" (9 ∷ 12 ∷ 0 ∷ [])
     ∷ []
 
 -- The definitions answer every one of them so.
 pub decided : map defined readings ≡ map (λ (r : Reading). r .answer) readings
-unfolding after all allIn allNumerals answered anyUncarried argumentTokens bytesAt calledSort chained commandShape constantsPast count differing earlier formSorts formed formsOf grammarPlace groupLeft groupRight hashed inOrder inScriptOrder inside isDecimal isKnown isNamed isOneOf isReserved item itemSort itemsOf join judged judgedAll judgedBody judgedExtra kindOf knownAfter labelSort lastBefore leastIn levelsAt levelsBefore limitPlace listingMisfit literalKind namePlace named namedBy newNames newPairs nodeWord nodesOf nodesPast notCarried numeralKind operatorAt operatorOf operatorSort operators pairwise placeIn rawTerms readAll reservedWords ruleMisfit rulePast rulesIn rulesOf runEnd sameBytes sameSorts sides sortBy sortOver sortingPlace spelled startsFrom symbolKind symbolMeans termFault termShapes termsIn tested treesFrom unknownIn withEach withSort wordAt wordEnd wordStarts wordsIn wordsOf
+unfolding after all allIn allNumerals answered anyUncarried argumentTokens bytesAt calledSort chained commandShape constantsPast count deadMisfit deadPlace differing earlier formSorts formYields formed formsOf grammarPlace groupLeft groupRight hashed inOrder inScriptOrder inside isDecimal isKnown isNamed isOneOf isReserved item itemSort itemsOf join judged judgedAll judgedBody judgedExtra kindOf knownAfter labelSort lastBefore leastIn levelsAt levelsBefore limitPlace listingMisfit literalKind namePlace named namedBy newNames newPairs nodeWord nodesOf nodesPast notCarried numeralKind onePass operatorAt operatorOf operatorSort operators pairwise passes placeIn rawTerms readAll reservedWords ruleMisfit rulePast rulesIn rulesOf runEnd sameBytes sameSorts sides sortBy sortOver sortingPlace spelled startsFrom symbolKind symbolMeans termFault termShapes termsIn tested treesFrom unknownIn withEach withSort wordAt wordEnd wordStarts wordsIn wordsOf
 decided = refl

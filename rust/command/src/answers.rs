@@ -177,7 +177,7 @@ fn refusal(number: u8, text: &str, word: &str) -> String {
         (6, _) => format!("{quoted} is not carried"),
         (7, _) => format!("the name {quoted} is unknown here, or taken, or reserved"),
         (8, _) => "this sort is faulty, or this term is not of the sort that is needed".to_string(),
-        _ => "the grammar is not listed as declared, or this rule is of another sort".to_string(),
+        _ => "the grammar is not listed as declared, this rule is of another sort, or this non-terminal derives no term".to_string(),
     }
 }
 

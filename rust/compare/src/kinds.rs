@@ -1,13 +1,16 @@
 //! What the cases must bring besides every answer, so that a wrong checker is told apart.
 
+use simple::commands::{command, Command};
 use simple::eval::whole_points;
 use simple::generate::Case;
+use simple::grammar::Rule;
 use simple::tree::{trees, Tree};
 use simple::{script, words, FIRST_ASSUMPTION};
+use std::collections::HashSet;
 use sverdhyll::Answer;
 
 /// How many kinds there are.
-pub const KINDS: usize = 9;
+pub const KINDS: usize = 11;
 
 /// The names of the kinds.
 pub const NAMES: [&str; KINDS] = [
@@ -15,6 +18,8 @@ pub const NAMES: [&str; KINDS] = [
     "answer 15 before an assumption",
     "a name that an earlier command has taken",
     "a name that its own command has taken",
+    "a non-terminal that derives no term",
+    "a non-terminal that derives terms only through others",
     "a place behind the first line",
     "a place behind byte 13 in its line",
     "a place behind a byte above 127 in its line",
@@ -32,6 +37,8 @@ pub fn kinds(case: &Case, answer: &Answer) -> [bool; KINDS] {
         before_assumption,
         taken_earlier,
         taken_within,
+        dead(case, answer),
+        leaning(case, answer),
         later,
         behind_13,
         behind_above_127,
@@ -55,13 +62,45 @@ fn taken_kinds(case: &Case, answer: &Answer) -> [bool; 2] {
     if answer.number != 7 || answer.second == 0 {
         return [false; 2];
     }
-    let words = words::read(&case.script, script::MOST_WORDS).expect("sound words after 7");
     let [place, declared] = [answer.place, answer.second].map(|at| at as usize);
-    let holds = |tree: &Tree| (tree.start()..tree.end()).contains(&place);
-    let trees = trees(words);
-    let command = trees.iter().find(|tree| holds(tree));
-    let within = command.is_some_and(|tree| declared > tree.start());
+    let command = command_at(&case.script, place);
+    let within = declared > command.start();
     [!within, within]
+}
+
+/// The command of a script with sound words that holds a place.
+fn command_at(script: &[u8], place: usize) -> Tree {
+    let words = words::read(script, script::MOST_WORDS).expect("sound words");
+    let holds = |tree: &Tree| (tree.start()..tree.end()).contains(&place);
+    trees(words).into_iter().find(holds).expect("a command")
+}
+
+/// Whether a non-terminal is refused because it derives no term.
+fn dead(case: &Case, answer: &Answer) -> bool {
+    if answer.number != 9 {
+        return false;
+    }
+    let place = answer.place as usize;
+    match command(&command_at(&case.script, place)) {
+        Some(Command::SynthFun(synth)) => script::dead_at(&synth, place).is_some(),
+        _ => false,
+    }
+}
+
+/// Whether a script passes in which some non-terminal has no rule that leads to a term without another one.
+fn leaning(case: &Case, answer: &Answer) -> bool {
+    if !matches!(answer.number, 0 | 13..=16) {
+        return false;
+    }
+    let script = script::read(&case.script).expect("a sound script");
+    script.synthesized.iter().any(|function| {
+        let (grammar, arguments) = (&function.grammar, &function.arguments);
+        let none = vec![false; grammar.nonterminals.len()];
+        let alone = |rule: &&Rule| grammar.leads_to_term(&rule.form, arguments, &none);
+        let alone = grammar.rules.iter().filter(alone);
+        let alone: HashSet<usize> = alone.map(|rule| rule.nonterminal).collect();
+        alone.len() < none.len()
+    })
 }
 
 /// Of which kinds the place of an answer is that carries a line and a column.

@@ -46,7 +46,7 @@ impl fmt::Display for Position {
 /// | 6 | `NotCarried` | SyGuS 2.1 has it, the checker does not carry it | the command's bracket, or the word |
 /// | 7 | `Name` | a name unknown, taken or reserved | the name, and where it was declared if it is taken |
 /// | 8 | `Sort` | a faulty sort, or a term that has none or another one | its first word |
-/// | 9 | `Grammar` | a grammar is not listed as declared, or a rule has another sort | its word |
+/// | 9 | `Grammar` | a grammar is not listed as declared, a rule has another sort, or a non-terminal derives no term | its word |
 /// | 10 | `Fail` | the response is `fail` | |
 /// | 11 | `Infeasible` | the response is `infeasible` | |
 /// | 12 | `Header` | the response does not answer the functions of the script | the first word that differs |

@@ -54,6 +54,41 @@ impl Grammar {
         let name = tree.symbol()?;
         self.nonterminals.iter().position(|one| one.name == name)
     }
+
+    /// The non-terminals that stand in a rule's term, each as often as it does.
+    pub fn needed(&self, term: &Tree) -> Vec<usize> {
+        let own = self.nonterminal(term).into_iter();
+        let inner = operands(term).iter();
+        own.chain(inner.flat_map(|operand| self.needed(operand)))
+            .collect()
+    }
+
+    /// For each non-terminal whether it derives a term at all: a rule leads to one if all its non-terminals do, until nothing more
+    /// is added.
+    pub fn fruitful(&self, arguments: &[Sorted]) -> Vec<bool> {
+        let mut fruitful = vec![false; self.nonterminals.len()];
+        loop {
+            let leads = |rule: &&Rule| self.leads_to_term(&rule.form, arguments, &fruitful);
+            let rules = self.rules.iter().filter(leads);
+            let found: Vec<usize> = rules.map(|rule| rule.nonterminal).collect();
+            if found.iter().all(|&one| fruitful[one]) {
+                return fruitful;
+            }
+            for one in found {
+                fruitful[one] = true;
+            }
+        }
+    }
+
+    /// Whether a rule leads to a term where these non-terminals do: "`(Variable σ)` with no argument of that sort counts for
+    /// nothing".
+    pub fn leads_to_term(&self, form: &Form, arguments: &[Sorted], fruitful: &[bool]) -> bool {
+        match form {
+            Form::Constant(_) => true,
+            Form::Variable(sort) => arguments.iter().any(|one| one.sort == *sort),
+            Form::Term(term) => self.needed(term).into_iter().all(|one| fruitful[one]),
+        }
+    }
 }
 
 /// For each node of a body, by its place: for each non-terminal the rule by which it derives the node, if it does.

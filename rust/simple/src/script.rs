@@ -295,7 +295,8 @@ impl Script {
     }
 
     /// 9: "predeclares non-terminals with sorts, then lists each again, same order and sort, with one or more rules
-    /// (else answer 9). The first is the start and has the function's sort ... each has its non-terminal's sort".
+    /// (else answer 9). The first is the start and has the function's sort ... each has its non-terminal's sort"; "after the
+    /// other causes of 9" a non-terminal that "derives no term".
     fn grammar_fault(&self, command: &Command) -> Option<usize> {
         let Command::SynthFun(synth) = command else {
             return None;
@@ -326,7 +327,8 @@ impl Script {
             let rules = group.rules.iter().filter(of_other_sort);
             places.extend(rules.map(Tree::start));
         }
-        places.into_iter().min()
+        let least = places.into_iter().min();
+        least.or_else(|| dead_nonterminal(synth))
     }
 
     /// Takes in a command without fault.
@@ -468,8 +470,26 @@ pub fn rule_sort(rule: &Tree, seen: &[Name]) -> Sort {
     }
 }
 
-/// The grammar of a `synth-fun` without fault.
-fn grammar(synth: &SynthFun) -> Grammar {
+/// "answer 9 at the first of them where predeclared": the place of the first non-terminal that derives no term, in a grammar without
+/// another fault.
+fn dead_nonterminal(synth: &SynthFun) -> Option<usize> {
+    let fruitful = grammar(synth).fruitful(&arguments(&synth.header));
+    let mut pairs = synth.predeclared.iter().zip(fruitful);
+    let dead = pairs.find(|(_, fruitful)| !fruitful);
+    dead.map(|(pair, _)| pair.name.start())
+}
+
+/// The index of the non-terminal that 9 names at a place because it derives no term: at that predeclared name the start's sort may be
+/// refused too.
+pub fn dead_at(synth: &SynthFun, place: usize) -> Option<usize> {
+    let mut pairs = synth.predeclared.iter();
+    let index = pairs.position(|pair| pair.name.start() == place)?;
+    let of_another_sort = sort(synth.predeclared[index].sort) != sort(synth.header.sort);
+    (index > 0 || !of_another_sort).then_some(index)
+}
+
+/// The grammar of a `synth-fun` that is listed as declared.
+pub fn grammar(synth: &SynthFun) -> Grammar {
     let nonterminals = synth.predeclared.iter();
     let nonterminals = nonterminals.map(|pair| sorted(pair.name, pair.sort));
     let form = |rule| match rule_form(rule).expect("a rule") {

@@ -9,6 +9,7 @@ use Rattle.forest.specs.Forest.{count, tree}
 use Rattle.forest.specs.code.Cursors.{size}
 use Rattle.forest.specs.Tables.{over}
 use Rattle.words.specs.Trees.{list}
+use Rattle.derivation.specs.code.Productive.{FirstOut}
 use Rattle.derivation.specs.code.Tables.{formTable}
 use Rattle.term_sorts.specs.code.Forms.{sortColumn}
 use Rattle.lexemes.specs.Lists.{Items, inside, isSymbol, item}
@@ -31,6 +32,7 @@ use Rattle.forest.specs.Limits.{allowed, mostRules, mostNonTerminals, scriptWor
 use Rattle.term_nodes.specs.Rules.{rulesIn, sides}
 use Rattle.term_nodes.specs.code.RuleGathering.{startTable}
 use Rattle.term_nodes.specs.declared.Gathered.{Gathered}
+use Rattle.grammars.specs.Listing.{deadMisfit}
 use Rattle.grammars.specs.Grammars.{grammarFault, grammarNames, grammarPast, listMisfit}
 use Rattle.derivation.specs.code.Rules.{ruleWidth}
 use Rattle.terms.specs.code.Nodes.{rowWidth as nodeWidth}
@@ -130,6 +132,16 @@ pub record Declared (text lexemes names : List ℕ) (i listed : ℕ) : Type 0 wh
 -- The least word at fault in what it declares and lists is found.
 abbrev pub ListsTested : {text lexemes names : List ℕ} {i listed : ℕ} → Declared text lexemes names i listed → (nowhere r : ℕ) → Type 0
 ListsTested p nowhere r = r ≡ listMisfit nowhere (p .view) (p .command)
+
+-- A `synth-fun` stands at word i, which declares so many non-terminals.
+pub record DeclaredAt (lexemes : List ℕ) (i listed : ℕ) : Type 0 where
+  pub command : SynthFunAt lexemes i
+  pub listed-are : listed ≡ count (inside 4 (command .here .operands))
+
+-- The declared name of the first that is not found is found, whatever list has those that are.
+abbrev pub NamesDead : {lexemes : List ℕ} {i listed : ℕ} → DeclaredAt lexemes i listed → (dead nowhere r : ℕ) → Type 0
+NamesDead {listed = listed} p dead nowhere r =
+    (found : List ℕ) → FirstOut found listed dead → r ≡ deadMisfit nowhere found 0 (inside 4 (p .command .here .operands))
 
 -- The same, for whatever the tables hold.
 abbrev pub LimitsGrammar : (lexemes raw rules : List ℕ) → (i nowhere : ℕ) → (rawAfter rulesAfter : List ℕ) → Gathered → Type 0

@@ -88,6 +88,10 @@ ownRules j = functionsPlace + rulesPlace j
 abbrev pub rulesOf : (places : List ℕ) → (j : ℕ) → List ℕ
 rulesOf places j = take (ruleWidth * ruleCountIn places j) (drop (ownRules j) places)
 
+-- The sorts of its arguments.
+abbrev pub sortsOf : (places : List ℕ) → (j : ℕ) → List ℕ
+sortsOf places j = take (argumentsIn places j) (drop (signatureWidth * (functionSignature + j) + 2) places)
+
 -- The nodes at which constraints and assumptions begin.
 abbrev pub statedOf : (places : List ℕ) → List ℕ
 statedOf places = take statedCount (drop constraintsPlace places)

@@ -1,11 +1,18 @@
-//! Answer 9: what a grammar should list, and the sort that a rule should have.
+//! Answer 9: what a grammar should list, the sort that a rule should have, and why a non-terminal derives no term.
 
 use super::names::seen;
-use super::{Cause, Reading};
+use super::{Cause, Hint, Reading};
 use simple::commands::{command, Command, Group, Pair, SynthFun};
+use simple::grammar::{Form, Grammar};
 use simple::operators::Sort;
-use simple::script::rule_sort;
+use simple::script::{arguments, dead_at, grammar, rule_sort};
 use simple::terms::sort;
+use simple::tree::Tree;
+
+/// Of so many rules that lead nowhere it is said why.
+const MOST_RULES: usize = 8;
+/// A rule is shown in a sentence if it has at most so many bytes.
+const MOST_SHOWN: usize = 60;
 
 /// The fault of the grammar at the place.
 pub fn cause(reading: &Reading) -> Option<Cause> {
@@ -14,6 +21,9 @@ pub fn cause(reading: &Reading) -> Option<Cause> {
         return None;
     };
     let place = reading.place;
+    if let Some(index) = dead_at(&synth, place).filter(|_| synth.groups.len() == synth.predeclared.len()) {
+        return Some(dead(&synth, index));
+    }
     let in_rules = || synth.groups.iter().find_map(|group| rule_fault(reading, group));
     let in_list = || {
         let groups = synth.groups.iter().enumerate();
@@ -34,6 +44,55 @@ fn start_fault(synth: &SynthFun, place: usize) -> Option<String> {
     }
     let missing = synth.predeclared.get(synth.groups.len()).filter(|_| place == synth.groups_close);
     missing.map(|pair| format!("the rules of {} are missing", pair.name))
+}
+
+/// A non-terminal that derives no term, and why each of its rules leads to none.
+fn dead(synth: &SynthFun, index: usize) -> Cause {
+    let grammar = grammar(synth);
+    let fruitful = grammar.fruitful(&arguments(&synth.header));
+    let own = grammar.rules.iter().enumerate().filter(|(_, rule)| rule.nonterminal == index);
+    let reasons = own.map(|(number, rule)| match &rule.form {
+        Form::Term(term) => format!("{} {}", numbered(number, &rule.form), needs(&grammar, &fruitful, index, term)),
+        form => format!("rule {number}, {form}: {} has no argument of this sort", synth.header.name),
+    });
+    let rules = synth.groups[index].rules;
+    let mut hints: Vec<Hint> = rules.iter().zip(reasons).map(|(rule, reason)| Hint::at(rule, reason)).take(MOST_RULES).collect();
+    if rules.len() > MOST_RULES {
+        hints.push(Hint::general(format!("{} rules more lead to no term either", rules.len() - MOST_RULES)));
+    }
+    let name = synth.predeclared[index].name;
+    let none = if rules.len() == 1 { "its rule does not lead" } else { "none of its rules leads" };
+    Cause {
+        sentence: Some(format!("the non-terminal {name} derives no term: {none} to one")),
+        hints,
+    }
+}
+
+/// The number of a rule, with the rule itself where it is short.
+fn numbered(number: usize, form: &Form) -> String {
+    match form.to_string() {
+        text if text.len() <= MOST_SHOWN => format!("rule {number}, {text},"),
+        _ => format!("rule {number}"),
+    }
+}
+
+/// Which non-terminals that derive no term a rule of one of them needs.
+fn needs(grammar: &Grammar, fruitful: &[bool], own: usize, term: &Tree) -> String {
+    let mut needed = grammar.needed(term);
+    needed.retain(|&one| !fruitful[one]);
+    needed.sort_unstable();
+    needed.dedup();
+    let name = |&one: &usize| match one == own {
+        true => format!("{} itself", grammar.nonterminals[one].name),
+        false => grammar.nonterminals[one].name.clone(),
+    };
+    let names: Vec<String> = needed.iter().map(name).collect();
+    let derive = match &needed[..] {
+        [one] if *one == own => "",
+        [_] => ", which derives no term",
+        _ => ", which derive no term",
+    };
+    format!("needs {}{derive}", names.join(" and "))
 }
 
 /// The fault of a non-terminal that is not listed as it is declared.

@@ -39,7 +39,7 @@ enum Rule {
     Term(Shape),
 }
 
-/// A non-terminal with its rules, of which one needs no other non-terminal.
+/// A non-terminal with its rules, of which the ending one needs no other non-terminal, or one that ends without it.
 struct Group {
     name: String,
     sort: Sort,
@@ -487,11 +487,20 @@ impl Maker<'_> {
         joined(parts)
     }
 
-    /// The listing of a grammar.
+    /// The listing of a grammar; some non-terminals derive terms only through others, which all stand behind them or all before.
     fn groups(&mut self, arguments: &[Name], nonterminals: &[Name]) -> Vec<Group> {
         let seen = [arguments, nonterminals, nonterminals, &self.definitions].concat();
+        let behind = self.random.percent(70);
         let mut groups = Vec::new();
-        for nonterminal in nonterminals {
+        for (index, nonterminal) in nonterminals.iter().enumerate() {
+            let others = match behind {
+                true => &nonterminals[index + 1..],
+                false => &nonterminals[..index],
+            };
+            if !others.is_empty() && self.random.percent(25) {
+                groups.push(self.leaning_group(nonterminal, others));
+                continue;
+            }
             let count = self.random.between(1, 7);
             let ending = self.random.below(count);
             let mut rules = Vec::new();
@@ -509,6 +518,50 @@ impl Maker<'_> {
             });
         }
         groups
+    }
+
+    /// A non-terminal whose rules all need one, of which the ending one needs another of these and the rest itself, or are
+    /// `(Variable σ)`.
+    fn leaning_group(&mut self, own: &Name, others: &[Name]) -> Group {
+        let count = self.random.pick(&[1, 1, 2, 3]);
+        let ending = self.random.below(count);
+        let mut rules = Vec::new();
+        for index in 0..count {
+            let inner = match index == ending {
+                true => self.random.pick(others),
+                false => own.clone(),
+            };
+            rules.push(match index != ending && self.random.percent(40) {
+                true => Rule::Variable(own.sort),
+                false => Rule::Term(self.leaning_term(own.sort, &inner)),
+            });
+        }
+        Group {
+            name: own.name.clone(),
+            sort: own.sort,
+            rules,
+            ending,
+        }
+    }
+
+    /// A small term of a sort in which a non-terminal stands once.
+    fn leaning_term(&mut self, sort: Sort, inner: &Name) -> Shape {
+        let leaf = Shape::leaf(&inner.name, inner.sort);
+        if inner.sort == sort && self.random.percent(50) {
+            return leaf;
+        }
+        let equation = match inner.sort {
+            Sort::Bool => Shape::apply_bool("not", vec![leaf]),
+            bits => Shape::apply_bool("=", vec![leaf, Shape::literal(self.random, bits)]),
+        };
+        match sort {
+            Sort::Bool => equation,
+            bits => {
+                let literals = [(); 2].map(|_| Shape::literal(self.random, bits));
+                let [one, other] = literals;
+                Shape::apply("ite", vec![equation, one, other], bits)
+            }
+        }
     }
 
     /// A rule that needs no non-terminal: a literal, an argument or `(Constant σ)`.
@@ -599,8 +652,9 @@ impl Maker<'_> {
         let depth = depth.min(self.rules_left);
         let group = &groups[index];
         let mut chosen = group.ending;
-        for _ in 0..4 {
-            if depth > 0 && !needs_nonterminal(&group.rules[chosen], groups) {
+        for turn in 0..4 {
+            let open = turn == 0 || !needs_nonterminal(&group.rules[chosen], groups);
+            if depth > 0 && open {
                 chosen = self.random.below(group.rules.len());
             }
         }

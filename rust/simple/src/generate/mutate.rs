@@ -78,7 +78,7 @@ const NEAR_CONSTANTS: [&str; 14] = [
 ];
 
 /// Commands to be put in.
-const COMMANDS: [&str; 22] = [
+const COMMANDS: [&str; 23] = [
     "( set-logic BV )",
     "( set-logic LIA )",
     "( declare-var w Bool )",
@@ -99,6 +99,7 @@ const COMMANDS: [&str; 22] = [
     "( foo )",
     "( synth-fun k ( ) Bool )",
     "( synth-fun k ( ) Bool ( ( A Bool ) ) ( ( A Bool ( A ) ) ) )",
+    "( synth-fun k ( ) Bool ( ( A Bool ) ) ( ( A Bool ( A true ) ) ) )",
     "( define-fun k ( ) Bool true )",
     "stray",
 ];
@@ -175,7 +176,7 @@ fn reserved_word(random: &mut Random) -> String {
 
 /// Changes a draft in one place.
 pub fn mutate(random: &mut Random, draft: &mut Draft) {
-    match random.below(35) {
+    match random.below(38) {
         0 | 1 => mutate_points(random, &mut draft.points),
         2 => draft.response = words(random.pick(&RESPONSES)),
         3 => mutate_operator(random, &mut draft.response),
@@ -188,6 +189,7 @@ pub fn mutate(random: &mut Random, draft: &mut Draft) {
         17..=20 => mutate_operands(random, &mut draft.script),
         21 => cut_off(random, draft),
         22..=24 => take_name(random, &mut draft.script),
+        25..=27 => starve(random, &mut draft.script),
         _ => mutate_words(random, &mut draft.script),
     }
 }
@@ -304,7 +306,7 @@ fn mutate_words(random: &mut Random, words: &mut Vec<String>) {
 
 /// Changes a sort, a literal, a name, an operator, its operands, a count or a grammar.
 fn mutate_within_shape(random: &mut Random, words: &mut Vec<String>) {
-    match random.below(21) {
+    match random.below(24) {
         0..=2 => mutate_sort(random, words),
         3 => mutate_literal(random, words),
         4 | 5 => mutate_name(random, words),
@@ -316,6 +318,7 @@ fn mutate_within_shape(random: &mut Random, words: &mut Vec<String>) {
         12 => regroup(random, words),
         13 | 14 => mutate_operands(random, words),
         15..=17 => take_name(random, words),
+        18..=20 => starve(random, words),
         _ => mutate_grammar(random, words),
     }
 }
@@ -397,10 +400,9 @@ fn exchange(head: &mut String) {
 
 /// Deletes all commands with a head.
 fn drop_alike(list: &mut Vec<String>, head: &str) {
-    for command in commands(list).into_iter().rev() {
-        if list[command.start + 1] == head {
-            list.drain(command);
-        }
+    let next = |list: &[String]| commands(list).into_iter().find(|command| list[command.start + 1] == head);
+    while let Some(command) = next(list) {
+        list.drain(command);
     }
 }
 
@@ -638,6 +640,58 @@ fn mutate_grammar(random: &mut Random, list: &mut Vec<String>) {
         3 => insert(list, other.end, list[one].to_vec()),
         4 => swap(list, one, other),
         _ => replace(list, one, literal(random, Sort::BitVec(8))),
+    }
+}
+
+/// The listed non-terminals of a `synth-fun`: each with its name, its sort and its rules.
+fn listed(words: &[String], command: &Range<usize>) -> Vec<[Range<usize>; 3]> {
+    let listing = items(words, command).get(5).cloned();
+    let groups = listing.map_or(Vec::new(), |listing| items(words, &listing));
+    let parts = groups.iter().map(|group| items(words, group).try_into());
+    parts.filter_map(Result::ok).collect()
+}
+
+/// Takes from a non-terminal all rules that lead to a term: only rules remain that need it, or it leads to itself alone, to another one of
+/// its sort that leads back, or to `(Variable σ)`.
+fn starve(random: &mut Random, list: &mut Vec<String>) {
+    let mut places = commands(list);
+    places.retain(|command| list[command.start + 1] == "synth-fun");
+    if places.is_empty() {
+        return;
+    }
+    let groups = listed(list, &random.pick(&places));
+    if groups.is_empty() {
+        return;
+    }
+    let [name, sort, rules] = random.pick(&groups);
+    let own = list[name.start].clone();
+    let alike = |group: &&[Range<usize>; 3]| list[group[1].clone()] == list[sort.clone()];
+    let alike: Vec<[Range<usize>; 3]> = groups.iter().filter(alike).cloned().collect();
+    let [other, _, others] = random.pick(&alike);
+    let to_other = vec!["(".to_string(), list[other.start].clone(), ")".to_string()];
+    let to_own = vec!["(".to_string(), own.clone(), ")".to_string()];
+    match random.below(4) {
+        0 => {
+            let mut kept = items(list, &rules);
+            kept.retain(|rule| list[rule.clone()].contains(&own));
+            let kept: Vec<Vec<String>> = kept.into_iter().map(|rule| list[rule].to_vec()).collect();
+            match kept.is_empty() {
+                true => replace(list, rules, to_own),
+                false => replace(list, rules.start + 1..rules.end - 1, kept.concat()),
+            }
+        }
+        1 => {
+            let variable = [words("( ( Variable"), list[sort].to_vec(), words(") )")];
+            replace(list, rules, variable.concat());
+        }
+        2 if others.start != rules.start => {
+            let mut both = [(rules, to_other), (others, to_own)];
+            both.sort_by_key(|(place, _)| std::cmp::Reverse(place.start));
+            for (place, words) in both {
+                replace(list, place, words);
+            }
+        }
+        _ => replace(list, rules, to_own),
     }
 }
 

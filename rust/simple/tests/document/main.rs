@@ -1,11 +1,12 @@
-//! Document 01 run: the readings, the vectors, the bench, constants, signed operators, assumptions, ends, lines and columns, names that are taken, the texts' own
-//! answers, every limit and every row of the table of answers.
+//! Document 01 run: the readings, the vectors, the bench, constants, signed operators, assumptions, ends, lines and columns, names that are taken, non-terminals that
+//! derive no term, the texts' own answers, every limit and every row of the table of answers.
 
 mod answers;
 mod assumptions;
 mod bench;
 mod cases;
 mod constants;
+mod dead;
 mod generated;
 mod judge;
 mod limits;

@@ -1,8 +1,7 @@
 use native.Mathlib.Omega.{arith}
-use mathlib.Core.Path.{_∙_}
-use Rattle.synth_fun.proofs.SortsSought.{forms-start, header-at, limits, lists-here, listing-here, rules-here, rules-start, sorting-here}
+use Rattle.synth_fun.proofs.SortsSought.{comparing-here, forms-start, header-at, listing-here, sorting-here}
 use Rattle.synth_fun.proofs.FunctionHeld.{putting-here}
-use Rattle.synth_fun.proofs.SortVerdicts.{all-passed, rules-refused, same-verdict, sorts-refused}
+use Rattle.synth_fun.proofs.SortVerdicts.{all-passed, asked-here, dead-refused, lists-refused, same-verdict, sorts-refused}
 use borrow.Author.Needs.{needs}
 use Rattle.synth_fun.proofs.sort_tests.sorts_tested.Statement.{statement}
 use Rattle.synth_fun.proofs.sort_tests.sorts_tested.Tie as tie
@@ -30,22 +29,17 @@ part-own-start c =
 part-own-end : tie.Need-part-own-end
 part-own-end c = search needs
 
-rules-place-requires : tie.Need-rules-place-requires
-rules-place-requires c κs =
-    let entry = c .before .before .before .before .before .before .before .before in
-    omega (arith, limits (entry .pre) .one-more)
-
 no-sorts-requires : tie.Need-no-sorts-requires
 no-sorts-requires c κs = search needs
 
 put-sorts-requires : tie.Need-put-sorts-requires
 put-sorts-requires c κs =
-    let entry = c .before .before .before .before .before .before .before .before .before .before .before in
+    let entry = c .before .before .before .before .before .before .before .before .before .before in
     listing-here (entry .pre)
 
 header-place-requires : tie.Need-header-place-requires
 header-place-requires c κs =
-    let entry = c .before .before .before .before .before .before .before .before .before .before .before .before .before .before in
+    let entry = c .before .before .before .before .before .before .before .before .before .before .before .before .before in
     header-at (entry .pre)
 
 slice-aggregate-grammar-sorts : tie.Need-slice-aggregate-grammar-sorts
@@ -55,7 +49,7 @@ grammar-sorts-requires : tie.Need-grammar-sorts-requires
 grammar-sorts-requires c κs =
     let listed = c .before .before .before .before .before in
     let blank = listed .before .before in
-    let entry = blank .before .before .before .before .before .before .before .before .before .before in
+    let entry = blank .before .before .before .before .before .before .before .before .before in
     sorting-here (entry .pre) (listed .put-sorts .ensures) (blank .no-sorts .ensures)
 
 least-requires : tie.Need-least-requires
@@ -79,50 +73,16 @@ returns c =
     (sorts-refused s (listed .put-sorts .ensures) (blank .no-sorts .ensures) (grammar .grammar-sorts .ensures) (head .header-place .ensures)
     (lower .least .ensures) (found .if1 .taken))
 
-lists-misfit-requires : tie.Need-lists-misfit-requires
-lists-misfit-requires c κs =
-    let listed = c .before .before .before .before .before .before .before .before .before in
-    let entry = listed .before .before .before .before .before .before .before .before .before .before .before .before in
-    lists-here (entry .pre)
+slice-aggregate-misfit-place : tie.Need-slice-aggregate-misfit-place
+slice-aggregate-misfit-place c = search needs
 
-mul-rules : tie.Need-mul-rules
-mul-rules c =
-    let listed = c .before .before .before .before .before .before .before .before .before .before .before in
-    let first = listed .before .before .before in
-    let entry = first .before .before .before .before .before .before .before .before .before in
-    omega (arith, rules-start (entry .pre) (listed .put-sorts .ensures) (first .rules-place .ensures))
-
-sub-rules : tie.Need-sub-rules
-sub-rules c =
-    let listed = c .before .before .before .before .before .before .before .before .before .before .before in
-    let first = listed .before .before .before in
-    let entry = first .before .before .before .before .before .before .before .before .before in
-    rules-start (entry .pre) (listed .put-sorts .ensures) (first .rules-place .ensures)
-
-part-rules-start : tie.Need-part-rules-start
-part-rules-start c =
-    let listed = c .before .before .before .before .before .before .before .before .before .before .before in
-    let first = listed .before .before .before in
-    let entry = first .before .before .before .before .before .before .before .before .before in
-    rules-start (entry .pre) (listed .put-sorts .ensures) (first .rules-place .ensures)
-
-part-rules-end : tie.Need-part-rules-end
-part-rules-end c = search needs
-
-slice-aggregate-rules-misfit : tie.Need-slice-aggregate-rules-misfit
-slice-aggregate-rules-misfit c = search needs
-
-rules-misfit-requires : tie.Need-rules-misfit-requires
-rules-misfit-requires c κs =
-    let grammar = c .before .before .before .before .before .before .before in
+misfit-place-requires : tie.Need-misfit-place-requires
+misfit-place-requires c κs =
+    let grammar = c .before .before .before .before .before in
     let listed = grammar .before .before .before .before .before .before in
     let blank = listed .before .before in
-    let first = blank .before in
-    let entry = first .before .before .before .before .before .before .before .before .before in
-    rules-here (entry .pre) (listed .put-sorts .ensures) (blank .no-sorts .ensures) (grammar .grammar-sorts .ensures) (first .rules-place .ensures)
-
-least-requires-2 : tie.Need-least-requires-2
-least-requires-2 c κs = search needs
+    let entry = blank .before .before .before .before .before .before .before .before .before in
+    comparing-here (entry .pre) (listed .put-sorts .ensures) (blank .no-sorts .ensures) (grammar .grammar-sorts .ensures)
 
 verdict-requires-2 : tie.Need-verdict-requires-2
 verdict-requires-2 c κs = search needs
@@ -133,55 +93,85 @@ same-length-2 c = search needs
 returns-2 : tie.Need-returns-2
 returns-2 c =
     let found = c .before in
-    let lesser = found .before in
-    let rules = lesser .before in
-    let lists = rules .before .before .before .before in
-    let fine = lists .before in
+    let misfit = found .before in
+    let fine = misfit .before .before .before in
     let lower = fine .before in
     let grammar = lower .before .before in
     let head = grammar .before .before .before in
     let listed = head .before .before .before in
     let blank = listed .before .before in
-    let first = blank .before in
     λ s. same-verdict (c .verdict2 .ensures)
-    (rules-refused s (listed .put-sorts .ensures) (blank .no-sorts .ensures) (grammar .grammar-sorts .ensures) (head .header-place .ensures)
-    (lower .least .ensures) (fine .if1 .left) (lists .lists-misfit .ensures) (first .rules-place .ensures) (rules .rules-misfit .ensures)
-    (lesser .least2 .ensures) (found .if2 .taken))
+    (lists-refused s (listed .put-sorts .ensures) (blank .no-sorts .ensures) (grammar .grammar-sorts .ensures) (head .header-place .ensures)
+    (lower .least .ensures) (fine .if1 .left) (misfit .misfit-place .ensures) (found .if2 .taken))
 
 put-function-requires : tie.Need-put-function-requires
 put-function-requires c κs =
-    let listed = c .before .before .before .before .before .before .before .before .before .before .before .before .before .before .before .before .before in
-    let entry = listed .before .before .before .before .before .before .before .before .before .before .before .before in
+    let listed = c .before .before .before .before .before .before .before .before .before .before .before .before .before .before in
+    let entry = listed .before .before .before .before .before .before .before .before .before .before .before in
     putting-here (entry .pre) (listed .put-sorts .ensures)
+
+dead-place-requires : tie.Need-dead-place-requires
+dead-place-requires c κs =
+    let put = c .before .before .before in
+    let right = put .before .before in
+    let misfit = right .before in
+    let fine = misfit .before .before .before in
+    let lower = fine .before in
+    let grammar = lower .before .before in
+    let head = grammar .before .before .before in
+    let listed = head .before .before .before in
+    let blank = listed .before .before in
+    let entry = blank .before .before .before .before .before .before .before .before .before in
+    asked-here (entry .pre) (listed .put-sorts .ensures) (blank .no-sorts .ensures) (grammar .grammar-sorts .ensures) (head .header-place .ensures)
+    (lower .least .ensures) (fine .if1 .left) (misfit .misfit-place .ensures) (right .if2 .left) (put .put-function .ensures)
 
 verdict-requires-3 : tie.Need-verdict-requires-3
 verdict-requires-3 c κs = search needs
 
 same-length-3 : tie.Need-same-length-3
-same-length-3 c =
-    let put = c .before .before .before in
-    let lists = put .before .before .before .before .before .before .before .before in
-    let listed = lists .before .before .before .before .before .before .before .before .before .before in
-    put .put-function .kept .1 .0 ∙ listed .put-sorts .kept .1 .0
+same-length-3 c = search needs
 
 returns-3 : tie.Need-returns-3
 returns-3 c =
-    let put = c .before .before .before in
+    let found = c .before in
+    let dead = found .before in
+    let put = dead .before .before .before .before in
     let right = put .before .before in
-    let lesser = right .before in
-    let rules = lesser .before in
-    let lists = rules .before .before .before .before in
-    let fine = lists .before in
+    let misfit = right .before in
+    let fine = misfit .before .before .before in
     let lower = fine .before in
     let grammar = lower .before .before in
     let head = grammar .before .before .before in
     let listed = head .before .before .before in
     let blank = listed .before .before in
-    let first = blank .before in
     λ s. same-verdict (c .verdict3 .ensures)
+    (dead-refused s (listed .put-sorts .ensures) (blank .no-sorts .ensures) (grammar .grammar-sorts .ensures) (head .header-place .ensures)
+    (lower .least .ensures) (fine .if1 .left) (misfit .misfit-place .ensures) (right .if2 .left) (put .put-function .ensures)
+    (dead .dead-place .ensures) (found .if3 .taken))
+
+verdict-requires-4 : tie.Need-verdict-requires-4
+verdict-requires-4 c κs = search needs
+
+same-length-4 : tie.Need-same-length-4
+same-length-4 c = search needs
+
+returns-4 : tie.Need-returns-4
+returns-4 c =
+    let alive = c .before in
+    let dead = alive .before in
+    let put = dead .before .before .before .before in
+    let right = put .before .before in
+    let misfit = right .before in
+    let fine = misfit .before .before .before in
+    let lower = fine .before in
+    let grammar = lower .before .before in
+    let head = grammar .before .before .before in
+    let listed = head .before .before .before in
+    let blank = listed .before .before in
+    λ s. same-verdict (c .verdict4 .ensures)
     (all-passed s (listed .put-sorts .ensures) (blank .no-sorts .ensures) (grammar .grammar-sorts .ensures) (head .header-place .ensures)
-    (lower .least .ensures) (fine .if1 .left) (lists .lists-misfit .ensures) (first .rules-place .ensures) (rules .rules-misfit .ensures)
-    (lesser .least2 .ensures) (right .if2 .left) (put .put-function .ensures))
+    (lower .least .ensures) (fine .if1 .left) (misfit .misfit-place .ensures) (right .if2 .left) (put .put-function .ensures)
+    (dead .dead-place .ensures) (alive .if3 .left))
 
 pub sorts-tested-spec : {M : Type 1} → statement M
 sorts-tested-spec =
@@ -192,7 +182,6 @@ sorts-tested-spec =
     sub-own
     part-own-start
     part-own-end
-    rules-place-requires
     no-sorts-requires
     put-sorts-requires
     header-place-requires
@@ -202,18 +191,16 @@ sorts-tested-spec =
     verdict-requires
     same-length
     returns
-    lists-misfit-requires
-    mul-rules
-    sub-rules
-    part-rules-start
-    part-rules-end
-    slice-aggregate-rules-misfit
-    rules-misfit-requires
-    least-requires-2
+    slice-aggregate-misfit-place
+    misfit-place-requires
     verdict-requires-2
     same-length-2
     returns-2
     put-function-requires
+    dead-place-requires
     verdict-requires-3
     same-length-3
-    returns-3)
+    returns-3
+    verdict-requires-4
+    same-length-4
+    returns-4)

@@ -10,8 +10,8 @@ use borrow.Author.Tests.{leb-true}
 use Rattle.term_nodes.specs.Rules.{Ruled, rulePast}
 use Rattle.derivation.specs.Derivation.{formOf}
 use Rattle.names.specs.Scopes.{View}
-use Rattle.outcome.proofs.Rules.{AllPlaced, also, no-rule, said}
-use Rattle.outcome.proofs.Proper.{AllBounded, terms-bounded}
+use Rattle.script.proofs.Rules.{AllPlaced, also, no-rule, said}
+use Rattle.script.proofs.Proper.{AllBounded, terms-bounded}
 
 -- Rules none of which is past the limit are no more than that.
 pub rules-few : {nowhere heads : ℕ} (most : ℕ) {rs : List Ruled} → AllPlaced nowhere heads rs → nowhere ≤ rulePast nowhere most rs → length rs ≤ most

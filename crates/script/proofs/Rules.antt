@@ -1,14 +1,15 @@
 -- Rules of a grammar that passes: each has the sort of its non-terminal, of which there is one for each group that is listed.
 use Prim.Native.Nat.{ℕ, zero, suc, _+_, _≤_, _<_}
 use native.Mathlib.Omega.{arith}
-use mathlib.Core.Bool.{cond}
+use mathlib.Core.Bool.{cond, true}
 use mathlib.Core.List.{List, [], _∷_, _++_, map}
-use mathlib.Core.Option.{some}
+use mathlib.Core.Option.{Option, none as nothing, some}
 use mathlib.Core.Path.{_≡_, refl}
 use lib.Dec.{eqb}
 use lib.ListN.{getD, length}
 use borrow.Author.Tests.{eqb-true, ne-eqb}
 use Rattle.forest.specs.Forest.{count, none, tree}
+use Rattle.forest.proofs.Bools.{apart}
 use Rattle.derivation.specs.Derivation.{Rule, formOf, headOf, rule}
 use Rattle.derivation.specs.Sorts.{formSorts}
 use Rattle.words.specs.Trees.{wordOf}
@@ -19,8 +20,14 @@ use Rattle.term_nodes.specs.Rules.{Ruled, rulesIn, rulesOf}
 use Rattle.term_faults.specs.Faults.{oneSort, rawSorts, ruleMisfit, scopeOf}
 use Rattle.written_sorts.specs.Written.{sortOf}
 use Rattle.grammars.specs.Listing.{listingMisfit}
-use Rattle.outcome.proofs.BodiesPromised.{one-sort}
 use Rattle.script.proofs.WordsBelow.{Below, inside-below, item-below, no-fault}
+
+-- A term of one sort has that sort.
+pub one-sort : (sorts : Option (List ℕ)) (s : ℕ) → oneSort sorts s ≡ true → sorts ≡ some (s ∷ [])
+one-sort nothing s h = apart h
+one-sort (some []) s h = apart h
+one-sort (some (t ∷ [])) s h = rw (eqb-true t s h)
+one-sort (some (t ∷ u ∷ more)) s h = apart h
 
 -- A rule's first word is below nowhere, and its non-terminal is one of the first `most`.
 pub record Placed (nowhere most : ℕ) (r : Ruled) : Type 0 where
