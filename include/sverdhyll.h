@@ -1,15 +1,16 @@
-/* Sverdhyll for C: the checker, and the reader of words.
+/* Sverdhyll for C: the checker, the reader of words, and the runner of steps.
 
    Every function may be called with any bytes and any numbers. A text or a list is a pointer and a length; where the length is 0 the pointer is not read.
 
    A call keeps nothing for the next one, so that several may run at once. It runs on the caller's stack: sverdhyll_answer and sverdhyll_check take up to
-   1.91 MiB of it, whatever they are given (measured at the limits of all inputs, docs/MEASUREMENTS.md), and sverdhyll_read, which evaluates nothing, takes
-   less. A thread of 2 MiB suffices; one of 1 MiB does not for every input, and a call that needs more than there is ends the program.
+   1.91 MiB of it, whatever they are given (measured at the limits of all inputs, docs/MEASUREMENTS.md), and sverdhyll_read, which evaluates nothing, and
+   sverdhyll_run take less. A thread of 2 MiB suffices; one of 1 MiB does not for every input, and a call that needs more than there is ends the program.
 
    Which static library has which function (`rt staticlib NAME` makes target/staticlib/libNAME.a; link one of them):
 
      libchecker.a   sverdhyll_answer, sverdhyll_check, sverdhyll_read, sverdhyll_word, sverdhyll_position
      libwords.a     sverdhyll_words, sverdhyll_word, sverdhyll_position
+     librunner.a    sverdhyll_run
 
    ./install DIR puts libchecker.a to DIR/lib/libsverdhyll.a, with a file for pkg-config:
    cc $(pkg-config --cflags sverdhyll) .. $(pkg-config --libs sverdhyll) */
@@ -41,7 +42,9 @@ enum {
     SVERDHYLL_NO_DERIVATION = 13,
     SVERDHYLL_FALSE = 14,
     SVERDHYLL_BUDGET_ENDED = 15,
-    SVERDHYLL_BAD_POINTS = 16
+    SVERDHYLL_BAD_POINTS = 16,
+    SVERDHYLL_BAD_STEP = 19,
+    SVERDHYLL_BAD_ARGUMENT = 20
 };
 
 /* Which text an answer speaks of. */
@@ -178,6 +181,43 @@ enum {
    a literal (else 0). What is behind these entries stays as it was. Where `table_len / 5` or `values_len` is less than `words`, that is the limit. */
 uint8_t sverdhyll_words(const uint8_t *text, size_t text_len, uint32_t bytes, uint32_t words, uint32_t nesting, uint32_t *table, size_t table_len,
                         uint64_t *values, size_t values_len, size_t *place, size_t *count);
+
+/* Numbers of the steps of `sverdhyll_run`. */
+enum {
+    SVERDHYLL_PUSH_ARGUMENT = 1,
+    SVERDHYLL_PUSH_CONSTANT = 2,
+    SVERDHYLL_APPLY = 3,
+    SVERDHYLL_STEP = 4,         /* how many numbers a step has */
+    SVERDHYLL_MOST_VALUES = 256 /* how many values the stack holds */
+};
+
+/* Runs a list of steps, wherever it comes from, on arguments of the sorts given along: the stack controller, in a library of its own for those who build one.
+
+   A sort is 0 for Bool, else a width from 1 to 64; sorts[k] is the sort of arguments[k], and a Bool is 0 or 1. There may be any number of arguments and of
+   steps; the stack, which is empty at first, holds at most 256 values. A step has four numbers:
+
+   | First | Meaning       | Second                       | Third                            | Fourth               |
+   |-------|---------------|------------------------------|----------------------------------|----------------------|
+   |     1 | push argument | its number from 0            | 0                                | 0                    |
+   |     2 | push constant | its value                    | its width, 0 for a Bool          | 0                    |
+   |     3 | apply         | the operator's number from 0 | operand count; i of an `extract` | 0; j of an `extract` |
+
+   The operators in the order of their numbers: `not and or xor => = distinct ite bvnot bvneg bvand bvor bvxor bvadd bvsub bvmul bvudiv bvurem bvshl bvlshr
+   bvult concat`, `(_ extract i j)`, which is 22, `bvsdiv bvsrem bvsmod bvashr bvslt bvsle bvsgt bvsge bvule bvugt bvuge`, which is 33. An operator takes its
+   operands from the stack, the newest last, and puts its value there.
+
+   Returns 0 where the list ends with one value on the stack, and puts that value and its sort where `value` and `sort` point; `*place` is 0. Else it
+   returns the number of the answer that refuses the list or the arguments, puts its place where `place` points, and `*value` and `*sort` are 0:
+
+   20 where sorts and arguments differ in number, at the number of arguments; else at the first index that has no sort, or an argument that is no value of it.
+   This is tested before the steps.
+
+   19 at the first step, by its number from 0, that is malformed or cut short, finds too few or wrongly sorted operands, or would put a 257th value on the
+   stack; at the number of steps where the list ends with no value or with more than one.
+
+   None of `place`, `value` and `sort` may be NULL. */
+uint8_t sverdhyll_run(const uint64_t *sorts, size_t sorts_len, const uint64_t *arguments, size_t arguments_len, const uint64_t *steps, size_t steps_len,
+                      uint64_t *place, uint64_t *value, uint64_t *sort);
 
 #ifdef __cplusplus
 }

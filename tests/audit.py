@@ -19,6 +19,7 @@ PAPER = os.path.join(ROOT, "docs", "AUDIT.md")
 
 # The calls that are sold, with those for C in the same files, and how many steps are enough for the reader of words.
 CHECKER = (("checker", "lib", ("check", "answer", "read")), ("checker", "exports", ()))
+RUNNER = (("runner", "lib", ("run_steps",)),)
 READER = (("words", "lib", ("read_words", "word_at")), ("words", "positions", ("position", "end_of")))
 READER_STEPS = 2
 
@@ -266,7 +267,7 @@ def wrong_of(files, types, paper):
     """All that is wrong but for counts and places."""
     steps, listed = steps_of(paper), types_listed(paper)
     sold = reached(files, types, roots_of(files, contracts(READER)))
-    found = sold | reached(files, types, roots_of(files, [*statements(paper), *contracts(CHECKER)]))
+    found = sold | reached(files, types, roots_of(files, [*statements(paper), *contracts(CHECKER), *contracts(RUNNER)]))
     yield from unlisted(found, steps, listed, "docs/AUDIT.md")
     yield from unlisted(sold, steps[:READER_STEPS], listed, "the steps of the reader of words")
     yield from unreached(files, found, steps, listed)

@@ -6,7 +6,7 @@ use mathlib.Core.List.{List, [], _∷_}
 use lib.ListN.{length, getD, drop, set, take, length-set}
 use lib.Seq.{sets, length-take-le, take-all}
 use Rattle.forest.proofs.Lists.{drop-next, take-more}
-use Rattle.derivation.proofs.Trail.{sets-append}
+use Rattle.forest.proofs.Rows.{sets-append}
 
 -- the first i entries of the list are copied
 pub record Copied (list area₀ : List ℕ) (at : ℕ) (area : List ℕ) (i : ℕ) : Type 0 where

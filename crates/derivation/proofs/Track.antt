@@ -27,7 +27,7 @@ use Rattle.derivation.proofs.Splits.{over-first}
 use Rattle.derivation.proofs.Likeness.{proper-bare}
 use Rattle.derivation.proofs.RuleWalk.{At, end, end-is, at-start, step-hole, step-alike, HoleAt, hole-view, hole-late, hole-low, not-hole, rule-tree}
 use Rattle.derivation.proofs.RuleWalk.{body-tree, in-body, node-says, Room, room}
-use Rattle.derivation.proofs.Trail.{sets-append}
+use Rattle.forest.proofs.Rows.{sets-append}
 
 size-first : {l : Item} {x qs : Forest Item} {s : Label} {ts us : Terms} (P : Forest Item) (B : Terms) → P ≡ tree l x qs → B ≡ tree s ts us
     → size (first (count P) B) ≡ suc (size ts + size (first (count qs) us))

@@ -1,5 +1,6 @@
 -- Following the choices at a place: what has been written, and what is left.
 use Rattle.forest.specs.Limits.{mostNonTerminals, mostRules}
+use Rattle.forest.proofs.Rows.{sets-append}
 use mathlib.Core.Path.{_≡_, refl, ap, _∙_, subst}
 use mathlib.Core.Path as path
 use Prim.Native.Nat.{ℕ, suc, _+_, _-_, _<_, _≤_}
@@ -20,12 +21,6 @@ use Rattle.derivation.specs.code.Showing.{FollowPre, FollowPost}
 use Rattle.derivation.proofs.Simple.{use-one, no-chain-any}
 use Rattle.derivation.proofs.Uses.{chain-view, no-chain-view}
 use Rattle.derivation.proofs.Closed.{here, first-one}
-
-pub sets-append : (l : List ℕ) (i : ℕ) (vs ws : List ℕ) → sets l i (vs ++ ws) ≡ sets (sets l i vs) (i + length vs) ws
-sets-append l i [] ws = ap (λ (k : ℕ). sets l k ws) (path.sym (add-zero i))
-sets-append l i (a ∷ vs) ws =
-    let e : suc i + length vs ≡ i + suc (length vs) = omega arith in
-    sets-append (set l i a) (suc i) vs ws ∙ ap (λ (k : ℕ). sets (sets (set l i a) (suc i) vs) k ws) e
 
 module _ {rules forms chosen : List ℕ} {a : ℕ} {shown₀ : List ℕ} {at : ℕ} (f : FollowPre rules forms chosen a shown₀ at) where
   abbrev pub G : Grammar

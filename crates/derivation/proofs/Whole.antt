@@ -13,7 +13,7 @@ use Rattle.derivation.specs.code.Masks.{has}
 use Rattle.derivation.specs.code.Search.{Chain}
 use Rattle.derivation.specs.code.Showing.{FollowPre, FollowPost, EmitPre, EmitPost, SpreadPre, SpreadPost}
 use Rattle.derivation.specs.code.Filling.{NodeIs}
-use Rattle.derivation.proofs.Trail.{sets-append}
+use Rattle.forest.proofs.Rows.{sets-append}
 use Rattle.derivation.proofs.Track.{size-one}
 
 module _ {rules forms body masks : List ℕ} {i a : ℕ} {shown : List ℕ} {at : ℕ} (e : EmitPre rules forms body masks i a shown at)

@@ -21,7 +21,8 @@ use Rattle.evaluation.specs.code.Budget.{Priced, held}
 use Rattle.evaluation.specs.code.Costs.{Costing}
 use Rattle.evaluation.specs.code.Tables.{CallsKnown, BodiesHold, Callable, bodyPlace, noPlace}
 use Rattle.evaluation.proofs.Bodies.{Body, held-defined, held-function}
-use Rattle.evaluation.proofs.Cursors.{calls-join, cursor-next, tree-within}
+use Rattle.evaluation.proofs.Cursors.{calls-join}
+use Rattle.terms.proofs.Cursors.{cursor-next, tree-within}
 use Rattle.evaluation.proofs.Sums.{bodiesCost, bodies-join, cost-parts, cost-some, sum-more}
 
 -- What a list of costs has at the place of a label's body: what is held of its cost, if it has a body.

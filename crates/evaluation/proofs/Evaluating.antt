@@ -25,9 +25,10 @@ use Rattle.evaluation.specs.code.Tables.{TermStands, bodyPlace}
 use Rattle.evaluation.proofs.Stack.{kept-below, pushed-kept, pushed-names}
 use Rattle.evaluation.proofs.LabelValues.{Operator, call-label, literal-label, name-label, no-functions, operator-label}
 use Rattle.evaluation.proofs.Bodies.{Body, held-seen}
-use Rattle.evaluation.proofs.Cursors.{tree-within}
+use Rattle.terms.proofs.Cursors.{tree-within}
 use Rattle.evaluation.proofs.Fitting.{Called, called-body, values-fit}
-use Rattle.evaluation.proofs.ValuedTrees.{TreeParts, label-known, tree-parts, values-count}
+use Rattle.evaluation.proofs.ValuedTrees.{label-known}
+use Rattle.terms.proofs.Valued.{TreeParts, tree-parts, values-count}
 
 module _ {nodes bodies stack : List ℕ} {base top i left : ℕ} (e : Evaluable nodes bodies stack base top i left) where
   -- What names and functions mean.

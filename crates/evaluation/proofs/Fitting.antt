@@ -19,7 +19,7 @@ use Rattle.terms.specs.Sorts.{Definition, sameSorts}
 use Rattle.terms.specs.Values.{Meaning, called, definedValue, functionValue, labelValue, numbersIn, operatorGives, resultOf, sortsIn, value, valueWhen}
 use Rattle.terms.specs.Values.{valuesAt, valuesIn}
 use Rattle.terms.specs.declared.Value.{Value}
-use Rattle.evaluation.proofs.ValuedTrees.{tree-parts}
+use Rattle.terms.proofs.Valued.{tree-parts}
 
 -- A value of its sort.
 record OfSort (v : Value) : Type 0 where

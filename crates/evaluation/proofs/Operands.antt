@@ -18,8 +18,8 @@ use Rattle.terms.specs.Values.{Meaning, labelValue, meaningAt, sortsIn, valueOv
 use Rattle.terms.specs.declared.Value.{Value}
 use Rattle.evaluation.specs.code.Evaluator.{Evaluable, Evaluated, Names, OperandsAre, OperandsEvaluable, Pushed, Room}
 use Rattle.evaluation.proofs.Stack.{below-same, nothing-pushed, pushed-kept, pushed-more, sort-more}
-use Rattle.evaluation.proofs.Cursors.{tree-within}
-use Rattle.evaluation.proofs.ValuedTrees.{TreeParts, tree-parts}
+use Rattle.terms.proofs.Cursors.{tree-within}
+use Rattle.terms.proofs.Valued.{TreeParts, tree-parts}
 
 -- A tree that has a value, by itself.
 pub tree-value : (meaning : Meaning) (l : Label) (ops : Terms) {vs : List Value} {v : Value} → labelValue meaning l vs ≡ some v → valuesIn meaning ops ≡ some vs

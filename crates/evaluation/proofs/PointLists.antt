@@ -1,37 +1,18 @@
 -- Points as a list of numbers: the loop that looks for a number outside its sort, and the tests on the list's length.
-use Prim.Native.Nat.{ℕ, zero, suc, _+_, _-_, _%_, _^_, _≤_, _<_}
+use Prim.Native.Nat.{ℕ, zero, suc, _+_, _%_, _≤_, _<_}
 use native.Mathlib.Omega.{arith}
 use mathlib.Core.Path.{_≡_, refl, sym, ap, _∙_}
 use mathlib.Core.Bool.{Bool, true, false, not}
 use mathlib.Core.List.{List, []}
-use lib.Dec.{eqb, leb, ltb}
+use lib.Dec.{eqb, ltb}
 use lib.ListN.{drop, getD, length}
 use lib.Seq.{drop-length}
-use borrow.Author.Tests.{eqb-true, le-leb, le-ltb, lt-leb, lt-ltb, ltb-false, ltb-true, not-false, not-true}
+use borrow.Author.Tests.{eqb-true, le-ltb, lt-ltb, not-false, not-true}
 use Rattle.forest.proofs.Lists.{drop-next}
-use Rattle.operators.proofs.Below.{mod-below}
 use Rattle.operators.specs.Sorts.{valuesOf}
 use Rattle.evaluation.specs.Points.{cutShort, firstOutside, pointCount, pointsOf}
 use Rattle.evaluation.specs.code.Points.{SortsSmall, VariableSorts}
 use Rattle.evaluation.specs.declared.PointList.the-variants.{Bad, Good}
-
--- A number is below b where it is at most b - 1.
-below-is-most : (a b : ℕ) → 0 < b → leb a (b - 1) ≡ ltb a b
-below-is-most a b h = go (ltb a b) refl
-  where
-    go : (t : Bool) → ltb a b ≡ t → leb a (b - 1) ≡ ltb a b
-    go true e = let l = ltb-true a b e in le-leb a (b - 1) (omega arith) ∙ sym e
-    go false e = let l = ltb-false a b e in lt-leb a (b - 1) (omega arith) ∙ sym e
-
--- A Bool is below 2.
-pub bool-test : {s : ℕ} (x : ℕ) → s ≡ 0 → ltb x 2 ≡ ltb x (valuesOf s)
-bool-test x e = rw e
-
--- A vector is at most all ones.
-pub vector-test : {s m : ℕ} (x : ℕ) → (s ≡ 0 → ⊥) → m ≡ 2 ^ s - 1 → leb x m ≡ ltb x (valuesOf s)
-vector-test {s} x h e =
-    let p = mod-below s 0 in
-    rw (e, lt-ltb 0 s (omega arith)) (below-is-most x (2 ^ s) (omega arith))
 
 -- No number before i is outside its sort.
 pub record NoneBefore (sorts numbers : List ℕ) (i : ℕ) : Type 0 where

@@ -1,7 +1,7 @@
--- Trees that have values, and the functions that they apply.
+-- The functions that trees with values apply.
 use Prim.Native.Nat.{ℕ, suc, _<_}
 use native.Mathlib.Omega.{arith}
-use mathlib.Core.Path.{_≡_, refl, ap}
+use mathlib.Core.Path.{_≡_, refl}
 use mathlib.Core.Bool.{Bool, true, false, cond}
 use mathlib.Core.List.{List, [], _∷_}
 use mathlib.Core.Option.{Option, some}
@@ -9,37 +9,13 @@ use borrow.Author.Tests.{eqb-true}
 use lib.Dec.{eqb}
 use lib.ListN.{length}
 use Rattle.forest.proofs.Options.{never}
-use Rattle.forest.specs.Forest.{count, none, tree}
-use Rattle.terms.proofs.EachOfTrees.{Joining, Parts, parts}
+use Rattle.forest.specs.Forest.{none, tree}
+use Rattle.terms.proofs.Valued.{tree-parts}
 use Rattle.terms.specs.Labels.{Label, Terms, defined, function, literal, name, operator}
 use Rattle.terms.specs.Sorts.{Definition}
-use Rattle.terms.specs.Values.{Meaning, definedValue, functionValue, labelValue, valueOver, valuesAt, valuesIn, withValue}
+use Rattle.terms.specs.Values.{definedValue, functionValue, labelValue, valuesAt}
 use Rattle.terms.specs.declared.Value.{Value}
 use Rattle.evaluation.specs.code.Tables.{CallsKnown, Callable}
-
--- How values are joined.
-joining : Joining valueOver withValue
-unfolding valueOver withValue
-joining =
-    record { over-none = λ rule. refl; over-some = λ rule vs. refl; with-none = λ more. refl; with-no-more = λ v. refl; with-some = λ v vs. refl }
-
--- What it says of the parts of a tree, and of the trees that follow, that they have values.
-abbrev pub TreeParts : (meaning : Meaning) → Label → (ops rest : Terms) → (vs : List Value) → Type 0
-TreeParts meaning l ops rest vs = Parts (labelValue meaning l) (valuesIn meaning ops) (valuesIn meaning rest) vs
-
--- The value of a tree that has one, the values of its operands and those of the trees that follow.
-pub tree-parts : (meaning : Meaning) (l : Label) (ops rest : Terms) {vs : List Value} → valuesIn meaning (tree l ops rest) ≡ some vs
-    → TreeParts meaning l ops rest vs
-unfolding valuesIn
-tree-parts meaning l ops rest h = parts joining (labelValue meaning l) (valuesIn meaning ops) (valuesIn meaning rest) h
-
--- There are as many values as terms.
-pub values-count : (meaning : Meaning) (t : Terms) {vs : List Value} → valuesIn meaning t ≡ some vs → length vs ≡ count t
-unfolding valuesIn count
-values-count meaning none {vs} h = let e : vs ≡ [] = cc in ap length e
-values-count meaning (tree l ops rest) h =
-    let p = tree-parts meaning l ops rest h in
-    omega (arith, values-count meaning rest (p .rest-have), ap length (p .together))
 
 -- A number whose value is that of function n, or that of others, which are below n, is at most n.
 at-most-last : (k n : ℕ) (last others : Option Value) {v : Value} → cond (eqb k n) last others ≡ some v → (others ≡ some v → k < n) → k < suc n

@@ -1,22 +1,9 @@
 //! Points: a list of numbers, one for each variable, point after point.
 use crate::PointList;
+use operators::sorting::fits;
 ghost use mathlib.Core.Path.{_≡_};
-ghost use Prim.Native.Nat.{_≤_};
-ghost use lib.Dec.{ltb};
 ghost use Rattle.evaluation.specs.code.Points.{SortsSmall, VariableSorts};
-ghost use Rattle.operators.specs.Sorts.{maxWidth, valuesOf};
 ghost use Rattle.evaluation.specs.Points.{cutShort, firstOutside, pointCount, pointsOf};
-
-// Whether a number is a value of a sort.
-fn fits(sort: u64, number: u64) -> bool
-    requires { ⌜ sort ≤ maxWidth ⌝ }
-    ensures { λ r. ⌜ r ≡ ltb number (valuesOf sort) ⌝ }
-{
-    if sort == 0 {
-        return number < 2;
-    }
-    number <= operators::ones(sort)
-}
 
 // How many points a list of `size` numbers is, by how many variables there are.
 pub(crate) fn point_count(variables: usize, size: usize) -> usize

@@ -1,6 +1,6 @@
 -- Laws of tables, for rows of any width: reading a number, writing one, and adding a row.
 use Prim.Native.Nat.{ℕ, zero, suc, _+_, _*_, _/_, _≤_, _<_}
-use native.Mathlib.Nat.{le-div-iff-mul-le, mul-comm, mul-le-mul-right, mul-suc, mul-zero, suc-add, zero-add}
+use native.Mathlib.Nat.{add-zero, le-div-iff-mul-le, mul-comm, mul-le-mul-right, mul-suc, mul-zero, suc-add, zero-add}
 use native.Mathlib.Omega.{arith}
 use mathlib.Core.Path.{_≡_, refl, sym, ap, _∙_}
 use mathlib.Core.List.{List, [], _∷_, _++_, append-assoc}
@@ -38,6 +38,13 @@ set-past {A = A} (x ∷ xs) (suc i) v h = ap (λ (r : List A). x ∷ r) (set-pas
 pub past : (width : ℕ) (table : List ℕ) (i column : ℕ) → length table ≤ width * i + column → 0 ≡ numberAt width table i column
 unfolding numberAt
 past width table i column h = sym (List·getD-eq-default table 0 h)
+
+-- numbers that are written behind others
+pub sets-append : (l : List ℕ) (i : ℕ) (vs ws : List ℕ) → sets l i (vs ++ ws) ≡ sets (sets l i vs) (i + length vs) ws
+sets-append l i [] ws = ap (λ (k : ℕ). sets l k ws) (sym (add-zero i))
+sets-append l i (a ∷ vs) ws =
+    let e : suc i + length vs ≡ i + suc (length vs) = omega arith in
+    sets-append (set l i a) (suc i) vs ws ∙ ap (λ (k : ℕ). sets (sets (set l i a) (suc i) vs) k ws) e
 
 -- numbers that are written behind those that are over what was lent already
 pub over-more : (xs ys lent : List ℕ) → length xs + length ys ≤ length lent → sets (over xs lent) (length xs) ys ≡ over (xs ++ ys) lent

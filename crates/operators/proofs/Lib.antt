@@ -7,6 +7,8 @@ pub mod Applying
 pub mod Below
 pub mod Magnitudes
 pub mod Closed
+pub mod Counts
 pub mod Results
+pub mod SortTests
 pub mod Wholes
 pub mod SignedValues

@@ -2,6 +2,7 @@
 pub mod operators;
 pub mod rules;
 mod signed;
+pub mod sorting;
 mod truth;
 mod vectors;
 

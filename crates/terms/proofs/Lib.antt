@@ -1,5 +1,7 @@
 pub mod CodeParts
 pub mod EachOfTrees
+pub mod Valued
+pub mod Cursors
 pub mod Sorted
 pub mod Sound
 pub mod Unsorted

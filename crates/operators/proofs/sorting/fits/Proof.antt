@@ -1,7 +1,7 @@
-use Rattle.evaluation.proofs.PointLists.{bool-test, vector-test}
+use Rattle.operators.proofs.SortTests.{bool-test, vector-test}
 use borrow.Author.Needs.{needs}
-use Rattle.evaluation.proofs.points.fits.Statement.{statement}
-use Rattle.evaluation.proofs.points.fits.Tie as tie
+use Rattle.operators.proofs.sorting.fits.Statement.{statement}
+use Rattle.operators.proofs.sorting.fits.Tie as tie
 
 returns : tie.Need-returns
 returns c = search bool-test

@@ -1,0 +1,4 @@
+pub mod Holding
+pub mod OnTop
+pub mod Stepping
+pub mod Runs

@@ -1,0 +1,4 @@
+pub mod Steps
+pub mod Stack
+pub mod Ends
+pub mod code
