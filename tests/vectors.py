@@ -30,7 +30,7 @@ from words import RESPONSE, SCRIPT
 HERE = os.path.dirname(os.path.abspath(__file__))
 CRATE = os.path.join(HERE, "..", "crates", "test_vectors")
 MOST_INPUT = 5000000
-READINGS_FROM_WORDS = 46
+READINGS_FROM_WORDS = 90
 
 # Answers to texts that both pass, and those of them that show derivations.
 JUDGED = (0, 13, 14, 15, 16)

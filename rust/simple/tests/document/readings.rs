@@ -53,6 +53,6 @@ fn all_readings_agree() {
     let cases: Vec<Case> = lines.lines().map(case).collect();
     let faults = cases.iter().filter_map(|case| case.area().err());
     let faults: Vec<String> = faults.collect();
-    assert_eq!(cases.len(), 517);
+    assert_eq!(cases.len(), 562);
     assert!(faults.is_empty(), "{}", faults.join("\n"));
 }
