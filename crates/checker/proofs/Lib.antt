@@ -1,7 +1,4 @@
-pub mod Blanking
-pub mod BodiesAnswer
+pub mod TextsAnswer
 pub mod Judgements
 pub mod Locating
-pub mod BothTexts
 pub mod Sizing
-pub mod BothTables

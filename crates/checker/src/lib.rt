@@ -1,17 +1,16 @@
 //! The checker: a script, a response, a list of points and a budget, and one answer.
 //! The verdict on two texts of right sizes: what reading them, deriving the bodies and evaluating the constraints give, in their order.
-pub mod area;
 pub mod exports;
 pub mod judge;
 mod located;
 mod reading;
 mod sizes;
 
-use crate::area::blank_area;
 use crate::judge::judge_texts;
 use crate::located::locate;
 use crate::reading::texts_told;
 use crate::sizes::size_answer;
+use accepting::area::blank_area;
 use outcome::Answer;
 use outcome::Outcome;
 use script::answers::ACCEPTED;

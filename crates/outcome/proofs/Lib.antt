@@ -11,6 +11,7 @@ pub mod Deriving
 pub mod Elsewhere
 pub mod Exact
 pub mod Unique
+pub mod Declined
 pub mod Texts
 pub mod Sums
 pub mod Assumed

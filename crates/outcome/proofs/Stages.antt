@@ -10,18 +10,20 @@ use lib.Dec.{eqb, ltb}
 use lib.ListN.{length}
 use Rattle.forest.proofs.Options.{never}
 use Rattle.words.specs.Limits.{responseLimits, scriptLimits}
+use Rattle.words.specs.declared.Limits.{Limits}
 use Rattle.forest.specs.Limits.{areaSize, mostNumbers, responseBytes, scriptBytes}
 use Rattle.evaluation.specs.declared.Ran.{Ran}
 use Rattle.evaluation.specs.declared.Ran.the-variants.{Passed, False, Ended}
 use Rattle.evaluation.specs.declared.Run.{Run}
 use Rattle.script.specs.Script.{Known}
 use Rattle.script.specs.Response.{Body}
-use Rattle.script.specs.Outcome.{ResponseOutcome, ScriptOutcome, given, responseOutcome, said, scriptOutcome}
+use Rattle.script.specs.Outcome.{ResponseOutcome, ScriptOutcome, given, responseWithin, said, scriptOutcome}
 use Rattle.script.proofs.Numbers.{Numbered, inResponse, inScript, response-numbered, script-numbered}
 use Rattle.script.specs.code.Answers.{longAnswer}
 use Rattle.outcome.specs.code.Texts.{scriptText, responseText, pointsText, noText}
 use Rattle.outcome.specs.Checked.{Checked, Passing, Judgement, TextsRefused, judged, missized, refusal, response-refused, script-refused, sizeAnswer}
 use Rattle.outcome.specs.Checked.{texts-refused, unshown}
+use Rattle.outcome.specs.Accepted.{TextsPass}
 use Rattle.outcome.specs.Demands.{Showing, accepted, budget-ended, constraint-false}
 use Rattle.outcome.specs.Derived.{blankArea}
 use Rattle.outcome.specs.Evaluated.{ranOutcome, runOutcome}
@@ -69,9 +71,9 @@ script-number : (script : List ℕ) {number offset second : ℕ} → scriptOutco
 script-number script e = let h = subst (Numbered inScript) e (script-numbered script) in (h .some, h .few)
 
 -- So has a response.
-response-number : (k : Known) (response : List ℕ) {number offset : ℕ} → responseOutcome k response ≡ ResponseOutcome.faulty number offset
+response-number : (limits : Limits) (k : Known) (response : List ℕ) {number offset : ℕ} → responseWithin limits k response ≡ ResponseOutcome.faulty number offset
     → (1 ≤ number) × (number ≤ 12)
-response-number k response e = let h = subst (Numbered inResponse) e (response-numbered responseLimits k response) in (h .some, h .few)
+response-number limits k response e = let h = subst (Numbered inResponse) e (response-numbered limits k response) in (h .some, h .few)
 
 -- An answer that refuses a text has such a number, and no units.
 pub record OfText (o : Outcome) : Type 0 where
@@ -80,10 +82,10 @@ pub record OfText (o : Outcome) : Type 0 where
   pub units : o .units ≡ 0
 
 -- What refuses one of two texts is such.
-pub refused-number : {script response : List ℕ} {o : Outcome} → TextsRefused script response o → OfText o
-refused-number {script} (script-refused e) = let h = script-number script e in record { least = h .0; most = h .1; units = refl }
-refused-number {response = response} (response-refused {k = k} s e) =
-    let h = response-number k response e in
+pub refused-number : {limits : Limits} {script response : List ℕ} {o : Outcome} → TextsRefused limits script response o → OfText o
+refused-number {script = script} (script-refused e) = let h = script-number script e in record { least = h .0; most = h .1; units = refl }
+refused-number {limits} {response = response} (response-refused {k = k} s e) =
+    let h = response-number limits k response e in
     record { least = h .0; most = h .1; units = refl }
 
 -- A test that gives no answer has failed, and the next gives none.
@@ -127,30 +129,36 @@ one-known : (script : List ℕ) {k other : Known} → scriptOutcome script ≡ s
 one-known script e h = cc
 
 -- To what the script says a response is one thing.
-of-known : (script response : List ℕ) {k other : Known} {r : ResponseOutcome} → scriptOutcome script ≡ said k → scriptOutcome script ≡ said other
-    → responseOutcome k response ≡ r → responseOutcome other response ≡ r
-of-known script response {r = r} e h x = subst (λ (k : Known). responseOutcome k response ≡ r) (one-known script e h) x
+of-known : (limits : Limits) (script response : List ℕ) {k other : Known} {r : ResponseOutcome} → scriptOutcome script ≡ said k
+    → scriptOutcome script ≡ said other → responseWithin limits k response ≡ r → responseWithin limits other response ≡ r
+of-known limits script response {r = r} e h x = subst (λ (k : Known). responseWithin limits k response ≡ r) (one-known script e h) x
 
 -- Two texts are refused in one way.
-pub one-refused : {script response : List ℕ} {o other : Outcome} → TextsRefused script response o → TextsRefused script response other → o ≡ other
+pub one-refused : {limits : Limits} {script response : List ℕ} {o other : Outcome} → TextsRefused limits script response o
+    → TextsRefused limits script response other → o ≡ other
 one-refused (script-refused e) (script-refused h) = cc
 one-refused (script-refused e) (response-refused s h) = not-said (sym e ∙ s)
 one-refused (response-refused s e) (script-refused h) = not-said (sym h ∙ s)
-one-refused {script} {response} (response-refused s e) (response-refused t h) = let x = of-known script response s t e in cc
+one-refused {limits} {script} {response} (response-refused s e) (response-refused t h) = let x = of-known limits script response s t e in cc
 
 -- Texts that are refused do not pass.
-pub not-both : {A : Type 0} {script response : List ℕ} {o : Outcome} {k : Known} {bs : List Body} → TextsRefused script response o → scriptOutcome script ≡ said k
-    → responseOutcome k response ≡ given bs → A
+pub not-both : {A : Type 0} {limits : Limits} {script response : List ℕ} {o : Outcome} {k : Known} {bs : List Body} → TextsRefused limits script response o
+    → scriptOutcome script ≡ said k → responseWithin limits k response ≡ given bs → A
 not-both (script-refused e) says gives = not-said (sym e ∙ says)
-not-both {script = script} {response} (response-refused s e) says gives = not-given (sym (of-known script response s says e) ∙ gives)
+not-both {limits = limits} {script} {response} (response-refused s e) says gives = not-given (sym (of-known limits script response s says e) ∙ gives)
 
 -- Texts that pass say one thing.
-pub one-passing : {script response points area : List ℕ} {k other : Known} {bs cs : List Body} → Passing script response points area k bs
-    → Passing script response points area other cs → (k ≡ other) × (bs ≡ cs)
-one-passing {script} {response} p q =
-    let x = of-known script response (p .says) (q .says) (p .gives) in
+pub one-pass : {limits : Limits} {script response : List ℕ} {k other : Known} {bs cs : List Body} → TextsPass limits script response k bs
+    → TextsPass limits script response other cs → (k ≡ other) × (bs ≡ cs)
+one-pass {limits} {script} {response} p q =
+    let x = of-known limits script response (p .says) (q .says) (p .gives) in
     let y = q .gives in
     (one-known script (p .says) (q .says), cc)
+
+-- The same where every size is right.
+pub one-passing : {script response points area : List ℕ} {k other : Known} {bs cs : List Body} → Passing script response points area k bs
+    → Passing script response points area other cs → (k ≡ other) × (bs ≡ cs)
+one-passing p q = one-pass {limits = responseLimits} (record { says = p .says; gives = p .gives }) (record { says = q .says; gives = q .gives })
 
 module _ {script response points : List ℕ} {budget : ℕ} {area : List ℕ} where
   -- Where a size is not right, that is answered.
@@ -161,7 +169,7 @@ module _ {script response points : List ℕ} {budget : ℕ} {area : List ℕ} wh
   of-missized e (judged p v) = never (sym (p .sized) ∙ e)
 
   -- Else, where a text is refused, that is answered.
-  pub of-refused : {answer o : Outcome} {a : List ℕ} → sizeAnswer script response points area ≡ nothing → TextsRefused script response answer
+  pub of-refused : {answer o : Outcome} {a : List ℕ} → sizeAnswer script response points area ≡ nothing → TextsRefused responseLimits script response answer
       → Checked script response points budget area o a → o ≡ answer
   of-refused n t (missized h) = never (sym n ∙ h)
   of-refused n t (texts-refused z u) = one-refused u t

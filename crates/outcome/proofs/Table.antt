@@ -102,7 +102,7 @@ module _ {script response points area : List ℕ} {k : Known} where
       ran-row budget (r .held) (r .ran) (p .says) order
 
 -- What refuses a text.
-text-row : {script response points area : List ℕ} {o : Outcome} → TextsRefused script response o → AnswerRow script response points area o
+text-row : {script response points area : List ℕ} {o : Outcome} → TextsRefused responseLimits script response o → AnswerRow script response points area o
 text-row {script} (script-refused e) = of-script (script-row script e)
 text-row {response = response} (response-refused {k = k} s e) = of-response (response-row k response e)
 

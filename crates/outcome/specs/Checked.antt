@@ -7,13 +7,14 @@ use mathlib.Core.Path.{_≡_}
 use lib.Dec.{eqb, ltb}
 use lib.ListN.{length}
 use Rattle.words.specs.Limits.{responseLimits, scriptLimits}
+use Rattle.words.specs.declared.Limits.{Limits}
 use Rattle.forest.specs.Limits.{areaSize, mostNumbers}
 use Rattle.evaluation.specs.Points.{pointsOf}
 use Rattle.evaluation.specs.declared.PointList.the-variants.{Good, Bad}
 use Rattle.names.specs.Scopes.{namedSorts}
 use Rattle.script.specs.Script.{Known}
 use Rattle.script.specs.Response.{Body, inScriptOrder}
-use Rattle.script.specs.Outcome.{ResponseOutcome, ScriptOutcome, given, offsetOf, responseOutcome, said, scriptOutcome}
+use Rattle.script.specs.Outcome.{ResponseOutcome, ScriptOutcome, given, offsetOf, responseOutcome, responseWithin, said, scriptOutcome}
 use Rattle.outcome.specs.Derived.{FirstUnderived, ListsShown, blankArea, shownArea, termsOf}
 use Rattle.outcome.specs.Evaluated.{ranWith, runOutcome}
 use Rattle.outcome.specs.declared.Outcome.{Outcome}
@@ -63,17 +64,18 @@ pub data Judgement (response : List ℕ) (k : Known) (bs : List Body) (points : 
       → pointsOf (namedSorts (k .variables)) points ≡ Good n
       → Judgement response k bs points budget (runOutcome budget (ranWith k (termsOf bs) points n budget)) (shownArea lists)
 
--- What refuses one of two texts that are not too long: "script words ..; commands ..; response words likewise; 10 and 11 ..; the response's commands likewise".
-pub data TextsRefused (script response : List ℕ) : Outcome → Type 0 where
+-- What refuses one of two texts that are not too long, the response within these limits: "script words ..; commands ..; response words likewise; 10 and 11 ..;
+-- the response's commands likewise".
+pub data TextsRefused (limits : Limits) (script response : List ℕ) : Outcome → Type 0 where
   script-refused : {number offset second : ℕ} → scriptOutcome script ≡ ScriptOutcome.faulty number offset second
-      → TextsRefused script response (refusalWith number 0 offset second)
-  response-refused : {k : Known} {number offset : ℕ} → scriptOutcome script ≡ said k → responseOutcome k response ≡ ResponseOutcome.faulty number offset
-      → TextsRefused script response (refusal number 1 offset)
+      → TextsRefused limits script response (refusalWith number 0 offset second)
+  response-refused : {k : Known} {number offset : ℕ} → scriptOutcome script ≡ said k → responseWithin limits k response ≡ ResponseOutcome.faulty number offset
+      → TextsRefused limits script response (refusal number 1 offset)
 
 -- The texts' own answers, without points, a budget or an area: 1 to 12, or 0, which speaks of no text, where both pass.
 pub data TextsTold (script response : List ℕ) : Outcome → Type 0 where
   too-long : {answer : Outcome} → lengthAnswer script response ≡ some answer → TextsTold script response answer
-  refused : {answer : Outcome} → lengthAnswer script response ≡ nothing → TextsRefused script response answer → TextsTold script response answer
+  refused : {answer : Outcome} → lengthAnswer script response ≡ nothing → TextsRefused responseLimits script response answer → TextsTold script response answer
   both-pass : {k : Known} {bs : List Body} → lengthAnswer script response ≡ nothing → scriptOutcome script ≡ said k → responseOutcome k response ≡ given bs
       → TextsTold script response (refusal 0 3 0)
 
@@ -81,7 +83,7 @@ pub data TextsTold (script response : List ℕ) : Outcome → Type 0 where
 -- then 13 .."
 pub data Checked (script response points : List ℕ) (budget : ℕ) (area : List ℕ) : Outcome → (areaAfter : List ℕ) → Type 0 where
   missized : {answer : Outcome} → sizeAnswer script response points area ≡ some answer → Checked script response points budget area answer (unshown area)
-  texts-refused : {answer : Outcome} → sizeAnswer script response points area ≡ nothing → TextsRefused script response answer
+  texts-refused : {answer : Outcome} → sizeAnswer script response points area ≡ nothing → TextsRefused responseLimits script response answer
       → Checked script response points budget area answer blankArea
   judged : {k : Known} {bs : List Body} {answer : Outcome} {areaAfter : List ℕ} → Passing script response points area k bs
       → Judgement response k bs points budget answer areaAfter → Checked script response points budget area answer areaAfter

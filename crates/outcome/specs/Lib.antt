@@ -4,6 +4,7 @@ pub mod Alive
 pub mod Derived
 pub mod Evaluated
 pub mod Checked
+pub mod Accepted
 pub mod Located
 pub mod Agreed
 pub mod Units

@@ -1,3 +1,4 @@
 pub mod Assured
 pub mod Sorted
 pub mod Texts
+pub mod Held

@@ -8,7 +8,7 @@ use lib.Dec.{eqb}
 use lib.ListN.{take}
 use Rattle.words.specs.Reading.{readingOf}
 use Rattle.words.specs.Answers.{numberOf, placeOf}
-use Rattle.words.specs.Limits.{responseLimits}
+use Rattle.words.specs.declared.Limits.{Limits}
 use Rattle.words.specs.declared.Reading.{Reading}
 use Rattle.words.specs.declared.Reading.the-variants.{Whole, Refused}
 use Rattle.lexemes.specs.code.Table.{rowWidth as lexemeWidth}
@@ -30,24 +30,24 @@ use Rattle.texts.proofs.Offsets.{offset-there}
 use Rattle.texts.proofs.TextLexemes.{only-lexemes, placed-alone}
 
 -- a word is refused
-pub words-refused : {text names places nodes placesAfter nodesAfter : List ℕ} {p : Progress} (q : Ready text names places nodes p)
-    (r : Reading) {v : Verdict} → r ≡ readingOf responseLimits text → (numberOf r ≡ 0 → ⊥) → v .number ≡ numberOf r → v .place ≡ placeOf r
+pub words-refused : {limits : Limits} {text names places nodes placesAfter nodesAfter : List ℕ} {p : Progress} (q : Ready limits text names places nodes p)
+    (r : Reading) {v : Verdict} → r ≡ readingOf limits text → (numberOf r ≡ 0 → ⊥) → v .number ≡ numberOf r → v .place ≡ placeOf r
     → ResponseRead q placesAfter nodesAfter v
 unfolding responseWithin
 words-refused q (Whole n) e some number place = absurd (some refl)
 words-refused q (Refused fault at n) e some number place = record { told = rw (← e) (number, place) }
 
-module _ {text lexemes names raw places nodes : List ℕ} {p : Progress} {n : ℕ} (w : Worded responseLimits text lexemes n)
-    (ready : Ready text names places nodes p) (raw-room : RowEach responseLimits text rawWidth raw) where
+module _ {limits : Limits} {text lexemes names raw places nodes : List ℕ} {p : Progress} {n : ℕ} (w : Worded limits text lexemes n)
+    (ready : Ready limits text names places nodes p) (raw-room : RowEach limits text rawWidth raw) where
   -- what the reading of a response's commands asks
   abbrev pub responding : Responding text (take (lexemeWidth * n) lexemes) names raw places nodes p n
   responding =
       record {
         items = itemsOf text;
-        stands = rw (only-lexemes w) (text-stands responseLimits text n (w .whole));
-        lawful = rw (only-lexemes w) (text-lawful responseLimits text n (w .whole));
+        stands = rw (only-lexemes w) (text-stands limits text n (w .whole));
+        lawful = rw (only-lexemes w) (text-lawful limits text n (w .whole));
         starts = λ i below. offset-there (placed-alone w) below;
-        few = omega (arith, w .few);
+        few = omega (arith, w .few, ready .few-words);
         known = ready .known;
         forms = ready .forms;
         tables = ready .tables;

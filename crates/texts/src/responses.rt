@@ -9,17 +9,16 @@ use script::Progress;
 use script::Verdict;
 use script::answers::FAIL;
 use script::answers::INFEASIBLE;
+use words::Limits;
 use words::answers::number_of;
 use words::answers::passed_of;
 use words::answers::place_of;
-use words::response_limits;
 ghost use mathlib.Core.Path.{_≡_};
 ghost use Prim.Native.Nat.{_*_};
 ghost use lib.ListN.{length};
 ghost use Rattle.forest.specs.Limits.{responseWords};
 ghost use Rattle.lexemes.specs.code.Table.{rowWidth};
 ghost use Rattle.term_nodes.specs.code.Table.{rowWidth as rawWidth};
-ghost use Rattle.words.specs.Limits.{responseLimits};
 ghost use mathlib.Core.Bool.{_||_, cond};
 ghost use lib.Dec.{eqb};
 ghost use Rattle.script.specs.Outcome.{offsetOf};
@@ -65,9 +64,10 @@ fn refusal_offset(text: &[u8], lexemes: &[u64], count: usize, number: usize, wor
     offset_of(text, lexemes, count, word)
 }
 
-// Reads a response with tables that have room for its lexemes and for what is gathered of it: its bodies stand in the others, or it is refused at an offset.
+// Reads a response within limits, with tables that have room for its lexemes and for what is gathered of it: its bodies stand in the others, or it is refused at an offset.
 fn response_in(
     text: &[u8],
+    limits: Limits,
     lexemes: &mut [u64],
     names: &[u8],
     raw: &mut [u64],
@@ -75,13 +75,13 @@ fn response_in(
     nodes: &mut [u64],
     progress: Progress,
 ) -> Verdict
-    requires { ⌜ Ready (now text) (now names) (now places) (now nodes) progress ⌝ }
-    requires { ⌜ RowEach responseLimits (now text) rowWidth (now lexemes) ⌝ }
-    requires { ⌜ RowEach responseLimits (now text) rawWidth (now raw) ⌝ }
-    ensures { λ r. ⌜ ReadsResponse (now (text .entry)) (now (names .entry)) (now (places .entry)) (now (nodes .entry)) progress
+    requires { ⌜ Ready limits (now text) (now names) (now places) (now nodes) progress ⌝ }
+    requires { ⌜ RowEach limits (now text) rowWidth (now lexemes) ⌝ }
+    requires { ⌜ RowEach limits (now text) rawWidth (now raw) ⌝ }
+    ensures { λ r. ⌜ ReadsResponse limits (now (text .entry)) (now (names .entry)) (now (places .entry)) (now (nodes .entry)) progress
         (now (places .exit)) (now (nodes .exit)) r ⌝ }
 {
-    let reading = read_lexemes(text, response_limits(), lexemes);
+    let reading = read_lexemes(text, limits, lexemes);
     if number_of(reading) != 0 {
         return Verdict {
             number: number_of(reading) as usize,
@@ -107,24 +107,43 @@ fn response_in(
     }
 }
 
-// Reads a response to a script whose tables are given: its bodies stand in the tables, or it is refused at an offset.
+// Reads a response, within limits, to a script whose tables are given: its bodies stand in the tables, or it is refused at an offset.
 pub fn read_response_text(
     text: &[u8],
+    limits: Limits,
     names: &[u8],
     places: &mut [u64],
     nodes: &mut [u64],
     progress: Progress,
 ) -> Verdict
-    requires { ⌜ Ready (now text) (now names) (now places) (now nodes) progress ⌝ }
-    ensures { λ r. ⌜ ReadsResponse (now (text .entry)) (now (names .entry)) (now (places .entry)) (now (nodes .entry)) progress
+    requires { ⌜ Ready limits (now text) (now names) (now places) (now nodes) progress ⌝ }
+    ensures { λ r. ⌜ ReadsResponse limits (now (text .entry)) (now (names .entry)) (now (places .entry)) (now (nodes .entry)) progress
         (now (places .exit)) (now (nodes .exit)) r ⌝ }
 {
     if text.len() <= SHORT_RESPONSE {
         let mut lexemes = short_lexemes();
         let mut raw = short_raw();
-        return response_in(text, &mut lexemes, names, &mut raw, places, nodes, progress);
+        return response_in(
+            text,
+            limits,
+            &mut lexemes,
+            names,
+            &mut raw,
+            places,
+            nodes,
+            progress,
+        );
     }
     let mut lexemes = lexeme_rows();
     let mut raw = raw_rows();
-    response_in(text, &mut lexemes, names, &mut raw, places, nodes, progress)
+    response_in(
+        text,
+        limits,
+        &mut lexemes,
+        names,
+        &mut raw,
+        places,
+        nodes,
+        progress,
+    )
 }

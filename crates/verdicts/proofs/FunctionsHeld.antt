@@ -18,7 +18,7 @@ use Rattle.script.specs.Response.{Body, inScriptOrder}
 use Rattle.response.specs.code.Answers.{ResponseAt}
 use Rattle.outcome.specs.Derived.{termsOf}
 use Rattle.outcome.specs.Evaluated.{completed, functionsWith}
-use Rattle.verdicts.specs.code.Held.{Held}
+use Rattle.outcome.specs.code.Held.{Held}
 use Rattle.outcome.proofs.BodiesAssured.{functions-small, functions-sorted, signatures-same}
 use Rattle.evaluation.proofs.Calls.{defined-calls, function-calls}
 

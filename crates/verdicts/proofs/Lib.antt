@@ -7,4 +7,3 @@ pub mod VariableSorts
 pub mod FunctionsHeld
 pub mod StatedRuns
 pub mod PointsAnswer
-pub mod ResponseFits

@@ -18,7 +18,7 @@ use Rattle.script.specs.code.Places.{bodyIn, functionsPlace, placesLength, offs
 use Rattle.script.specs.declared.Progress.{Progress}
 use Rattle.script.specs.Outcome.{offsetOf}
 use Rattle.script.specs.Response.{Body, inScriptOrder}
-use Rattle.verdicts.specs.code.Held.{Held}
+use Rattle.outcome.specs.code.Held.{Held}
 use Rattle.outcome.specs.Derived.{FirstUnderived, ListsShown, blankArea, shownArea, termsOf}
 
 -- The tables hold a script and a response that pass, and the area shows nothing.

@@ -13,7 +13,7 @@ use Rattle.script.specs.declared.Progress.{Progress}
 use Rattle.script.specs.Response.{Body}
 use Rattle.script.specs.code.Answers.{pointsAnswer}
 use Rattle.outcome.specs.code.Texts.{pointsText}
-use Rattle.verdicts.specs.code.Held.{Held}
+use Rattle.outcome.specs.code.Held.{Held}
 use Rattle.outcome.specs.Derived.{termsOf}
 use Rattle.outcome.specs.Evaluated.{ranWith, runOutcome}
 use Rattle.outcome.specs.declared.Outcome.{Outcome}

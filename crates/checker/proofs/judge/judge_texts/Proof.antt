@@ -1,4 +1,5 @@
-use Rattle.checker.proofs.BothTexts.{full-rooms, short-rooms}
+use native.Mathlib.Omega.{arith}
+use Rattle.both_texts.proofs.Reading.{full-rooms, short-rooms}
 use borrow.Author.Needs.{needs}
 use Rattle.checker.proofs.judge.judge_texts.Statement.{statement}
 use Rattle.checker.proofs.judge.judge_texts.Tie as tie
@@ -37,7 +38,7 @@ slice-aggregate-judge-in-4 : tie.Need-slice-aggregate-judge-in-4
 slice-aggregate-judge-in-4 c = search needs
 
 judge-in-requires-2 : tie.Need-judge-in-requires-2
-judge-in-requires-2 c κs = (c .before .before .before .before .before .before .before .before .before .before .pre, full-rooms (c .before .before .before .before .node-room .ensures) (c .before .before .before .form-room .ensures))
+judge-in-requires-2 c κs = (c .before .before .before .before .before .before .before .before .before .before .pre, full-rooms (omega arith) (c .before .before .before .before .node-room .ensures) (c .before .before .before .form-room .ensures))
 
 same-length-2 : tie.Need-same-length-2
 same-length-2 c = search needs

@@ -1,4 +1,6 @@
-use Rattle.checker.proofs.BothTexts.{full-rooms, short-rooms, texts-long}
+use native.Mathlib.Omega.{arith}
+use Rattle.both_texts.proofs.Reading.{full-rooms, short-rooms}
+use Rattle.checker.proofs.TextsAnswer.{texts-long}
 use borrow.Author.Needs.{needs}
 use Rattle.checker.proofs.reading.texts_told.Statement.{statement}
 use Rattle.checker.proofs.reading.texts_told.Tie as tie
@@ -40,7 +42,7 @@ slice-aggregate-told-in-4 : tie.Need-slice-aggregate-told-in-4
 slice-aggregate-told-in-4 c = search needs
 
 told-in-requires-2 : tie.Need-told-in-requires-2
-told-in-requires-2 c κs = (c .before .before .before .before .before .before .before .length-answer .ensures .passes (c .before .before .before .before .before .if1 .left), full-rooms (c .before .before .before .node-room .ensures) (c .before .before .form-room .ensures))
+told-in-requires-2 c κs = (c .before .before .before .before .before .before .before .length-answer .ensures .passes (c .before .before .before .before .before .if1 .left), full-rooms (omega arith) (c .before .before .before .node-room .ensures) (c .before .before .form-room .ensures))
 
 returns-3 : tie.Need-returns-3
 returns-3 c = c .before .before .told-in2 .ensures

@@ -1,4 +1,3 @@
-use native.Mathlib.Omega.{arith}
 use Rattle.texts.proofs.Rooms.{full-room, short-room}
 use Rattle.forest.specs.Limits.{responseWords}
 use borrow.Author.Needs.{needs}
@@ -42,7 +41,7 @@ slice-aggregate-response-in-4 : tie.Need-slice-aggregate-response-in-4
 slice-aggregate-response-in-4 c = search needs
 
 response-in-requires-2 : tie.Need-response-in-requires-2
-response-in-requires-2 c κs = (c .before .before .before .before .before .before .before .before .before .before .before .pre, (full-room {most = responseWords} (c .before .before .before .before .before .lexeme-rows .ensures) (omega arith), full-room {most = responseWords} (c .before .before .before .before .raw-rows .ensures) (omega arith)))
+response-in-requires-2 c κs = (c .before .before .before .before .before .before .before .before .before .before .before .pre, (full-room {most = responseWords} (c .before .before .before .before .before .lexeme-rows .ensures) (c .before .before .before .before .before .before .before .before .before .before .before .pre .few-words), full-room {most = responseWords} (c .before .before .before .before .raw-rows .ensures) (c .before .before .before .before .before .before .before .before .before .before .before .pre .few-words)))
 
 same-length-3 : tie.Need-same-length-3
 same-length-3 c = search needs

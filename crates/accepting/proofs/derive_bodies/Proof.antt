@@ -1,8 +1,8 @@
 use mathlib.Core.Path.{refl}
-use Rattle.checker.proofs.BodiesAnswer.{every-derived, function-low, one-underived}
+use Rattle.accepting.proofs.BodiesAnswer.{every-derived, function-low, one-underived}
 use borrow.Author.Needs.{needs}
-use Rattle.checker.proofs.judge.derive_bodies.Statement.{statement}
-use Rattle.checker.proofs.judge.derive_bodies.Tie as tie
+use Rattle.accepting.proofs.derive_bodies.Statement.{statement}
+use Rattle.accepting.proofs.derive_bodies.Tie as tie
 
 derive-all-requires : tie.Need-derive-all-requires
 derive-all-requires c κs = search needs

@@ -2,9 +2,9 @@ use native.Mathlib.Omega.{arith}
 use lib.ListN.{length}
 use Prim.Native.Nat.{_-_}
 use Rattle.outcome.proofs.Areas.{unshown-same}
-use Rattle.checker.proofs.Blanking.{Blanking, blanking-begins, blanking-ends, blanking-goes}
-use Rattle.checker.proofs.area.blank_area.Statement.{statement}
-use Rattle.checker.proofs.area.blank_area.Tie as tie
+use Rattle.accepting.proofs.Blanking.{Blanking, blanking-begins, blanking-ends, blanking-goes}
+use Rattle.accepting.proofs.area.blank_area.Statement.{statement}
+use Rattle.accepting.proofs.area.blank_area.Tie as tie
 
 abbrev Inv-loop : tie.InvT-loop
 Inv-loop shown₀ i₀ shown i = Blanking shown₀ shown i

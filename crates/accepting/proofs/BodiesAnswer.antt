@@ -15,7 +15,7 @@ use Rattle.outcome.proofs.Areas.{blank-long, unshown-blank}
 use Rattle.outcome.proofs.Deriving.{underived-within}
 use Rattle.verdicts.specs.code.Derive.{Derivable, Judged}
 use Rattle.outcome.specs.code.Texts.{responseText}
-use Rattle.checker.specs.code.Judge.{BodiesDerived, Sought}
+use Rattle.accepting.specs.code.Bodies.{BodiesDerived, Sought}
 
 module _ {places nodes forms area : List ℕ} {p : Progress} {areaAfter : List ℕ} {r : ℕ}
     (searched : (q : Derivable places nodes forms p area) → Judged q areaAfter r) where

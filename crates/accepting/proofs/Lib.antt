@@ -1,0 +1,3 @@
+pub mod Blanking
+pub mod BodiesAnswer
+pub mod TextsAnswer

@@ -1,0 +1,3 @@
+pub mod ResponseFits
+pub mod BothTables
+pub mod Reading
