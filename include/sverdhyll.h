@@ -63,10 +63,11 @@ enum {
     SVERDHYLL_MOST_SCRIPT = 65536,  /* bytes */
     SVERDHYLL_MOST_RESPONSE = 8192, /* bytes */
     SVERDHYLL_MOST_POINTS = 1024,   /* numbers */
+    SVERDHYLL_MOST_FUNCTIONS = 8,   /* synthesized ones */
     SVERDHYLL_FIRST_ASSUMPTION = 64 /* answer 15 numbers assumptions from here */
 };
 
-/* The indexes of the numbers of an answer; the eight behind these are 0 until a later version uses them. */
+/* The indexes of the numbers of an answer. */
 enum {
     SVERDHYLL_NUMBER = 0,
     SVERDHYLL_TEXT = 1,
@@ -76,12 +77,13 @@ enum {
     SVERDHYLL_END = 5,
     SVERDHYLL_LINE = 6,
     SVERDHYLL_COLUMN = 7,
+    SVERDHYLL_WEIGHT = 8, /* of the first function; that of function k is k behind it */
     SVERDHYLL_ANSWER = 16 /* how many numbers an answer has */
 };
 
 /* Checks a response against a script at points within a budget. Returns the answer's number, and puts the sixteen numbers of the answer where `answer` points
-   (which may not be NULL): the number once more, which text it speaks of, its place, its second number and the units spent, and of its place the end, the line
-   and the column.
+   (which may not be NULL): the number once more, which text it speaks of, its place, its second number and the units spent, of its place the end, the line and
+   the column, and for each of eight functions the total weight of the derivation shown.
 
    `points` has one number for each declared variable, point after point; a Bool is 0 or 1. With no variables it is empty, and one empty point is taken.
 
@@ -129,7 +131,8 @@ enum {
 
    `shown` is the area; `shown_len` must be 32,768. After 0, 14 and 15 it shows a derivation of every function's body: the numbers of the rules, leftmost first,
    those of function k from entry 4,096 * k on; every entry that no list uses is 65,535. After any other answer every entry is 65,535. An area of another size
-   is unchanged, whatever the answer.
+   is unchanged, whatever the answer. Of all derivations of a body the least one is shown: of least total weight, then with fewest rules, then with the least
+   rule numbers at the first difference. answer[8 + k] is its total weight; 0 where none is shown, and so after all answers but 0, 14 and 15.
 
    Answers 2 to 9, 12 and 13 carry the end of the word at their place, which is the offset past it, and the line and the column of the place; in all other
    answers these three are 0. Lines and columns count from 1, columns in bytes, and a line ends at byte 10 only. Where the place is a bracket, the end is one
@@ -138,7 +141,7 @@ enum {
 uint8_t sverdhyll_answer(const uint8_t *script, size_t script_len, const uint8_t *response, size_t response_len, const uint64_t *points, size_t points_len,
                          uint64_t budget, uint16_t *shown, size_t shown_len, uint64_t answer[SVERDHYLL_ANSWER]);
 
-/* The same answer without end, line and column: returns its number, and puts which text it speaks of, its place, its second number and the units spent where
+/* The same answer without end, line, column and weights: returns its number, and puts which text it speaks of, its place, its second number and the units spent where
    `text`, `place`, `second` and `units` point (none of which may be NULL). */
 uint8_t sverdhyll_check(const uint8_t *script, size_t script_len, const uint8_t *response, size_t response_len, const uint64_t *points, size_t points_len,
                         uint64_t budget, uint16_t *shown, size_t shown_len, uint8_t *text, uint64_t *place, uint64_t *second, uint64_t *units);

@@ -5,9 +5,9 @@ A text may have the mark § in it, which is no part of it: it stands at the answ
 """
 from collections import namedtuple
 
-# A script, a response, points, a budget and the size of the area, with the answer: its number, text, place, second number and units; and what it carries, an end,
-# a line and a column, where the case says it.
-Case = namedtuple("Case", "name script response points budget area answer location", defaults=[None])
+# A script, a response, points, a budget and the size of the area, with the answer: its number, text, place, second number and units; and, where the case says it,
+# what it carries, an end, a line and a column, the lists shown, and their weights.
+Case = namedtuple("Case", "name script response points budget area answer location shown weights", defaults=[None] * 3)
 
 AREA = 32768
 MOST_BUDGET = 2 ** 64 - 1

@@ -244,7 +244,7 @@ def carrying():
             yield reading["script"], reading["response"], *reading["answer"][1:3], reading["end_line_column"]
     for name, script, response, answer in records():
         if name.startswith("located-"):
-            yield script.strip("-"), response.strip("-"), *answer[1:3], answer[5:]
+            yield script.strip("-"), response.strip("-"), *answer[1:3], answer[5:8]
 
 
 def places():

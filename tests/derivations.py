@@ -1,7 +1,7 @@
 """Derivations of the bodies of a response by the grammars of a script, from their lists of words alone.
 
-`derivations` searches for the lists of rule numbers that could be shown, and `fault` replays a list; the two share no more than the grammar and what a literal
-is. Both take texts that document 01 passes with request E3: nothing is checked of them here.
+`least` searches for the list of rule numbers that is shown (E13), and `fault` replays a list; the two share no more than the grammar and what a literal is. Both
+take texts that document 01 passes with request E3: nothing is checked of them here.
 """
 import re
 from collections import namedtuple
@@ -11,8 +11,8 @@ import words
 # A word with its offset, or a list with that of its bracket: `word` or `items` is None.
 Tree = namedtuple("Tree", "start word items")
 
-# A rule: its non-terminal, and what it derives, a tree with non-terminals in it.
-Rule = namedtuple("Rule", "head form")
+# A rule: its non-terminal, what it derives, a tree with non-terminals in it, and its weight.
+Rule = namedtuple("Rule", "head form weight")
 
 # A literal: "its value and width". A Bool has the width 0, as its sort is written here.
 Literal = namedtuple("Literal", "value width")
@@ -79,7 +79,7 @@ def grammar_of(command):
     """The grammar of a `synth-fun`."""
     arguments, predeclared, groups = (command.items[i].items for i in (2, 4, 5))
     names = [pair.items[0].word for pair in predeclared]
-    rules = [Rule(group.items[0].word, form) for group in groups for form in group.items[2].items]
+    rules = [Rule(group.items[0].word, form, 0) for group in groups for form in group.items[2].items]
     return Grammar(names[0], set(names), rules, {pair.items[0].word: sort_of(pair.items[1]) for pair in arguments})
 
 
@@ -176,42 +176,53 @@ def holes(grammar, form, term):
 
 
 class Search:
-    """The search for derivations of one body: at most two of each part are kept, so that one tells whether there is another."""
+    """The search for the least derivation of one body: of least total weight, then with fewest rules, then with the least rule numbers at the first difference.
 
-    MOST = 2
+    Every rule is tried at every place, but for non-terminals that were used there before: a derivation that uses one twice at one place has a shorter one within
+    it that weighs no more. What is found is (weight, count, numbers), so that tuples compare as derivations do.
+    """
 
     def __init__(self, grammar):
         self.grammar = grammar
         self.found = {}
 
     def of_name(self, name, term, used):
-        """Derivations of a term from a non-terminal, where those of `used` were used at its place before."""
+        """The least derivation of a term from a non-terminal, where those of `used` were used at its place before; None where there is none."""
         key = (name, term.start, used)
         if key not in self.found:
             lists = []
             for number, rule in enumerate(self.grammar.rules):
-                if rule.head == name and len(lists) < self.MOST:
-                    lists += [[number] + rest for rest in self.of_form(rule.form, term, used | {name})]
-            self.found[key] = lists[:self.MOST]
+                rest = self.of_form(rule.form, term, used | {name}) if rule.head == name else None
+                if rest is not None:
+                    lists.append((rule.weight + rest[0], 1 + rest[1], [number] + rest[2]))
+            self.found[key] = min(lists, default=None)
         return self.found[key]
 
     def of_form(self, form, term, used):
-        """Derivations of a term from the form of a rule."""
+        """The least derivation of a term from the form of a rule."""
         derived = derives_leaf(self.grammar, form, term)
         if derived is not None:
-            return [[]] if derived else []
+            return (0, 0, []) if derived else None
         parts = holes(self.grammar, form, term)
         if parts is None:
-            return []
-        lists = [[]]
+            return None
+        weight, count, numbers = 0, 0, []
         for name, part in parts:
             if part is term and name in used:
-                return []
-            more = self.of_name(name, part, used if part is term else frozenset())
-            lists = [one + other for one in lists for other in more][:self.MOST]
-        return lists
+                return None
+            found = self.of_name(name, part, used if part is term else frozenset())
+            if found is None:
+                return None
+            weight, count, numbers = weight + found[0], count + found[1], numbers + found[2]
+        return weight, count, numbers
 
 
-def derivations(grammar, body):
-    """Derivations of a body from the start in which no non-terminal is used twice at one place: all of them, or two."""
-    return Search(grammar).of_name(grammar.start, body, frozenset())
+def least(grammar, body):
+    """The least derivation of a body from the start: its rule numbers; None where there is none."""
+    found = Search(grammar).of_name(grammar.start, body, frozenset())
+    return found and found[2]
+
+
+def total(grammar, numbers):
+    """The summed weights of rules."""
+    return sum(grammar.rules[number].weight for number in numbers)

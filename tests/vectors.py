@@ -2,12 +2,13 @@
 """The records of the program `test_vectors` and what it must write of them: tests/vectors.py [--check]
 
 It takes the readings of readings.jsonl, texts of its own whose words decide, and the cases of cases.py, operands.py, constants.py, signed.py, assumed.py,
-located.py, declared.py, dead.py and limits.py, and writes crates/test_vectors/stdin and crates/test_vectors/stdout; with --check it only says whether these two files are what it would
-write, and replays every list of rules in them (derivations.py). What the words of a text are is said by words.py, which is held to each reading whose answer arises
-from words. The checker's answer is that of the reading, or is known from how a text is made; the list shown is the one derivation that there is. The end, the line
+located.py, declared.py, dead.py, least.py and limits.py, and writes crates/test_vectors/stdin and crates/test_vectors/stdout; with --check it only says whether these two files are what it would
+write, and replays every list of rules in them (derivations.py), which is the least derivation by a search of its own. What the words of a text are is said by words.py, which is held to each reading whose answer arises
+from words. The checker's answer is that of the reading, or is known from how a text is made; the list shown is the least derivation that there is, with its total weight. The end, the line
 and the column that an answer carries are computed by words.py from its text and its place, and held to what the readings and the cases of located.py say of them.
 The last records are names that are nearly known words (nearly.py).
 """
+import functools
 import json
 import os
 import sys
@@ -20,6 +21,7 @@ from cases import AREA, Case, all_cases
 from constants import all_constants
 from dead import all_dead
 from declared import all_declared
+from least import all_least
 from limits import all_limits
 from located import all_located
 from nearly import all_nearly
@@ -39,8 +41,8 @@ SHOWING = (0, 14, 15)
 # "Answers 2 to 9, 12 and 13 carry the new numbers; .. the other answers carry 0." (E6)
 CARRYING = (2, 3, 4, 5, 6, 7, 8, 9, 12, 13)
 
-# The list that is shown where there are several derivations, by record and function: of two equal rules the first.
-CHOSEN = {("reading-246", 0): [0]}
+# How many functions a script may have, and so how many totals an answer.
+FUNCTIONS = 8
 
 
 # Readings
@@ -243,6 +245,7 @@ def records():
     yield from all_located()
     yield from all_declared()
     yield from all_dead()
+    yield from all_least()
     yield from all_limits()
     yield from all_nearly()
 
@@ -270,15 +273,22 @@ def report(text, limits):
     return "%s table %016x word %d" % (outcome, digest(reading), length)
 
 
-def shown_lists(record):
-    """The list shown of each function of a record: its one derivation, or the one that is chosen."""
-    lists = []
-    for k, (grammar, body) in enumerate(zip(derivations.grammars(record.script), derivations.bodies(record.response))):
-        found = derivations.derivations(grammar, body)
-        if len(found) > 1 and (record.name, k) not in CHOSEN:
-            sys.exit("%s: function %d has several derivations, and none is chosen" % (record.name, k))
-        lists.append(CHOSEN.get((record.name, k)) or (found[0] if found else None))
-    return lists
+@functools.lru_cache(maxsize=None)
+def shown_lists(script, response):
+    """The list of each function that two texts show, its least derivation, and the weight of each."""
+    functions = list(zip(derivations.grammars(script), derivations.bodies(response)))
+    lists = [derivations.least(grammar, body) for grammar, body in functions]
+    return lists, [derivations.total(grammar, numbers or []) for (grammar, _), numbers in zip(functions, lists)]
+
+
+def weights_of(record):
+    """The total weight of each function of a record, 0 where no derivation is shown."""
+    shown = record.answer[0] in SHOWING and record.area == AREA
+    weights = shown_lists(record.script, record.response)[1] if shown else []
+    found = tuple(weights + [0] * (FUNCTIONS - len(weights)))
+    if record.weights not in (None, found):
+        sys.exit("%s: the weights are %s, and the record says %s" % (record.name, found, record.weights))
+    return found
 
 
 def area_of(record):
@@ -287,12 +297,14 @@ def area_of(record):
         return "unchanged"
     if record.answer[0] not in JUDGED:
         return "blank"
-    lists = shown_lists(record)
+    lists, _ = shown_lists(record.script, record.response)
     without = [k for k, numbers in enumerate(lists) if numbers is None]
     if without[:1] != ([record.answer[3]] if record.answer[0] == 13 else []):
         sys.exit("%s: functions %s have no derivation, and the answer is %s" % (record.name, without, record.answer))
     if record.answer[0] not in SHOWING:
         return "blank"
+    if record.shown not in (None, tuple(lists)):
+        sys.exit("%s: the least lists are %s, and the record says %s" % (record.name, lists, record.shown))
     return "/".join(",".join(map(str, numbers)) for numbers in lists)
 
 
@@ -315,7 +327,8 @@ def given_line(record):
 def wanted_line(record):
     """The line that is to be written of a record."""
     texts = "script %s response %s" % (report(record.script, SCRIPT), report(record.response, RESPONSE))
-    return "%s %s answer %d %d %d %d %d %d %d %d area %s\n" % ((record.name, texts) + record.answer + location_of(record) + (area_of(record),))
+    numbers = record.answer + location_of(record) + weights_of(record)
+    return "%s %s answer %s area %s\n" % (record.name, texts, " ".join(map(str, numbers)), area_of(record))
 
 
 def files():
@@ -331,7 +344,7 @@ def files():
 # What is stored
 
 def check_lists():
-    """Stops unless every list that is stored is a derivation, by a replay of its own; answers how many were replayed."""
+    """Stops unless every list that is stored is a derivation, by a replay that shares nothing with the search; answers how many were replayed."""
     path, count = os.path.join(CRATE, "stdout"), 0
     with open(path, encoding="ascii") as lines:
         for record, line in zip(records(), lines):

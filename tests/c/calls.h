@@ -10,10 +10,10 @@
 #include "sverdhyll.h"
 
 /* An answer: its number, its text, its place, its second number and the units spent; of `sverdhyll_answer` and `sverdhyll_read` also the end, the line and the
-   column. */
+   column, and the weights. */
 struct answer {
     uint8_t number, text;
-    uint64_t place, second, units, end, line, column;
+    uint64_t place, second, units, end, line, column, weights[SVERDHYLL_MOST_FUNCTIONS];
 };
 
 /* The area of every call, with two entries behind it. */
@@ -23,19 +23,27 @@ static uint16_t area[SVERDHYLL_AREA + 2];
 static inline struct answer check_all(const char *script, size_t script_size, const char *response, size_t response_size, const uint64_t *points, size_t count,
                                       uint64_t budget, uint16_t *shown, size_t size)
 {
-    struct answer a = {99, 99, 99, 99, 99, 0, 0, 0};
+    struct answer a = {99, 99, 99, 99, 99, 0, 0, 0, {0}};
     a.number = sverdhyll_check((const uint8_t *)script, script_size, (const uint8_t *)response, response_size, points, count, budget, shown, size, &a.text,
                                &a.place, &a.second, &a.units);
     return a;
+}
+
+/* Whether derivations are shown after an answer. */
+static inline int is_showing(uint8_t number)
+{
+    return number == SVERDHYLL_ACCEPTED || number == SVERDHYLL_FALSE || number == SVERDHYLL_BUDGET_ENDED;
 }
 
 /* An answer that was returned with its sixteen numbers; one that is not formed as the header says has the number 99. */
 static inline struct answer formed(uint8_t number, const uint64_t *n)
 {
     int well = n[SVERDHYLL_NUMBER] == number && n[SVERDHYLL_TEXT] <= SVERDHYLL_NONE;
-    for (int i = SVERDHYLL_COLUMN + 1; i < SVERDHYLL_ANSWER; i++) well &= n[i] == 0;
-    return (struct answer){well ? number : 99, (uint8_t)n[SVERDHYLL_TEXT], n[SVERDHYLL_PLACE], n[SVERDHYLL_SECOND], n[SVERDHYLL_UNITS],
-                           n[SVERDHYLL_END], n[SVERDHYLL_LINE], n[SVERDHYLL_COLUMN]};
+    for (int i = SVERDHYLL_WEIGHT; i < SVERDHYLL_ANSWER; i++) well &= n[i] == 0 || is_showing(number);
+    struct answer a = {well ? number : 99, (uint8_t)n[SVERDHYLL_TEXT], n[SVERDHYLL_PLACE], n[SVERDHYLL_SECOND], n[SVERDHYLL_UNITS],
+                       n[SVERDHYLL_END], n[SVERDHYLL_LINE], n[SVERDHYLL_COLUMN], {0}};
+    memcpy(a.weights, n + SVERDHYLL_WEIGHT, sizeof a.weights);
+    return a;
 }
 
 /* The same call by `sverdhyll_answer`. */
@@ -76,10 +84,18 @@ static inline int is_at(struct answer a, uint64_t end, uint64_t line, uint64_t c
     return a.end == end && a.line == line && a.column == column;
 }
 
+/* Whether the weights of an answer are those of the first two functions, and 0. */
+static inline int weighs(struct answer a, uint64_t first, uint64_t next)
+{
+    int well = a.weights[0] == first && a.weights[1] == next;
+    for (int k = 2; k < SVERDHYLL_MOST_FUNCTIONS; k++) well &= a.weights[k] == 0;
+    return well;
+}
+
 /* Whether the texts' own answer is that both pass. */
 static inline int passes(struct answer own)
 {
-    return is_answer(own, SVERDHYLL_ACCEPTED, SVERDHYLL_NONE, 0, 0, 0) && is_at(own, 0, 0, 0);
+    return is_answer(own, SVERDHYLL_ACCEPTED, SVERDHYLL_NONE, 0, 0, 0) && is_at(own, 0, 0, 0) && weighs(own, 0, 0);
 }
 
 /* Whether the texts' own answer agrees with that of `sverdhyll_answer` for points and an area of right sizes: it is the same where a text is refused, and else that

@@ -77,7 +77,7 @@ static void shows(const char *what, const char *script, const uint64_t *points, 
     const char *response = RESPONSE("(not x)");
     fill(4660);
     const struct answer a = asked(script, strlen(script), response, strlen(response), points, count, budget, area, SVERDHYLL_AREA);
-    expect(what, is_answer(a, wanted.number, wanted.text, wanted.place, wanted.second, wanted.units));
+    expect(what, is_answer(a, wanted.number, wanted.text, wanted.place, wanted.second, wanted.units) && weighs(a, 0, 0));
     expect(what, list_size(0) == 2 && area[0] == 1 && area[1] == 0 && list_size(1) == 0 && list_size(7) == 0 && behind_stays());
 }
 
@@ -123,13 +123,24 @@ static void points(void)
 {
     const char *script = SCRIPT(F V "(constraint (= (f v) (not v)))" "(constraint (not v))");
     const uint64_t good[3] = {0, 0, 0}, late[3] = {0, 0, 1}, bad[3] = {0, 1, 2};
-    shows("three points are accepted", script, good, 3, 100, (struct answer){SVERDHYLL_ACCEPTED, SVERDHYLL_NONE, 0, 3, 27, 0, 0, 0});
-    shows("no points are accepted", script, NULL, 0, 0, (struct answer){SVERDHYLL_ACCEPTED, SVERDHYLL_NONE, 0, 0, 0, 0, 0, 0});
-    shows("a false constraint is 14", script, late, 3, 100, (struct answer){SVERDHYLL_FALSE, SVERDHYLL_POINTS, 2, 1, 27, 0, 0, 0});
-    shows("a budget that ends is 15", script, good, 3, 26, (struct answer){SVERDHYLL_BUDGET_ENDED, SVERDHYLL_POINTS, 2, 1, 25, 0, 0, 0});
+    shows("three points are accepted", script, good, 3, 100, (struct answer){SVERDHYLL_ACCEPTED, SVERDHYLL_NONE, 0, 3, 27, 0, 0, 0, {0}});
+    shows("no points are accepted", script, NULL, 0, 0, (struct answer){SVERDHYLL_ACCEPTED, SVERDHYLL_NONE, 0, 0, 0, 0, 0, 0, {0}});
+    shows("a false constraint is 14", script, late, 3, 100, (struct answer){SVERDHYLL_FALSE, SVERDHYLL_POINTS, 2, 1, 27, 0, 0, 0, {0}});
+    shows("a budget that ends is 15", script, good, 3, 26, (struct answer){SVERDHYLL_BUDGET_ENDED, SVERDHYLL_POINTS, 2, 1, 25, 0, 0, 0, {0}});
     fill(4660);
     const struct answer a = asked(script, strlen(script), RESPONSE("x"), strlen(RESPONSE("x")), bad, 3, 100, area, SVERDHYLL_AREA);
     expect("a number outside its sort is 16", is_answer(a, SVERDHYLL_BAD_POINTS, SVERDHYLL_POINTS, 2, 0, 0) && is_blank() && behind_stays());
+}
+
+/* Of several derivations the least one is shown: with fewest rules, then with the least rule numbers at the first difference. */
+static void least(void)
+{
+    const char *response = RESPONSE("(not x)"), *tangled =
+        SCRIPT("(synth-fun f ((x Bool)) Bool ((A Bool) (B Bool)) ((A Bool (B (not B) (not A) (not B))) (B Bool (A (Variable Bool) x))))");
+    fill(4660);
+    const struct answer a = asked(tangled, strlen(tangled), response, strlen(response), NULL, 0, 0, area, SVERDHYLL_AREA);
+    expect("of several derivations the least", is_answer(a, SVERDHYLL_ACCEPTED, SVERDHYLL_NONE, 0, 1, 0) && weighs(a, 0, 0));
+    expect("its list", list_size(0) == 2 && area[0] == 1 && area[1] == 5 && list_size(1) == 0 && behind_stays());
 }
 
 /* Answer 1, and the areas that it leaves unchanged. */
@@ -181,6 +192,7 @@ int main(void)
     scripts();
     responses();
     points();
+    least();
     sizes();
     nothing();
     enquiries();

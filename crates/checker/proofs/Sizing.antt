@@ -10,8 +10,9 @@ use lib.Dec.{eqb}
 use lib.ListN.{length}
 use Rattle.forest.specs.Limits.{areaSize, mostNumbers, responseBytes, scriptBytes}
 use Rattle.outcome.specs.Checked.{Checked, judged, lengthAnswer, missized, refusal, sizeAnswer, texts-refused, unshown}
-use Rattle.outcome.specs.Derived.{blankArea}
+use Rattle.outcome.specs.Derived.{blankArea, noTotals}
 use Rattle.outcome.specs.declared.Outcome.{Outcome}
+use Rattle.outcome.specs.declared.Weighed.{Weighed}
 use Rattle.outcome.proofs.Areas.{blank-long, unshown-blank}
 use Rattle.outcome.proofs.Texts.{afterLengths, long-first, short-left}
 use Rattle.script.specs.code.Answers.{longAnswer}
@@ -88,10 +89,15 @@ module _ {script response points : List ℕ} {size : ℕ} {t : Outcome} (lengths
             sized = λ zero. h;
           }
 
+-- an answer after which no list is shown
+pub weighed-as : {script response points area after : List ℕ} {budget : ℕ} {r : Outcome} {w : Weighed} → w ≡ record { outcome = r; totals = noTotals }
+    → Checked script response points budget area r after noTotals → Checked script response points budget area (w .outcome) after (w .totals)
+weighed-as e checked = rw e checked
+
 -- of two areas of right size the answer is the same
-pub checked-same : {script response points area other after : List ℕ} {budget : ℕ} {r : Outcome} → sizeAnswer script response points area ≡ nothing
-    → sizeAnswer script response points other ≡ nothing → Checked script response points budget area r after
-    → Checked script response points budget other r after
+pub checked-same : {script response points area other after weights : List ℕ} {budget : ℕ} {r : Outcome} → sizeAnswer script response points area ≡ nothing
+    → sizeAnswer script response points other ≡ nothing → Checked script response points budget area r after weights
+    → Checked script response points budget other r after weights
 checked-same sized right (missized e) = let z : _≡_ {A = ℕ} 0 1 = cc in absurd (omega arith)
 checked-same sized right (texts-refused z t) = texts-refused right t
 checked-same sized right (judged p v) = judged (record { sized = right; says = p .says; gives = p .gives }) v
@@ -99,9 +105,11 @@ checked-same sized right (judged p v) = judged (record { sized = right; says = p
 module _ {script response points after : List ℕ} {r : Outcome} (area : List ℕ) (told : SizesTold script response points (length area) r)
     (blanked : after ≡ unshown area) where
   -- a size is not right
-  pub size-refused : {budget : ℕ} → (r .number ≡ 0 → ⊥) → Checked script response points budget area r after
-  size-refused {budget} refused =
-      subst (λ (shown : List ℕ). Checked script response points budget area r shown) (sym blanked) (missized (told .refused refused area refl))
+  pub size-refused : {budget : ℕ} {w : Weighed} → (r .number ≡ 0 → ⊥) → w ≡ record { outcome = r; totals = noTotals }
+      → Checked script response points budget area (w .outcome) after (w .totals)
+  size-refused {budget} refused e =
+      weighed-as e
+      (subst (λ (shown : List ℕ). Checked script response points budget area r shown noTotals) (sym blanked) (missized (told .refused refused area refl)))
 
   module _ (zero : r .number ≡ 0) where
     -- every size is right
@@ -112,6 +120,6 @@ module _ {script response points after : List ℕ} {r : Outcome} (area : List �
         record { sized = told .passes zero after (omega (arith, long, told .sized zero)); blank = blank }
 
     -- and the texts are judged
-    pub texts-judged : {o : Outcome} {last : List ℕ} {budget : ℕ} → Checked script response points budget after o last
-        → Checked script response points budget area o last
+    pub texts-judged : {o : Outcome} {last weights : List ℕ} {budget : ℕ} → Checked script response points budget after o last weights
+        → Checked script response points budget area o last weights
     texts-judged checked = checked-same (sizes-right .sized) (told .passes zero area refl) checked

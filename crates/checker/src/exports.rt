@@ -9,7 +9,7 @@ ghost use mathlib.Core.Path.{_≡_};
 ghost use lib.ListN.{length};
 ghost use Rattle.words.specs.Words.{enquired};
 ghost use Rattle.words.specs.Positions.{Positioned};
-ghost use Rattle.outcome.specs.Checked.{Checked};
+ghost use Rattle.outcome.specs.Checked.{Answered};
 ghost use Rattle.outcome.specs.Located.{AnswerForC, TextsAnswerForC, answerNumbers};
 
 // `check` for C: returns the answer's number and puts its text, its place, its second number and its units where the caller lends room for them.
@@ -25,7 +25,7 @@ pub extern "C" fn sverdhyll_check(
     second: &mut u64,
     units: &mut u64,
 ) -> u8
-    ensures { λ r. ⌜ Checked (now (script .entry)) (now (response .entry)) (now (points .entry)) budget (now (shown .entry))
+    ensures { λ r. ⌜ Answered (now (script .entry)) (now (response .entry)) (now (points .entry)) budget (now (shown .entry))
         (record { number = r; text = now (text .exit); place = now (place .exit); second = now (second .exit); units = now (units .exit) })
         (now (shown .exit)) ⌝ }
 {
@@ -52,6 +52,7 @@ fn write_answer(found: Answer, numbers: &mut [u64; 16])
 {
     let outcome = found.outcome;
     let location = found.location;
+    let totals = found.totals;
     *numbers = [
         outcome.number as u64,
         outcome.text as u64,
@@ -61,14 +62,14 @@ fn write_answer(found: Answer, numbers: &mut [u64; 16])
         location.end as u64,
         location.line as u64,
         location.column as u64,
-        0,
-        0,
-        0,
-        0,
-        0,
-        0,
-        0,
-        0,
+        totals[0],
+        totals[1],
+        totals[2],
+        totals[3],
+        totals[4],
+        totals[5],
+        totals[6],
+        totals[7],
     ];
 }
 

@@ -8,6 +8,8 @@ use both_texts::tables::node_room;
 use both_texts::tables::short_forms;
 use both_texts::tables::short_nodes;
 use outcome::Outcome;
+use outcome::Weighed;
+use outcome::unweighed;
 use script::Progress;
 use script::answers::ACCEPTED;
 use script::answers::POINTS;
@@ -51,10 +53,11 @@ fn judge_in(
     shown: &mut [u16],
     nodes: &mut [u64],
     forms: &mut [u64],
-) -> Outcome
+) -> Weighed
     requires { ⌜ Judging (now script) (now response) (now points) (now shown) ⌝ }
     requires { ⌜ Rooms responseLimits (now script) (now response) (now nodes) (now forms) ⌝ }
-    ensures { λ r. ⌜ Checked (now (script .entry)) (now (response .entry)) (now (points .entry)) budget (now (shown .entry)) r (now (shown .exit)) ⌝ }
+    ensures { λ r. ⌜ Checked (now (script .entry)) (now (response .entry)) (now (points .entry)) budget (now (shown .entry))
+        (r .outcome) (now (shown .exit)) (r .totals) ⌝ }
 {
     let mut names = no_names();
     let mut places = no_places();
@@ -69,10 +72,19 @@ fn judge_in(
         forms,
         shown,
     );
-    if told.outcome.number != ACCEPTED {
-        return told.outcome;
+    let weighed = told.weighed;
+    if weighed.outcome.number != ACCEPTED {
+        return weighed;
     }
-    judge_points(&names, &places, nodes, told.progress, points, budget, shown)
+    let found = judge_points(&names, &places, nodes, told.progress, points, budget, shown);
+    if found.number == POINTS {
+        return unweighed(found);
+    }
+    let totals = weighed.totals;
+    Weighed {
+        outcome: found,
+        totals,
+    }
 }
 
 // The answer for texts, points and an area of right sizes, where the area shows nothing; short texts are judged in small tables.
@@ -82,9 +94,10 @@ pub fn judge_texts(
     points: &[u64],
     budget: u64,
     shown: &mut [u16],
-) -> Outcome
+) -> Weighed
     requires { ⌜ Judging (now script) (now response) (now points) (now shown) ⌝ }
-    ensures { λ r. ⌜ Checked (now (script .entry)) (now (response .entry)) (now (points .entry)) budget (now (shown .entry)) r (now (shown .exit)) ⌝ }
+    ensures { λ r. ⌜ Checked (now (script .entry)) (now (response .entry)) (now (points .entry)) budget (now (shown .entry))
+        (r .outcome) (now (shown .exit)) (r .totals) ⌝ }
 {
     if (script.len() <= SHORT_SCRIPT) & (response.len() <= SHORT_RESPONSE) {
         let mut nodes = short_nodes();

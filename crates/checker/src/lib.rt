@@ -13,11 +13,27 @@ use crate::sizes::size_answer;
 use accepting::area::blank_area;
 use outcome::Answer;
 use outcome::Outcome;
+use outcome::Weighed;
+use outcome::no_totals;
+use outcome::unweighed;
 use script::answers::ACCEPTED;
-ghost use Rattle.outcome.specs.Checked.{Checked};
+ghost use Rattle.outcome.specs.Checked.{Answered, Checked};
 ghost use Rattle.outcome.specs.Located.{AnswerGiven, TextsAnswerGiven};
 
-// The answer for any texts, points and budget; the area shows the derivations after 0, 14 and 15.
+// The answer for any texts, points and budget, with the totals; the area shows the derivations after 0, 14 and 15.
+fn weigh(script: &[u8], response: &[u8], points: &[u64], budget: u64, shown: &mut [u16]) -> Weighed
+    ensures { λ r. ⌜ Checked (now (script .entry)) (now (response .entry)) (now (points .entry)) budget (now (shown .entry))
+        (r .outcome) (now (shown .exit)) (r .totals) ⌝ }
+{
+    let size = size_answer(script, response, points, shown.len());
+    blank_area(shown);
+    if size.number != ACCEPTED {
+        return unweighed(size);
+    }
+    judge_texts(script, response, points, budget, shown)
+}
+
+// The same answer without the totals.
 pub fn check(
     script: &[u8],
     response: &[u8],
@@ -25,17 +41,13 @@ pub fn check(
     budget: u64,
     shown: &mut [u16],
 ) -> Outcome
-    ensures { λ r. ⌜ Checked (now (script .entry)) (now (response .entry)) (now (points .entry)) budget (now (shown .entry)) r (now (shown .exit)) ⌝ }
+    ensures { λ r. ⌜ Answered (now (script .entry)) (now (response .entry)) (now (points .entry)) budget (now (shown .entry)) r (now (shown .exit)) ⌝ }
 {
-    let size = size_answer(script, response, points, shown.len());
-    blank_area(shown);
-    if size.number != ACCEPTED {
-        return size;
-    }
-    judge_texts(script, response, points, budget, shown)
+    let weighed = weigh(script, response, points, budget, shown);
+    weighed.outcome
 }
 
-// The same answer with the end of the word at its place, and the place's line and column; zeros where it carries none.
+// The same answer with the end of the word at its place, and the place's line and column, zeros where it carries none; and with the totals.
 pub fn answer(
     script: &[u8],
     response: &[u8],
@@ -45,10 +57,13 @@ pub fn answer(
 ) -> Answer
     ensures { λ r. ⌜ AnswerGiven (now (script .entry)) (now (response .entry)) (now (points .entry)) budget (now (shown .entry)) r (now (shown .exit)) ⌝ }
 {
-    let outcome = check(script, response, points, budget, shown);
+    let found = weigh(script, response, points, budget, shown);
+    let outcome = found.outcome;
+    let totals = found.totals;
     Answer {
         outcome,
         location: locate(script, response, outcome),
+        totals,
     }
 }
 
@@ -60,5 +75,6 @@ pub fn read(script: &[u8], response: &[u8]) -> Answer
     Answer {
         outcome: told,
         location: locate(script, response, told),
+        totals: no_totals(),
     }
 }

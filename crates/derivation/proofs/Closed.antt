@@ -1,29 +1,37 @@
--- A set to which no rule can add is the set of all that derive; and the choices lead to a derivation.
-use Rattle.forest.specs.Limits.{mostNonTerminals}
-use mathlib.Core.Path.{_≡_, refl, ap, _∙_, subst}
-use mathlib.Core.Path as path
-use Prim.Native.Nat.{ℕ, suc, _-_, _<_, _≤_, _%_, _^_}
+-- A set to which no rule can add is the set of all that derive; the rule of the least price begins the least list, and the choices lead to it.
+use mathlib.Core.Path.{_≡_, refl, ap, _∙_, subst, sym}
+use mathlib.Core.Logic.{inr}
+use Prim.Native.Nat.{ℕ, suc, _-_, _<_, _≤_, _%_, _^_, _+_, _*_, _/_}
 use native.Mathlib.Nat.{zero-div}
 use native.Mathlib.Omega.{arith}
 use native.Mathlib.Decide.{ℕ-discrete}
 use lib.Dec.{eqb}
-use mathlib.Core.Bool.{true, false, true≢false}
-use mathlib.Core.List.{List}
+use mathlib.Core.Bool.{true, false, true≢false, Bool}
+use mathlib.Core.List.{List, _∷_, _++_, append-nil}
 use lib.ListN.{length, getD, set}
 use lib.Seq.{getD-set-same, getD-set-other}
 use Rattle.forest.specs.Forest.{Forest, none, tree, count}
-use Rattle.forest.specs.code.Cursors.{from, first}
 use Rattle.forest.proofs.Laws.{Tree, tree-at, count-zero}
 use Rattle.terms.specs.Labels.{Terms}
-use Rattle.derivation.specs.Derivation.{Item, headOf, formOf, Derives, Grammar}
+use Rattle.derivation.specs.Derivation.{Item, headOf, formOf, Derives, Grammar, the, nonTerminal, anyArgument, anyLiteral, use-rule, done, leaf, same}
 use Rattle.derivation.specs.code.Admitted.{Proper}
-use Rattle.derivation.specs.Derivation.Item.{the, nonTerminal, anyArgument, anyLiteral}
-use Rattle.derivation.specs.Derivation.Derives.{use-rule, done, leaf, same}
-use Rattle.derivation.specs.code.Masks.{has, Puts}
-use Rattle.derivation.specs.code.Search.{NoChain, Fits, DerivesAt, Asks, Chain, stop, more}
-use Rattle.derivation.specs.code.Matching.{Applies, chain, no-chain}
+use Rattle.terms.specs.code.Nodes.{valueAt}
+use Rattle.derivation.specs.Least.{First, Least}
+use Rattle.derivation.specs.code.Search.{NoChain, Fits, DerivesAt, Asks, Chain, stop, more, Best}
+use Rattle.derivation.proofs.Order.{before-more, first-cons, first-trans, light-all}
+use Rattle.derivation.proofs.Rank.{better-first, rank-bound, rank-cons}
+use Rattle.derivation.proofs.LeastParts.{best}
+use Rattle.derivation.proofs.Parts.{tree-ends, tree-some}
+use Rattle.derivation.proofs.Uses.{chain-code, chain-view, head-is, no-chain-view, rules-count, weight-is}
 use Rattle.derivation.proofs.Likeness.{any-not-hole}
-use Rattle.derivation.proofs.Count.{cnt, cnt-grow}
+use Rattle.derivation.proofs.Count.{cnt, cnt-grow, cnt-le}
+use Rattle.forest.specs.Limits.{mostNonTerminals}
+use Rattle.forest.specs.code.Cursors.{from, first, size}
+use Rattle.derivation.specs.code.Masks.{has, Puts, markWidth}
+use Rattle.derivation.specs.code.Filling.{Applies, chain, no-chain, Chooses, Price, Priced, Worse, chained, known, not-yet, plain, dearer, later, nothing}
+use Rattle.derivation.specs.code.Rules.{startAt, ruleWidth}
+use Rattle.derivation.specs.code.Ranks.{Ranked, Through, most, perWeight}
+use Rattle.derivation.proofs.Meta.{empty}
 
 pub has-zero : (A : ℕ) → has 0 A ≡ false
 unfolding has
@@ -72,6 +80,10 @@ module _ {rules forms body masks : List ℕ} {i : ℕ} (q : Asks rules forms bod
   unfolding Fits
   to-fits P c ds d = (ds, rw (c, first-one) d)
 
+  first-fits : (P : Forest Item) → count P ≡ 1 → (ds : List ℕ) → D P (first 1 T) ds → Fits G P T
+  unfolding Fits
+  first-fits P c ds d = (ds, rw c d)
+
   pub of-fits : (P : Forest Item) → count P ≡ 1 → Fits G P T → (ds : List ℕ) × D P (tree (here .l) (here .ops) none) ds
   unfolding Fits
   of-fits P c f = rw (c, first-one) at f
@@ -88,7 +100,7 @@ module _ {rules forms body masks : List ℕ} {i : ℕ} (q : Asks rules forms bod
   closed-all s cl (use-rule {A = A'} {l = l'} {ts = ts} {ds = ds} r h eA d d2) A e u =
       let eAA : A' ≡ A = cc in
       let eu : tree l' ts none ≡ tree (here .l) (here .ops) none = cc in
-      ap (has s) (path.sym (eA ∙ eAA))
+      ap (has s) (sym (eA ∙ eAA))
       ∙ finish s cl r h (kind (formOf (G .rules) r) (q .given .admitted .proper r h) (q .given .admitted .single r h)) ds
       (subst (λ (x : Terms). D (formOf (G .rules) r) x ds) eu d)
       (λ B eB. closed-all s cl d B eB eu)
@@ -101,17 +113,17 @@ module _ {rules forms body masks : List ℕ} {i : ℕ} (q : Asks rules forms bod
 
   tree-at′ : (A : ℕ) → (ds : List ℕ) × D (tree (nonTerminal A) none none) (tree (here .l) (here .ops) none) ds → DerivesAt G A T
   unfolding DerivesAt
-  tree-at′ A d = subst (DerivesAt G A) (path.sym (here .is)) d
+  tree-at′ A d = subst (DerivesAt G A) (sym (here .is)) d
 
   pub complete : (s : ℕ) → Closed s → (A : ℕ) → DerivesAt G A T → has s A ≡ true
   complete s cl A d = closed-all s cl (at-tree A d .1) A refl refl
 
   chain-some : {s : ℕ} {chosen : List ℕ} {A k : ℕ} → Chain G T s chosen A k
       → (ds : List ℕ) × D (tree (nonTerminal A) none none) (tree (here .l) (here .ops) none) ds
-  chain-some {chosen = chosen} {A = A} (stop y! lt hd np f) =
+  chain-some {chosen = chosen} {A = A} (stop y! lt hd np f be) =
       let d = of-fits (formOf (G .rules) (getD chosen A 0)) (q .given .admitted .single (getD chosen A 0) lt) f in
       (_, use-rule (getD chosen A 0) lt hd (d .1) done)
-  chain-some {chosen = chosen} {A = A} (more B y! lt hd is c) =
+  chain-some {chosen = chosen} {A = A} (more B y! lt hd is be c) =
       let d = chain-some c in
       let d2 : D (formOf (G .rules) (getD chosen A 0)) (tree (here .l) (here .ops) none) (d .0) = rw is (d .1) in
       (_, use-rule (getD chosen A 0) lt hd d2 done)
@@ -121,51 +133,219 @@ module _ {rules forms body masks : List ℕ} {i : ℕ} (q : Asks rules forms bod
 
   -- a choice for a non-terminal that was not in the set leaves the others as they are
   chain-keep : {s : ℕ} {chosen : List ℕ} {A k : ℕ} (x r s' : ℕ) → has s x ≡ false → Puts s x s' → Chain G T s chosen A k → Chain G T s' (set chosen x r) A k
-  chain-keep {s} {chosen} {A = A} x r s' f p (stop y! lt hd np fi) =
-      let ne : A ≡ x → ⊥ = λ e. true≢false (path.sym y! ∙ ap (has s) e ∙ f) in
+  chain-keep {s} {chosen} {A = A} x r s' f p (stop y! lt hd np fi be) =
+      let ne : A ≡ x → ⊥ = λ e. true≢false (sym y! ∙ ap (has s) e ∙ f) in
       let g : getD (set chosen x r) A 0 ≡ getD chosen A 0 = getD-set-other chosen x A r 0 ne in
-      stop (p .off A ne ∙ y!) (rw g lt) (ap (headOf (G .rules)) g ∙ hd) (rw g np) (rw g fi)
-  chain-keep {s} {chosen} {A = A} x r s' f p (more B y! lt hd is c) =
-      let ne : A ≡ x → ⊥ = λ e. true≢false (path.sym y! ∙ ap (has s) e ∙ f) in
+      stop (p .off A ne ∙ y!) (rw g lt) (ap (headOf (G .rules)) g ∙ hd) (rw g np) (rw g fi) (rw g be)
+  chain-keep {s} {chosen} {A = A} x r s' f p (more B y! lt hd is be c) =
+      let ne : A ≡ x → ⊥ = λ e. true≢false (sym y! ∙ ap (has s) e ∙ f) in
       let g : getD (set chosen x r) A 0 ≡ getD chosen A 0 = getD-set-other chosen x A r 0 ne in
-      more B (p .off A ne ∙ y!) (rw g lt) (ap (headOf (G .rules)) g ∙ hd) (ap (formOf (G .rules)) g ∙ is) (chain-keep x r s' f p c)
+      more B (p .off A ne ∙ y!) (rw g lt) (ap (headOf (G .rules)) g ∙ hd) (ap (formOf (G .rules)) g ∙ is) (rw g be) (chain-keep x r s' f p c)
 
-  -- every member of s has its choices
-  abbrev pub Chosen : List ℕ → ℕ → Type 0
-  Chosen chosen s = (A : ℕ) → A < mostNonTerminals → has s A ≡ true → (k : ℕ) × Chain G T s chosen A k × (k ≤ cnt (has s) mostNonTerminals)
+  -- how many rules the least list of a member may have, where s is known
+  abbrev pub roomy : ℕ → ℕ
+  roomy s = mostNonTerminals * size (first 1 T) - mostNonTerminals + cnt (has s) mostNonTerminals
+
+  -- every member of s has its choices and its rank
+  abbrev pub Chosen : (row chosen : List ℕ) → ℕ → Type 0
+  Chosen row chosen s = (A : ℕ) → A < mostNonTerminals → has s A ≡ true
+      → (k : ℕ) × Chain G T s chosen A k × (k ≤ cnt (has s) mostNonTerminals) × Ranked G (tree (nonTerminal A) none none) (first 1 T) (roomy s) (getD row A 0)
 
   pub grows : (s r s' : ℕ) → r < length (G .rules) → has s (headOf (G .rules) r) ≡ false → Puts s (headOf (G .rules) r) s' → cnt (has s) mostNonTerminals < cnt (has s') mostNonTerminals
   grows s r s' h f p =
-      cnt-grow (has s) (has s') mostNonTerminals (headOf (G .rules) r) (λ j l t. p .off j (λ e. true≢false (path.sym t ∙ ap (has s) e ∙ f)) ∙ t)
+      cnt-grow (has s) (has s') mostNonTerminals (headOf (G .rules) r) (λ j l t. p .off j (λ e. true≢false (sym t ∙ ap (has s) e ∙ f)) ∙ t)
       (q .given .admitted .low r h) f (p .on)
 
   -- the rule that was set is the one chosen
   now-chosen : (chosen : List ℕ) (r : ℕ) → length chosen ≡ mostNonTerminals → r < length (G .rules) → getD (set chosen (headOf (G .rules) r) r) (headOf (G .rules) r) 0 ≡ r
   now-chosen chosen r lc h = getD-set-same chosen (headOf (G .rules) r) r 0 (omega (arith, q .given .admitted .low r h))
 
-  new-chain : (chosen : List ℕ) (s r s' : ℕ) → length chosen ≡ mostNonTerminals → r < length (G .rules) → Chosen chosen s → has s (headOf (G .rules) r) ≡ false
-      → Puts s (headOf (G .rules) r) s' → Applies G T s r
-      → (k : ℕ) × Chain G T s' (set chosen (headOf (G .rules) r) r) (headOf (G .rules) r) k × (k ≤ cnt (has s') mostNonTerminals)
-  new-chain chosen s r s' lc h c f p (chain B is y!) =
-      let g = now-chosen chosen r lc h in
-      let b = c B (low-of B is) y! in (
-        suc (b .0),
-        more B (p .on) (rw g h) (ap (headOf (G .rules)) g) (ap (formOf (G .rules)) g ∙ is) (chain-keep (headOf (G .rules) r) r s' f p (b .1)),
-        omega (arith, b .2, grows s r s' h f p),
-      )
-    where
-      low-of : (B : ℕ) → formOf (G .rules) r ≡ tree (nonTerminal B) none none → B < mostNonTerminals
-      low-of B is = low-proper B (subst (Proper mostNonTerminals) is (q .given .admitted .proper r h))
-  new-chain chosen s r s' lc h c f p (no-chain np fi) =
-      let g = now-chosen chosen r lc h in
-      (1, stop (p .on) (rw g h) (ap (headOf (G .rules)) g) (rw g np) (rw g fi), omega (arith, grows s r s' h f p))
+  -- what a rule with a price leads to
+  pub record Leads (s r c : ℕ) : Type 0 where
+    pub through : Through G (first 1 T) r (roomy s + 1) c
+    pub applies : Applies G T s r
+    pub fresh : has s (headOf (G .rules) r) ≡ false
 
-  pub chosen-step : (chosen : List ℕ) (s r s' : ℕ) → length chosen ≡ mostNonTerminals → r < length (G .rules) → Chosen chosen s → has s (headOf (G .rules) r) ≡ false
-      → Puts s (headOf (G .rules) r) s' → Applies G T s r → Chosen (set chosen (headOf (G .rules) r) r) s'
-  chosen-step chosen s r s' lc h c f p ap! A l t = go (ℕ-discrete A (headOf (G .rules) r))
-    where
-      go : Dec (A ≡ headOf (G .rules) r) → (k : ℕ) × Chain G T s' (set chosen (headOf (G .rules) r) r) A k × (k ≤ cnt (has s') mostNonTerminals)
-      go (yes e) = rw e (new-chain chosen s r s' lc h c f p ap!)
-      go (no e) =
-          let o = c A l (path.sym (p .off A e) ∙ t) in
-          (o .0, chain-keep (headOf (G .rules) r) r s' f p (o .1), omega (arith, o .2, grows s r s' h f p))
+  -- a whole list of the non-terminal of a rule
+  whole : (r : ℕ) → r < length (G .rules) → (ds : List ℕ) → D (formOf (G .rules) r) (first 1 T) ds
+      → D (tree (nonTerminal (headOf (G .rules) r)) none none) (first 1 T) (r ∷ ds)
+  whole r h ds d =
+      let d2 : D (formOf (G .rules) r) (tree (here .l) (here .ops) none) ds = rw first-one at d in
+      rw first-one (subst (λ (x : List ℕ). D (tree (nonTerminal (headOf (G .rules) r)) none none) (tree (here .l) (here .ops) none) (r ∷ x)) (append-nil ds)
+      (use-rule r h refl d2 done))
+
+  -- at the end a list has at most 16 rules for each node of the tree
+  pub full : (s : ℕ) → roomy s ≤ mostNonTerminals * size (first 1 T)
+  full s = omega (arith, tree-some q, cnt-le (has s) mostNonTerminals)
+
+  pub small-room : (s : ℕ) → roomy s ≤ 4096
+  small-room s = omega (arith, tree-ends q, tree-some q, q .small, cnt-le (has s) mostNonTerminals)
+
+  module _ {costs row chosen : List ℕ} {s : ℕ} (pr : Priced rules forms body masks i (length rules / ruleWidth) costs) (me : Chosen row chosen s) where
+    pub leads : (r c : ℕ) → r < length (G .rules) → Price rules forms costs row s r c → (c ≡ 0 → ⊥) → Leads s r c
+    leads r c h (known t e) nz = absurd (nz e)
+    leads r c h (not-yet f k n e) nz = absurd (nz e)
+    leads r c h (plain f k e) nz =
+        let np = no-chain-view q r h k in
+        let m = pr .each r (omega (arith, rules-count q)) k in
+        let t = m .sound (record { asks = q; is-rule = h; no-chain = np }) (λ z. nz (e ∙ z)) in
+        let fi : Fits G (formOf (G .rules) r) T = first-fits (formOf (G .rules) r) (q .given .admitted .single r h) (t .ds) (t .least .derivation) in
+        record {
+          through = record { ds = t .ds; least = t .least; rank = e ∙ t .rank; few = omega (arith, t .few, tree-some q) };
+          applies = no-chain np fi;
+          fresh = ap (has s) (sym (head-is q r h)) ∙ f;
+        }
+    leads r c h (chained f k y! e) nz =
+        let v = chain-view q r h k in
+        let hb : has s (v .B) ≡ true = ap (has s) (sym (v .value)) ∙ y! in
+        let o = me (v .B) (v .low) hb .3 in
+        let er : getD row (valueAt forms (startAt rules r)) 0 ≡ getD row (v .B) 0 = ap (λ (x : ℕ). getD row x 0) (v .value) in
+        record {
+          through = record {
+            ds = o .ds;
+            least = subst (λ (x : Forest Item). Least G x (first 1 T) (o .ds)) (sym (v .is)) (o .least);
+            rank = omega (arith, e, er, o .rank, rank-cons G r (o .ds), weight-is q r h);
+            few = omega (arith, o .few);
+          };
+          applies = chain (v .B) (v .is) hb;
+          fresh = ap (has s) (sym (head-is q r h)) ∙ f;
+        }
+
+    -- a rule that can be used has a price
+    pub offers : (r c : ℕ) → r < length (G .rules) → Price rules forms costs row s r c → has s (headOf (G .rules) r) ≡ false → Applies G T s r → c ≡ 0 → ⊥
+    offers r c h (known t e) fr ap! z = true≢false (sym t ∙ ap (has s) (head-is q r h) ∙ fr)
+    offers r c h (plain f k e) fr (chain B is y!) z = k (chain-code q r h B is)
+    offers r c h (plain f k e) fr (no-chain np fi) z =
+        pr .each r (omega (arith, rules-count q)) k .complete (record { asks = q; is-rule = h; no-chain = np }) (sym e ∙ z) fi
+    offers r c h (not-yet f k n e) fr (chain B is y!) z =
+        let v = chain-view q r h k in
+        let eB : v .B ≡ B = cc (v .is) in
+        true≢false (sym y! ∙ ap (has s) (sym eB ∙ sym (v .value)) ∙ n)
+    offers r c h (not-yet f k n e) fr (no-chain np fi) z = let v = chain-view q r h k in np (v .B) none none (v .is)
+    offers r c h (chained f k y! e) fr ap! z = omega arith
+
+    -- with no price left nothing can be added
+    pub closed : (r : ℕ) → Chooses rules forms costs row s (length rules / ruleWidth) r 0 → Closed s
+    closed r ch k h a = go (has s (headOf (G .rules) k)) refl
+      where
+        go : (b : Bool) → has s (headOf (G .rules) k) ≡ b → has s (headOf (G .rules) k) ≡ true
+        go true e = e
+        go false e =
+            let o = ch .all k (omega (arith, rules-count q)) in
+            absurd (offers k (o .0) h (o .1) e a (zero-of (o .2)))
+          where
+            zero-of : {x : ℕ} → Worse 0 r x k → x ≡ 0
+            zero-of (nothing z) = z
+            zero-of (dearer n l) = absurd (n refl)
+            zero-of (later n z l) = absurd (n refl)
+
+    module _ (r c : ℕ) (h : r < length (G .rules)) (ch : Chooses rules forms costs row s (length rules / ruleWidth) r c) (nz : c ≡ 0 → ⊥) where
+      abbrev led : Leads s r c
+      led = leads r c h (ch .is nz .1) nz
+
+      -- the list that the chosen rule leads to goes before what any rule that can be used leads to
+      offered : (k : ℕ) → k < length (G .rules) → has s (headOf (G .rules) k) ≡ false → Applies G T s k → (ds : List ℕ)
+          → D (formOf (G .rules) k) (first 1 T) ds → First G (r ∷ led .through .ds) (k ∷ ds)
+      offered k hk fr a ds d =
+          let o = ch .all k (omega (arith, rules-count q)) in
+          let nx = offers k (o .0) hk (o .1) fr a in
+          let l = leads k (o .0) hk (o .1) nx in
+          let small : roomy s + 1 < perWeight = omega (arith, small-room s) in
+          first-trans G (better-first G (led .through) (l .through) small small nx (o .2)) (first-cons G k (l .through .least .least ds d))
+
+      -- and before all lists of non-terminals that are not known
+      below : {P : Forest Item} {U : Terms} {ds : List ℕ} → D P U ds → (A : ℕ) → P ≡ tree (nonTerminal A) none none
+          → U ≡ tree (here .l) (here .ops) none → has s A ≡ false → First G (r ∷ led .through .ds) ds
+      below done A e u fr = let z : _≡_ {A = ℕ} 0 1 = cc in absurd (omega arith)
+      below (use-rule {A = A'} {ps = ps} {l = l'} {ts = ts} {us = us} {ds = ds} {es = es} k hk eA d d2) A e u fr =
+          let eAA : A' ≡ A = cc in
+          let eP : ps ≡ none = cc in
+          let eU : us ≡ none = cc in
+          let eu : tree l' ts none ≡ tree (here .l) (here .ops) none = cc in
+          let d3 : D none none es = subst (λ (x : Terms). D none x es) eU (subst (λ (x : Forest Item). D x us es) eP d2) in
+          let z : ds ++ es ≡ ds = ap (λ (x : List ℕ). ds ++ x) (empty G d3) ∙ append-nil ds in
+          let dk : D (formOf (G .rules) k) (tree (here .l) (here .ops) none) ds = subst (λ (x : Terms). D (formOf (G .rules) k) x ds) eu d in
+          subst (λ (x : List ℕ). First G (r ∷ led .through .ds) (k ∷ x)) (sym z)
+          (go k hk (ap (has s) (eA ∙ eAA) ∙ fr) ds dk (kind (formOf (G .rules) k) (q .given .admitted .proper k hk) (q .given .admitted .single k hk))
+          (λ B eB fB. below d B eB eu fB))
+        where
+          go : (k : ℕ) → k < length (G .rules) → has s (headOf (G .rules) k) ≡ false → (ds : List ℕ)
+              → D (formOf (G .rules) k) (tree (here .l) (here .ops) none) ds → Kind (formOf (G .rules) k)
+              → ((B : ℕ) → formOf (G .rules) k ≡ tree (nonTerminal B) none none → has s B ≡ false → First G (r ∷ led .through .ds) ds)
+              → First G (r ∷ led .through .ds) (k ∷ ds)
+          go k hk fk ds dk (is-no-chain np) rec =
+              offered k hk fk (no-chain np (to-fits (formOf (G .rules) k) (q .given .admitted .single k hk) ds dk)) ds (rw first-one dk)
+          go k hk fk ds dk (is-chain B eB) rec = pick (has s B) refl
+            where
+              pick : (b : Bool) → has s B ≡ b → First G (r ∷ led .through .ds) (k ∷ ds)
+              pick true t = offered k hk fk (chain B eB t) ds (rw first-one dk)
+              pick false t = first-trans G (rec B eB t) (inr (before-more G k ds))
+      below (leaf {i = o} a d) A e u fr = let z : o ≡ nonTerminal A = cc in absurd (any-not-hole a A z)
+      below (same e2 d d2) A e u fr = let z : _≡_ {A = ℕ} 0 1 = cc in absurd (omega arith)
+
+      -- so it is the least of its non-terminal
+      pub chosen-least : Least G (tree (nonTerminal (headOf (G .rules) r)) none none) (first 1 T) (r ∷ led .through .ds)
+      chosen-least = record {
+        derivation = whole r h (led .through .ds) (led .through .least .derivation);
+        least = λ es d. below d (headOf (G .rules) r) refl first-one (led .fresh);
+      }
+
+      pub rank-small : c ≤ most
+      rank-small =
+          omega (arith, led .through .rank, led .through .few, small-room s, rank-bound G (light-all (q .given .admitted)) (r ∷ led .through .ds))
+
+      module _ {s' : ℕ} (p : Puts s (headOf (G .rules) r) s') (lc : length chosen ≡ mostNonTerminals) (lr : length row ≡ markWidth) where
+        abbrev head : ℕ
+        head = headOf (G .rules) r
+
+        abbrev row' : List ℕ
+        row' = set row (headOf (G .rules) r) c
+
+        abbrev chosen' : List ℕ
+        chosen' = set chosen (headOf (G .rules) r) r
+
+        new-chain : Applies G T s r → (k : ℕ) × Chain G T s' chosen' head k × (k ≤ cnt (has s') mostNonTerminals)
+        new-chain a = go a
+          where
+            g : getD chosen' head 0 ≡ r
+            g = now-chosen chosen r lc h
+
+            low-of : (B : ℕ) → formOf (G .rules) r ≡ tree (nonTerminal B) none none → B < mostNonTerminals
+            low-of B is = low-proper B (subst (Proper mostNonTerminals) is (q .given .admitted .proper r h))
+
+            be : Best G T head r
+            be = best G T head r (led .through .ds) (led .through .least) chosen-least
+
+            go : Applies G T s r → (k : ℕ) × Chain G T s' chosen' head k × (k ≤ cnt (has s') mostNonTerminals)
+            go (chain B is y!) =
+                let b = me B (low-of B is) y! in (
+                  suc (b .0),
+                  more B (p .on) (rw g h) (ap (headOf (G .rules)) g) (ap (formOf (G .rules)) g ∙ is) (rw g be) (chain-keep head r s' (led .fresh) p (b .1)),
+                  omega (arith, b .2, grows s r s' h (led .fresh) p),
+                )
+            go (no-chain np fi) = (1, stop (p .on) (rw g h) (ap (headOf (G .rules)) g) (rw g np) (rw g fi) (rw g be), omega (arith, grows s r s' h (led .fresh) p))
+
+        new-rank : Ranked G (tree (nonTerminal head) none none) (first 1 T) (roomy s') (getD row' head 0)
+        new-rank = record {
+          ds = r ∷ led .through .ds;
+          least = chosen-least;
+          rank = getD-set-same row head c 0 (omega (arith, lr, q .given .admitted .low r h)) ∙ led .through .rank;
+          few = omega (arith, led .through .few, grows s r s' h (led .fresh) p);
+        }
+
+        pub chosen-step : Chosen row' chosen' s'
+        chosen-step A l t = go (ℕ-discrete A head)
+          where
+            go : Dec (A ≡ head)
+                → (k : ℕ) × Chain G T s' chosen' A k × (k ≤ cnt (has s') mostNonTerminals)
+                × Ranked G (tree (nonTerminal A) none none) (first 1 T) (roomy s') (getD row' A 0)
+            go (yes e) = let n = new-chain (led .applies) in rw e (n .0, n .1, n .2, new-rank)
+            go (no e) =
+                let o = me A l (sym (p .off A e) ∙ t) in
+                let m = o .3 in
+                let gr = grows s r s' h (led .fresh) p in (
+                  o .0,
+                  chain-keep head r s' (led .fresh) p (o .1),
+                  omega (arith, o .2, gr),
+                  record { ds = m .ds; least = m .least; rank = getD-set-other row head A c 0 e ∙ m .rank; few = omega (arith, m .few, gr) },
+                )

@@ -81,7 +81,7 @@ module _ (arguments : List ℕ) where
   pass-keeps : (rules : List Rule) (found : List ℕ) → Within found (onePass arguments found rules)
   unfolding onePass
   pass-keeps [] found = record { keeps = λ B e. e }
-  pass-keeps (rule A form ∷ more) found =
+  pass-keeps (rule A weight form ∷ more) found =
       record { keeps = λ B e. pass-keeps more (grownBy arguments found A form) .keeps B (grown-keeps found A form .keeps B e) }
 
   -- A rule that yields before a pass has its non-terminal found behind it.
@@ -89,9 +89,9 @@ module _ (arguments : List ℕ) where
       → among (headOf rules r) (onePass arguments xs rules) ≡ true
   unfolding onePass headOf formOf
   pass-has [] found xs w r h e = absurd (omega arith)
-  pass-has (rule A form ∷ more) found xs w zero h e =
+  pass-has (rule A weight form ∷ more) found xs w zero h e =
       pass-keeps more (grownBy arguments xs A form) .keeps A (grown-has xs A form (form-more w form e))
-  pass-has (rule A form ∷ more) found xs w (suc r) h e =
+  pass-has (rule A weight form ∷ more) found xs w (suc r) h e =
       pass-has more found (grownBy arguments xs A form) (record { keeps = λ B f. grown-keeps xs A form .keeps B (w .keeps B f) }) r (omega arith) e
 
   -- The same of the list with which the pass begins.
@@ -117,7 +117,7 @@ module _ (arguments : List ℕ) where
   pub pass-same : (rules : List Rule) (found : List ℕ) → Closed arguments rules found → onePass arguments found rules ≡ found
   unfolding onePass headOf formOf
   pass-same [] found c = refl
-  pass-same (rule A form ∷ more) found c =
+  pass-same (rule A weight form ∷ more) found c =
       rw (grown-same found A form (λ e. c 0 (omega arith) e)) (pass-same more found (λ r h e. c (suc r) (omega arith) e))
 
   -- nor do passes.
@@ -230,7 +230,7 @@ module _ (G : Grammar) where
   pass-derives : (rules : List Rule) → Able rules → (found : List ℕ) → AllDerive found → AllDerive (onePass (G .arguments) found rules)
   unfolding onePass headOf formOf AllDerive Able
   pass-derives [] able found all = all
-  pass-derives (rule A form ∷ more) able found all =
+  pass-derives (rule A weight form ∷ more) able found all =
       pass-derives more (λ r h. able (suc r) (omega arith)) (grownBy (G .arguments) found A form)
       (go (formYields (G .arguments) found form) (among A found) refl)
     where

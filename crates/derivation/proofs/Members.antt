@@ -1,73 +1,115 @@
--- The loop that finds the non-terminals of a node.
-use Rattle.forest.specs.Limits.{mostNonTerminals}
-use mathlib.Core.Path.{_≡_, sym, _∙_, subst}
-use Prim.Native.Nat.{ℕ, _-_, _/_, _<_}
+-- The loop that settles the non-terminals of a node.
+use mathlib.Core.Path.{_≡_, sym, _∙_, subst, refl}
+use Prim.Native.Nat.{ℕ, _-_, _/_, _<_, zero, suc, _≤_}
 use native.Mathlib.Omega.{arith}
-use lib.Arith.{lt-of-le-ne}
-use mathlib.Core.Bool.{true, false, true≢false}
+use native.Mathlib.Decide.{ℕ-discrete}
+use mathlib.Core.Bool.{true≢false}
 use mathlib.Core.List.{List}
-use lib.ListN.{length, set, length-set}
+use lib.ListN.{length, set, length-set, getD, replicate}
+use lib.Seq.{getD-set-same, getD-set-other}
 use Rattle.derivation.specs.Derivation.{headOf}
-use Rattle.derivation.specs.code.Masks.{has, Puts}
-use Rattle.derivation.specs.code.Rules.{nonTerminalAt, ruleWidth}
 use Rattle.derivation.specs.code.Search.{Asks}
-use Rattle.derivation.specs.code.Filling.{Finds, NodeIs}
 use Rattle.derivation.proofs.Count.{cnt, cnt-le}
-use Rattle.derivation.proofs.Closed.{Chosen, has-zero, chosen-step, grows, complete, chain-derives}
-use Rattle.derivation.proofs.Uses.{rules-count, head-low, head-is}
+use Rattle.derivation.proofs.Closed.{Chosen, has-zero, chosen-step, grows, complete, chain-derives, closed, full, leads, rank-small}
+use Rattle.derivation.proofs.Uses.{rules-count, head-low, head-is, prices-of}
+use Rattle.derivation.specs.code.Masks.{has, Puts, markWidth}
+use Rattle.derivation.specs.code.Rules.{nonTerminalAt, ruleWidth}
+use Rattle.derivation.specs.code.Filling.{NodeIs, Chooses, Priced, Prices, RowPre, SettlePre, Settles}
+use Rattle.derivation.specs.code.Ranks.{most}
+use Rattle.forest.specs.Limits.{mostNonTerminals}
 
--- the members of s have their choices
-pub record State (rules forms body masks : List ℕ) (i count : ℕ) (chosen : List ℕ) (s : ℕ) : Type 0 where
-  pub asks : Asks rules forms body masks i
-  pub all : (q : Asks rules forms body masks i) → count ≡ length (q .given .G .rules)
+-- the members of s have their choices and their ranks
+pub record State (rules forms costs row₀ chosen₀ row chosen : List ℕ) (s : ℕ) : Type 0 where
+  pub pre : SettlePre rules forms costs row₀ chosen₀
+  pub seventeen : length row ≡ markWidth
   pub sixteen : length chosen ≡ mostNonTerminals
-  pub members : (q : Asks rules forms body masks i) → Chosen q chosen s
+  pub prices : Prices rules forms row
+  pub members : (p : SettlePre rules forms costs row₀ chosen₀) → Chosen (p .asks) row chosen s
 
-module _ {rules forms body masks : List ℕ} {i : ℕ} where
-  pub state-start : (chosen : List ℕ) → Asks rules forms body masks i × (length chosen ≡ mostNonTerminals) → {count : ℕ} → count ≡ length rules / ruleWidth
-      → State rules forms body masks i count chosen 0
-  state-start chosen p e = record {
-    asks = p .0;
-    all = λ a. omega (arith, e, rules-count a);
-    sixteen = p .1;
-    members = λ a A l t. absurd (true≢false (sym t ∙ has-zero A));
+module _ {rules forms costs row₀ chosen₀ : List ℕ} where
+  pub state-start : SettlePre rules forms costs row₀ chosen₀ → State rules forms costs row₀ chosen₀ row₀ chosen₀ 0
+  state-start p = record {
+    pre = p;
+    seventeen = p .room .seventeen;
+    sixteen = p .room .sixteen;
+    prices = prices-of (p .asks) (p .room .small);
+    members = λ q A l t. absurd (true≢false (sym t ∙ has-zero A));
   }
 
-  module _ {count : ℕ} {chosen : List ℕ} {s r : ℕ} (v : State rules forms body masks i count chosen s) (f : Finds rules forms body masks i s r) where
-    pub node-done : r ≡ count → NodeIs rules forms body masks i chosen s
-    node-done e = record {
+  -- the same, whatever else the tables hold
+  abbrev other : (p : SettlePre rules forms costs row₀ chosen₀) → Asks rules forms (p .body) (p .masks) (p .i) → SettlePre rules forms costs row₀ chosen₀
+  other p q = record { body = p .body; masks = p .masks; i = p .i; asks = q; priced = p .priced; room = p .room }
+
+  module _ {row chosen : List ℕ} {s r c : ℕ} (v : State rules forms costs row₀ chosen₀ row chosen s)
+      (ch : Chooses rules forms costs row s (length rules / ruleWidth) r c) where
+    pub node-done : c ≡ 0 → (p : SettlePre rules forms costs row₀ chosen₀) → NodeIs rules forms (p .body) (p .masks) (p .i) row chosen s
+    node-done z p = record {
       sixteen = v .sixteen;
-      exact = λ a. record {
-        sound = λ A l t. chain-derives a (v .members a A l t .1);
-        complete = λ A l d. complete a s (f .none-left a (e ∙ v .all a)) A d;
-      };
-      chains = λ a A l t. let o = v .members a A l t in (o .0, o .1, omega (arith, o .2, cnt-le (has s) mostNonTerminals));
+      seventeen = v .seventeen;
+      exact = λ a.
+          let me = v .members (other p a) in
+          record {
+            sound = λ A l t. chain-derives a (me A l t .1);
+            complete = λ A l d.
+                complete a s (closed a (p .priced) me r (subst (λ (x : ℕ). Chooses rules forms costs row s (length rules / ruleWidth) r x) z ch)) A d;
+            ranked = λ A l t.
+                let m = me A l t .3 in
+                record { ds = m .ds; least = m .least; rank = m .rank; few = omega (arith, m .few, full a s) };
+          };
+      chains = λ a A l t. let o = v .members (other p a) A l t in (o .0, o .1, omega (arith, o .2, cnt-le (has s) mostNonTerminals));
     }
 
-    module _ (ne : r ≡ count → ⊥) {x : ℕ} (ex : x ≡ nonTerminalAt rules r) where
-      is-rule : (a : Asks rules forms body masks i) → r < length (a .given .G .rules)
-      is-rule a = lt-of-le-ne (f .bound a) (λ e. ne (e ∙ sym (v .all a)))
+    module _ (nz : c ≡ 0 → ⊥) where
+      is-rule : (p : SettlePre rules forms costs row₀ chosen₀) → r < length (p .asks .given .G .rules)
+      is-rule p = omega (arith, ch .is nz .0, rules-count (p .asks))
 
-      pub member-low : x < mostNonTerminals
-      member-low = omega (arith, ex, head-low (v .asks) r (is-rule (v .asks)))
+      module _ {x : ℕ} (ex : x ≡ nonTerminalAt rules r) where
+        pub member-low : x < mostNonTerminals
+        member-low = omega (arith, ex, head-low (v .pre .asks) r (is-rule (v .pre)))
 
-      head : (a : Asks rules forms body masks i) → headOf (a .given .G .rules) r ≡ x
-      head a = sym (ex ∙ head-is a r (is-rule a))
+        head : (p : SettlePre rules forms costs row₀ chosen₀) → headOf (p .asks .given .G .rules) r ≡ x
+        head p = sym (ex ∙ head-is (p .asks) r (is-rule p))
 
-      module _ {s' : ℕ} (p : Puts s x s') where
-        put : (a : Asks rules forms body masks i) → Puts s (headOf (a .given .G .rules) r) s'
-        put a = rw (head a) p
+        module _ {s' : ℕ} (pu : Puts s x s') where
+          put : (p : SettlePre rules forms costs row₀ chosen₀) → Puts s (headOf (p .asks .given .G .rules) r) s'
+          put p = rw (head p) pu
 
-        pub more-members : mostNonTerminals - cnt (has s') mostNonTerminals < mostNonTerminals - cnt (has s) mostNonTerminals
-        more-members = let a = v .asks in omega (arith, grows a s r s' (is-rule a) (f .found a (is-rule a) .1) (put a), cnt-le (has s') mostNonTerminals)
+          pub more-members : mostNonTerminals - cnt (has s') mostNonTerminals < mostNonTerminals - cnt (has s) mostNonTerminals
+          more-members =
+              let p = v .pre in
+              let l = leads (p .asks) (p .priced) (v .members p) r c (is-rule p) (ch .is nz .1) nz in
+              omega (arith, grows (p .asks) s r s' (is-rule p) (l .fresh) (put p), cnt-le (has s') mostNonTerminals)
 
-        pub state-step : State rules forms body masks i count (set chosen x r) s'
-        state-step = record {
-          asks = v .asks;
-          all = v .all;
-          sixteen = length-set chosen x r ∙ v .sixteen;
-          members = λ a.
-              let g = f .found a (is-rule a) in
-              subst (λ (y : ℕ). Chosen a (set chosen y r) s') (head a)
-              (chosen-step a chosen s r s' (v .sixteen) (is-rule a) (v .members a) (g .1) (put a) (g .0));
-        }
+          small : (A : ℕ) → Dec (A ≡ x) → getD (set row x c) A 0 ≤ most
+          small A (yes e) =
+              let p = v .pre in
+              let b = rank-small (p .asks) (p .priced) (v .members p) r c (is-rule p) ch nz in
+              rw (e, getD-set-same row x c 0 (omega (arith, member-low, v .seventeen))) b
+          small A (no e) = rw (getD-set-other row x A c 0 e) (v .prices .small A)
+
+          pub state-step : State rules forms costs row₀ chosen₀ (set row x c) (set chosen x r) s'
+          state-step = record {
+            pre = v .pre;
+            seventeen = length-set row x c ∙ v .seventeen;
+            sixteen = length-set chosen x r ∙ v .sixteen;
+            prices = prices-of (v .pre .asks) (λ A. small A (ℕ-discrete A x));
+            members = λ p.
+                subst (λ (y : ℕ). Chosen (p .asks) (set row y c) (set chosen y r) s') (head p)
+                (chosen-step (p .asks) (p .priced) (v .members p) r c (is-rule p) ch nz (put p) (v .sixteen) (v .seventeen));
+          }
+
+-- what the search at a node comes to
+pub settled : {rules forms body masks : List ℕ} {i : ℕ} {costs row chosen row' chosen' : List ℕ} {s : ℕ}
+    → Asks rules forms body masks i × RowPre row chosen → Priced rules forms body masks i (length rules / ruleWidth) costs
+    → Settles rules forms costs row chosen row' chosen' s
+    → NodeIs rules forms body masks i row' chosen' s
+settled {body = body} {masks = masks} {i = i} q p f = f (record { body = body; masks = masks; i = i; asks = q .0; priced = p; room = q .1 })
+
+zeros : (n A : ℕ) → getD (replicate {A = ℕ} n 0) A 0 ≡ 0
+zeros zero A = refl
+zeros (suc n) zero = refl
+zeros (suc n) (suc A) = zeros n A
+
+-- room with nothing in it
+pub blank-row : RowPre (replicate {A = ℕ} markWidth 0) (replicate {A = ℕ} mostNonTerminals 0)
+blank-row = record { seventeen = refl; sixteen = refl; small = λ A. omega (arith, zeros markWidth A) }

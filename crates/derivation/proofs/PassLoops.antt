@@ -11,7 +11,7 @@ use lib.ListN.{drop, length}
 use borrow.Author.Tests.{eq-eqb, ne-eqb, not-false, not-true}
 use Rattle.forest.specs.Limits.{mostNonTerminals}
 use Rattle.forest.specs.Lists.{among}
-use Rattle.derivation.specs.Derivation.{Grammar, Rule, formOf, headOf, rule}
+use Rattle.derivation.specs.Derivation.{Grammar, Rule, formOf, headOf, rule, weightOf}
 use Rattle.derivation.specs.Productive.{formYields, onePass, passes, productive}
 use Rattle.derivation.specs.code.Masks.{Puts, has}
 use Rattle.derivation.specs.code.Productive.{AsksDead, AsksForm, FindsDead, FormTested, Found, Grown, Marks, Passed, Tabled, grownBy}
@@ -80,11 +80,11 @@ module _ {rules forms arguments : List ℕ} {r : ℕ} where
 -- ---- a pass
 
 -- the rules from rule r on
-rule-first : (rules : List Rule) (r : ℕ) → r < length rules → drop r rules ≡ rule (headOf rules r) (formOf rules r) ∷ drop (r + 1) rules
-unfolding headOf formOf
+rule-first : (rules : List Rule) (r : ℕ) → r < length rules → drop r rules ≡ rule (headOf rules r) (weightOf rules r) (formOf rules r) ∷ drop (r + 1) rules
+unfolding headOf formOf weightOf
 rule-first [] r h = absurd (omega arith)
-rule-first (rule A form ∷ rules) zero h = refl
-rule-first (rule A form ∷ rules) (suc r) h = let next : suc r + 1 ≡ suc (r + 1) = omega arith in rw next (rule-first rules r (omega arith))
+rule-first (rule A weight form ∷ rules) zero h = refl
+rule-first (rule A weight form ∷ rules) (suc r) h = let next : suc r + 1 ≡ suc (r + 1) = omega arith in rw next (rule-first rules r (omega arith))
 
 -- a pass over rules begins with the first of them
 pass-first : (arguments found : List ℕ) (rules : List Rule) (r : ℕ) → r < length rules

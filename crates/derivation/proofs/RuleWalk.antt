@@ -3,24 +3,22 @@ use Rattle.forest.specs.Limits.{mostNonTerminals}
 use mathlib.Core.Path.{_≡_, refl, sym, ap, _∙_, subst}
 use Prim.Native.Nat.{ℕ, suc, _+_, _*_, _<_, _≤_}
 use native.Mathlib.Omega.{arith}
-use mathlib.Core.Bool.{Bool, true, false, not, true≢false}
-use mathlib.Core.List.{List, []}
-use lib.ListN.{length, getD}
-use borrow.Author.Tests.{not-true, not-false}
+use mathlib.Core.Bool.{true, false, true≢false}
+use mathlib.Core.List.{List}
+use lib.ListN.{length}
 use Rattle.forest.specs.Forest.{Forest, none, tree, count, join}
-use Rattle.forest.specs.code.Cursors.{size, from, first}
+use Rattle.forest.specs.code.Cursors.{size, from}
 use Rattle.terms.specs.Labels.{Label, Terms}
 use Rattle.terms.specs.code.Nodes.{Plain, codeAt, rowWidth, sizeAt, valueAt}
 use Rattle.terms.proofs.Bodies.{Says, plain-at}
-use Rattle.forest.proofs.Laws.{count-join, count-node, count-size, count-tree, count-zero, from-one, from-over, inside, join-assoc, Tree, size-from, size-join}
-use Rattle.forest.proofs.Laws.{size-tree, size-zero, tree-at, tree-of-count, tree-of-size}
-use Rattle.derivation.specs.Derivation.{Item, nonTerminal, the, formOf, done, Grammar}
+use Rattle.forest.proofs.Laws.{count-join, count-node, count-size, count-tree, count-zero, from-one, from-over, inside, join-assoc, Tree, size-from, size-join, size-tree, tree-at, tree-of-count, tree-of-size}
+use Rattle.derivation.specs.Derivation.{Item, nonTerminal, formOf, Grammar}
 use Rattle.derivation.specs.code.Tables.{rightSides, itemCode, itemValue}
 use Rattle.terms.specs.code.Codes.{nonTerminalKind}
 use Rattle.derivation.specs.code.Search.{Fits, DerivesAt}
 use Rattle.derivation.specs.code.Admitted.{LeafFits, Proper}
-use Rattle.derivation.specs.code.Matching.{alike, AsksNoChain, Matched}
-use Rattle.derivation.specs.code.Masks.{has}
+use Rattle.derivation.specs.code.Matching.{alike, AsksNoChain}
+use Rattle.derivation.specs.code.Masks.{has, maskAt}
 use Rattle.derivation.specs.code.Rules.{startAt}
 use Rattle.derivation.proofs.RuleRows.{RuleAt, rule-at}
 use Rattle.derivation.proofs.Meta.{fits-hole-to, fits-hole-rest, fits-hole, fits-node-to, fits-node}
@@ -73,12 +71,6 @@ module _ {rules forms body masks : List ℕ} {i r : ℕ} (q : AsksNoChain rules 
     to = λ f. f;
     back = λ f. f;
   }
-
-  pub at-end : (p j : ℕ) → At p j → end ≤ p → Fits G P (from F i)
-  unfolding Fits first count
-  at-end p j a h =
-      let e : a .left ≡ none = size-zero (a .left) (omega (arith, a .ends)) in
-      a .back (rw e ([], done))
 
   module _ (p j : ℕ) (a : At p j) (h : p < end) where
     pub rule-tree : Tree (a .left)
@@ -142,7 +134,7 @@ module _ {rules forms body masks : List ℕ} {i r : ℕ} (q : AsksNoChain rules 
     pub hole-late : codeAt forms p ≡ nonTerminalKind → i < j
     hole-late k = let v = hole-view k in a .late (v .A) none (v .qs) (v .is)
 
-    unfoldable pub step-hole : codeAt forms p ≡ nonTerminalKind → has (getD masks j 0) (valueAt forms p) ≡ true → At (p + 1) (j + sizeAt body j)
+    unfoldable pub step-hole : codeAt forms p ≡ nonTerminalKind → has (maskAt masks j) (valueAt forms p) ≡ true → At (p + 1) (j + sizeAt body j)
     unfolding join size
     step-hole k y =
         let v = hole-view k in
@@ -150,7 +142,7 @@ module _ {rules forms body masks : List ℕ} {i r : ℕ} (q : AsksNoChain rules 
         let s = node-says (b .l) (b .ops) (b .rest) (b .is) .size in
         let eF : from F (j + sizeAt body j) ≡ b .rest = ap (λ (x : ℕ). from F (j + x)) s ∙ from-over F j (b .l) (b .ops) (b .rest) (b .is) in
         let der : DerivesAt G (v .A) (from F j) =
-        q .asks .exact j (hole-late k) in-body .sound (v .A) (v .low) (ap (has (getD masks j 0)) (sym (v .value)) ∙ y) in
+        q .asks .exact j (hole-late k) in-body .sound (v .A) (v .low) (ap (has (maskAt masks j)) (sym (v .value)) ∙ y) in
         record {
           left = v .qs;
           is = on (nonTerminal (v .A)) none (v .qs) (v .is);
@@ -163,12 +155,12 @@ module _ {rules forms body masks : List ℕ} {i r : ℕ} (q : AsksNoChain rules 
           back = λ f. a .back (rw (v .is, b .is) (fits-hole G (v .A) (v .qs) (b .l) (b .ops) (b .rest) (rw (b .is) at der) (rw eF at f)));
         }
 
-    pub fail-hole : codeAt forms p ≡ nonTerminalKind → has (getD masks j 0) (valueAt forms p) ≡ false → Fits G P (from F i) → ⊥
+    pub fail-hole : codeAt forms p ≡ nonTerminalKind → has (maskAt masks j) (valueAt forms p) ≡ false → Fits G P (from F i) → ⊥
     fail-hole k n f =
         let v = hole-view k in
         let der : DerivesAt G (v .A) (from F j) = fits-hole-to G (v .A) (v .qs) (from F j) (rw (v .is) at (a .to f)) in
-        let y : has (getD masks j 0) (v .A) ≡ true = q .asks .exact j (hole-late k) in-body .complete (v .A) (v .low) der in
-        true≢false (sym y ∙ ap (has (getD masks j 0)) (sym (v .value)) ∙ n)
+        let y : has (maskAt masks j) (v .A) ≡ true = q .asks .exact j (hole-late k) in-body .complete (v .A) (v .low) der in
+        true≢false (sym y ∙ ap (has (maskAt masks j)) (sym (v .value)) ∙ n)
 
     -- any other item of the rule
     pub not-hole : (codeAt forms p ≡ nonTerminalKind → ⊥) → NotHole (rule-tree .l)
@@ -193,14 +185,40 @@ module _ {rules forms body masks : List ℕ} {i r : ℕ} (q : AsksNoChain rules 
           back = λ f. a .back (rw (eP, eF) (fits-node G l ps qs m ts us al (proper-bare mostNonTerminals l ps qs pr) ec (rw eF1 at f)));
         }
 
-    pub step-node : (codeAt forms p ≡ nonTerminalKind → ⊥) → alike forms p body j ≡ true → At (p + 1) (j + 1)
-    step-node k w =
+    -- the nodes of the rule and of the body, where they are alike
+    pub record Alikes : Type 0 where
+      pub l : Item
+      pub ps : Forest Item
+      pub qs : Forest Item
+      pub m : Label
+      pub ts : Terms
+      pub us : Terms
+      pub is : a .left ≡ tree l ps qs
+      pub at : from F j ≡ tree m ts us
+      pub not-hole : NotHole l
+      pub alike : Alike (G .arguments) l m
+      pub counts : count ts ≡ count ps
+
+    pub node-alike : (codeAt forms p ≡ nonTerminalKind → ⊥) → alike forms p body j ≡ true → Alikes
+    node-alike k w =
         let l = rule-tree in
         let b = body-tree in
         let x = rule-says (l .l) (l .ops) (l .rest) (l .is) in
         let y = node-says (b .l) (b .ops) (b .rest) (b .is) in
         let z = alike-sound x y plain-here fits-here mostNonTerminals (l .rest) (not-hole k) (subst (Proper mostNonTerminals) (l .is) (a .prop)) w in
-        step-alike (l .l) (l .ops) (l .rest) (b .l) (b .ops) (b .rest) (l .is) (b .is) (not-hole k) (z .0) (z .1)
+        record {
+          l = l .l;
+          ps = l .ops;
+          qs = l .rest;
+          m = b .l;
+          ts = b .ops;
+          us = b .rest;
+          is = l .is;
+          at = b .is;
+          not-hole = not-hole k;
+          alike = z .0;
+          counts = z .1;
+        }
 
     pub fail-node : (codeAt forms p ≡ nonTerminalKind → ⊥) → alike forms p body j ≡ false → Fits G P (from F i) → ⊥
     fail-node k w f =
@@ -230,12 +248,6 @@ module _ {rules forms body masks : List ℕ} {i r : ℕ} (q : AsksNoChain rules 
           in-body = omega arith;
           over = omega arith;
         }
-
--- the walk's invariant
-pub record Inv (rules forms body masks : List ℕ) (i r stop p j : ℕ) : Type 0 where
-  pub pre : AsksNoChain rules forms body masks i r
-  pub stops : (q : AsksNoChain rules forms body masks i r) → stop ≡ end q
-  pub known : (q : AsksNoChain rules forms body masks i r) → At q p j
 
 module _ {rules forms body masks : List ℕ} {i r : ℕ} where
   -- the size of the rule's first tree is that of the rule
@@ -268,56 +280,3 @@ module _ {rules forms body masks : List ℕ} {i r : ℕ} where
 
   pub end-small : AsksNoChain rules forms body masks i r → {p n : ℕ} → p ≡ startAt rules r → n ≡ sizeAt forms p → p + n ≤ length forms
   end-small q ep en = omega (arith, ep, en ∙ ap (sizeAt forms) ep, end-is q, end-fits q)
-
-  pub inv-start : AsksNoChain rules forms body masks i r → (p n : ℕ) → p ≡ startAt rules r → n ≡ sizeAt forms p → Inv rules forms body masks i r (p + n) p i
-  inv-start q p n ep en = record {
-    pre = q;
-    stops = λ q2. omega (arith, end-is q2, en ∙ ap (sizeAt forms) ep);
-    known = λ q2. subst (λ (x : ℕ). At q2 x i) (sym ep) (at-start q2);
-  }
-
-  module _ {stop p j : ℕ} (v : Inv rules forms body masks i r stop p j) (h : p < stop) where
-    within : (q : AsksNoChain rules forms body masks i r) → p < end q
-    within q = omega (arith, v .stops q)
-
-    pub turn-place : p + 1 ≤ length forms
-    turn-place = omega (arith, room (v .pre) p j (v .known (v .pre)) (within (v .pre)) .in-forms)
-
-    pub turn-here : j + 1 ≤ length body
-    turn-here = omega (arith, room (v .pre) p j (v .known (v .pre)) (within (v .pre)) .in-body)
-
-    pub turn-over : {n : ℕ} → n ≡ sizeAt body j → j + n ≤ length body
-    turn-over en = omega (arith, en, room (v .pre) p j (v .known (v .pre)) (within (v .pre)) .over)
-
-    next : (n : ℕ) → ((q : AsksNoChain rules forms body masks i r) → At q (p + 1) (j + n)) → Inv rules forms body masks i r stop (p + 1) (j + n)
-    next n k = record { pre = v .pre; stops = v .stops; known = k }
-
-    module _ {code : ℕ} (ec : code ≡ codeAt forms p) where
-      module _ (k : code ≡ nonTerminalKind) {x : ℕ} (ex : x ≡ valueAt forms p) where
-        pub turn-low : x < mostNonTerminals
-        turn-low = omega (arith, ex, hole-low (v .pre) p j (v .known (v .pre)) (within (v .pre)) (sym ec ∙ k))
-
-        module _ {m : ℕ} (em : m ≡ getD masks j 0) {b : Bool} (eb : b ≡ has m x) where
-          pub turn-hole : not b ≡ false → {n : ℕ} → n ≡ sizeAt body j → Inv rules forms body masks i r stop (p + 1) (j + n)
-          turn-hole y {n} en =
-              next n
-              (λ q. subst (λ (o : ℕ). At q (p + 1) (j + o)) (sym en) (step-hole q p j (v .known q) (within q) (sym ec ∙ k) (cc (not-false b y))))
-
-          pub miss-hole : not b ≡ true → Matched rules forms body masks i r false
-          miss-hole y = record {
-            sound = λ q e. absurd (true≢false (sym e));
-            complete = λ q e. fail-hole q p j (v .known q) (within q) (sym ec ∙ k) (cc (not-true b y));
-          }
-
-      module _ (k : code ≡ nonTerminalKind → ⊥) {b : Bool} (eb : b ≡ alike forms p body j) where
-        pub turn-node : not b ≡ false → Inv rules forms body masks i r stop (p + 1) (j + 1)
-        turn-node y = next 1 (λ q. step-node q p j (v .known q) (within q) (λ e. k (ec ∙ e)) (sym eb ∙ not-false b y))
-
-        pub miss-node : not b ≡ true → Matched rules forms body masks i r false
-        miss-node y = record {
-          sound = λ q e. absurd (true≢false (sym e));
-          complete = λ q e. fail-node q p j (v .known q) (within q) (λ e2. k (ec ∙ e2)) (sym eb ∙ not-true b y);
-        }
-
-  pub turn-end : {stop p j : ℕ} → Inv rules forms body masks i r stop p j → stop ≤ p → Matched rules forms body masks i r true
-  turn-end {p = p} {j = j} v h = record { sound = λ q e. at-end q p j (v .known q) (omega (arith, v .stops q)); complete = λ q e. absurd (true≢false e) }

@@ -1,27 +1,31 @@
 -- The check of a whole body.
 use mathlib.Core.Path.{_≡_, refl, sym, ap, _∙_, subst}
-use Prim.Native.Nat.{ℕ, zero, suc, _+_, _-_, _*_, _/_, _<_, _≤_}
+use Prim.Native.Nat.{ℕ, zero, suc, _-_, _*_, _/_, _<_, _≤_}
 use native.Mathlib.Nat.{zero-add}
 use native.Mathlib.Omega.{arith}
 use borrow.Author.Tests.{not-true, not-false}
 use mathlib.Core.Bool.{Bool, true, false, not, true≢false}
-use mathlib.Core.List.{List, [], _++_}
-use lib.ListN.{length, getD, replicate, take, drop, length-replicate, length-take}
+use mathlib.Core.List.{List, [], _++_, _∷_}
+use lib.ListN.{length, replicate, take, drop, length-replicate, length-take}
 use lib.Seq.{sets, sets-eq}
 use Rattle.forest.specs.Forest.{none, tree, count}
 use Rattle.forest.specs.code.Cursors.{size, from, first}
 use Rattle.forest.proofs.Laws.{count-size, first-all, count-zero}
 use Rattle.terms.specs.Labels.{Terms}
-use Rattle.terms.specs.code.Nodes.{rowWidth}
 use Rattle.derivation.specs.Derivation.{nonTerminal, Derives, Simple, Grammar}
-use Rattle.derivation.specs.code.Masks.{has}
+use Rattle.derivation.specs.Least.{Least}
 use Rattle.derivation.specs.code.Search.{ExactAt, DerivesAt, Asks}
+use Rattle.derivation.specs.Answer.{start, listOf, unused}
+use Rattle.forest.specs.Limits.{listSize, mostNodes, mostNonTerminals}
+use Rattle.derivation.proofs.Order.{least-unique}
+use Rattle.derivation.proofs.LeastParts.{never}
+use Rattle.derivation.proofs.Sweep.{body-size}
+use Rattle.derivation.specs.code.Masks.{has, maskAt, rankAt, markWidth}
 use Rattle.derivation.specs.code.Showing.{EmitPre, EmitPost, ShowPre, ShowPost, Shows}
 use Rattle.derivation.specs.code.Filling.{AllExact}
-use Rattle.derivation.specs.Answer.{start, listOf, unused}
 use Rattle.derivation.specs.code.Derive.{DerivePre, DerivePost}
-use Rattle.forest.specs.Limits.{listSize, mostNodes, mostNonTerminals}
-use Rattle.derivation.proofs.Sweep.{body-size}
+use Rattle.derivation.specs.code.Ranks.{Ranked, rankOf, perWeight}
+use Rattle.terms.specs.code.Nodes.{rowWidth}
 
 -- for one tree, to derive the first tree is to derive it
 to-at : (G : Grammar) (A : ℕ) (F : Terms) → count F ≡ 1 → (ds : List ℕ) → Derives G (tree (nonTerminal A) none none) F ds → DerivesAt G A F
@@ -33,17 +37,17 @@ first-whole : (F : Terms) → count F ≡ 1 → first 1 F ≡ F
 first-whole F c = ap (λ (k : ℕ). first k F) (sym c) ∙ first-all F
 
 module _ {rules forms body masks₀ masks shown : List ℕ} (len : length masks ≡ length masks₀) (ex : AllExact rules forms body masks) {m : ℕ}
-    (em : m ≡ getD masks 0 0) {b : Bool} (eb : b ≡ has m 0) where
+    (em : m ≡ maskAt masks 0) {b : Bool} (eb : b ≡ has m 0) where
   abbrev pub some : (p : ShowPre rules forms body masks₀ shown) → 0 < size (p .given .F)
   some p = omega (arith, p .one, count-size (p .given .F))
 
-  first-mask : (p : ShowPre rules forms body masks₀ shown) → ExactAt (p .given .G) (p .given .F) m
+  first-mask : (p : ShowPre rules forms body masks₀ shown) → ExactAt (p .given .G) (p .given .F) m (rankAt masks 0)
   unfolding from
-  first-mask p = rw em (ex .exact (p .given) 0 (some p))
+  first-mask p = subst (λ (x : ℕ). ExactAt (p .given .G) (p .given .F) x (rankAt masks 0)) (sym em) (ex .exact (p .given) 0 (some p))
 
-  pub show-no : not b ≡ true → (p : ShowPre rules forms body masks₀ shown) → ShowPost rules forms body masks₀ shown p shown false
+  pub show-no : not b ≡ true → (p : ShowPre rules forms body masks₀ shown) → ShowPost rules forms body masks₀ shown p shown 0
   show-no n p = record {
-    yes! = λ t. absurd (true≢false (sym t));
+    yes! = λ t. absurd (t refl);
     no! = λ t. (
       (λ ds d. true≢false (sym (first-mask p .complete 0 (omega arith) (to-at (p .given .G) 0 (p .given .F) (p .one) ds d)) ∙ sym eb ∙ not-true b n)),
       refl,
@@ -52,7 +56,7 @@ module _ {rules forms body masks₀ masks shown : List ℕ} (len : length masks 
 
   module _ (y : not b ≡ false) where
     abbrev pub emit-asks : ShowPre rules forms body masks₀ shown → Asks rules forms body masks 0
-    emit-asks p = record { given = p .given; inside = some p; long = len ∙ p .long; exact = λ j l h. ex .exact (p .given) j h }
+    emit-asks p = record { given = p .given; inside = some p; small = p .small; long = len ∙ p .long; exact = λ j l h. ex .exact (p .given) j h }
 
     pub emit-pre : ShowPre rules forms body masks₀ shown → EmitPre rules forms body masks 0 0 shown 0
     unfolding from
@@ -63,21 +67,37 @@ module _ {rules forms body masks₀ masks shown : List ℕ} (len : length masks 
       room = omega (arith, p .room, ap size (first-whole (p .given .F) (p .one)));
     }
 
+    -- the rank of the start at the whole body
+    top : (p : ShowPre rules forms body masks₀ shown)
+        → Ranked (p .given .G) start (first 1 (p .given .F)) (mostNonTerminals * size (first 1 (p .given .F))) (rankAt masks 0 0)
+    top p = first-mask p .ranked 0 (omega arith) (sym eb ∙ not-false b y)
+
+    some-rank : (p : ShowPre rules forms body masks₀ shown) → {c : ℕ} → c ≡ rankAt masks 0 0 → c ≡ 0 → ⊥
+    some-rank p e z = go (top p .ds) (top p .rank) (top p .least .derivation)
+      where
+        go : (ds : List ℕ) → rankAt masks 0 0 ≡ rankOf (p .given .G) ds → Derives (p .given .G) start (first 1 (p .given .F)) ds → ⊥
+        go [] q d = never (p .given .G) d refl
+        go (x ∷ ds) q d = omega arith
+
     pub show-yes : {shown' : List ℕ} {w : ℕ}
-        → ((e : EmitPre rules forms body masks 0 0 shown 0) → EmitPost rules forms body masks 0 0 shown 0 e shown' w)
-        → (p : ShowPre rules forms body masks₀ shown) → ShowPost rules forms body masks₀ shown p shown' true
+        → ((e : EmitPre rules forms body masks 0 0 shown 0) → EmitPost rules forms body masks 0 0 shown 0 e shown' w) → {c : ℕ} → c ≡ rankAt masks 0 0
+        → (p : ShowPre rules forms body masks₀ shown) → ShowPost rules forms body masks₀ shown p shown' c
     unfolding from emit-pre
-    show-yes post p =
+    show-yes post {c} ec p =
         let x = post (emit-pre p) in
         let whole = first-whole (p .given .F) (p .one) in
+        let o = top p in
+        let u : o .ds ≡ x .ds = least-unique (p .given .G) (o .least) (x .least) in
         record {
-          yes! = λ t. (
-            x .ds,
-            subst (λ (F : Terms). Simple (p .given .G) [] start F (x .ds)) whole (x .derivation),
-            x .wrote,
-            subst (λ (F : Terms). length (x .ds) ≤ mostNonTerminals * size F) whole (x .few),
-          );
-          no! = λ t. absurd (true≢false t);
+          yes! = λ t. record {
+            ds = x .ds;
+            derivation = subst (λ (F : Terms). Simple (p .given .G) [] start F (x .ds)) whole (x .derivation);
+            least = subst (λ (F : Terms). Least (p .given .G) start F (x .ds)) whole (x .least);
+            wrote = x .wrote;
+            few = subst (λ (F : Terms). length (x .ds) ≤ mostNonTerminals * size F) whole (x .few);
+            rank = ec ∙ o .rank ∙ ap (rankOf (p .given .G)) u;
+          };
+          no! = λ t. absurd (some-rank p ec t);
         }
 
 drop-replicate : (k n v : ℕ) → drop k (replicate n v) ≡ replicate (n - k) v
@@ -91,35 +111,43 @@ sets-unused ds n h =
     ∙ ap (λ (k : ℕ). ds ++ drop k (replicate n unused)) (zero-add (length ds))
     ∙ ap (λ (x : List ℕ). ds ++ x) (drop-replicate (length ds) n unused)
 
-module _ {rules forms body area : List ℕ} {k n : ℕ} (en : n ≡ length body / rowWidth) where
-  pub masks-fit : DerivePre rules forms body k area → n ≤ mostNodes
+module _ {rules forms body area : List ℕ} {k n : ℕ} (en : n ≡ length body / rowWidth * markWidth) where
+  pub masks-fit : DerivePre rules forms body k area → n ≤ mostNodes * markWidth
   masks-fit p = omega (arith, en, body-size (p .given), p .fits)
 
-  module _ (ms : List ℕ) (lm : length ms ≡ mostNodes) {blank : List ℕ} (bl : blank ≡ replicate listSize unused) where
+  module _ (ms : List ℕ) (lm : length ms ≡ mostNodes * markWidth) {blank : List ℕ} (bl : blank ≡ replicate listSize unused) where
     abbrev pub show-pre : DerivePre rules forms body k area → ShowPre rules forms body (take n ms) blank
     show-pre p = record {
       given = p .given;
       one = p .one;
+      small = p .fits;
       long = omega (arith, length-take n ms, lm, en, body-size (p .given), p .fits);
       room = omega (arith, ap length bl, length-replicate {A = ℕ} listSize unused, p .fits);
     }
 
-    module _ {list : List ℕ} {b : Bool} (post : Shows rules forms body (take n ms) blank list b) where
+    module _ {list : List ℕ} {c : ℕ} (post : Shows rules forms body (take n ms) blank list c) where
       -- the answer is no, and the area is as it was
-      pub derive-no : not b ≡ true → (p : DerivePre rules forms body k area) → DerivePost rules forms body k area p area false
+      pub derive-no : c ≡ 0 → (p : DerivePre rules forms body k area) → DerivePost rules forms body k area p area false 0
       derive-no e p = record {
         yes! = λ t. absurd (true≢false (sym t));
-        no! = λ t. record { none-derives = post (show-pre p) .no! (not-true b e) .0; unchanged = refl };
+        no! = λ t. record { none-derives = post (show-pre p) .no! e .0; unchanged = refl; nothing = refl };
       }
 
       -- the answer is yes, and the list was copied to its place
-      pub derive-yes : not b ≡ false → {area' : List ℕ} → area' ≡ sets area (listSize * k) list → (p : DerivePre rules forms body k area)
-          → DerivePost rules forms body k area p area' true
+      pub derive-yes : (c ≡ 0 → ⊥) → {area' : List ℕ} → area' ≡ sets area (listSize * k) list → (p : DerivePre rules forms body k area)
+          → DerivePost rules forms body k area p area' true (c / perWeight)
       derive-yes e w p =
-          let x = post (show-pre p) .yes! (not-false b e) in
-          let few : length (x .0) ≤ listSize = omega (arith, x .3, p .fits) in
-          let is : list ≡ listOf (x .0) = x .2 ∙ ap (λ (l : List ℕ). sets l 0 (x .0)) bl ∙ sets-unused (x .0) listSize few in
+          let x = post (show-pre p) .yes! e in
+          let few : length (x .ds) ≤ listSize = omega (arith, x .few, p .fits) in
+          let is : list ≡ listOf (x .ds) = x .wrote ∙ ap (λ (l : List ℕ). sets l 0 (x .ds)) bl ∙ sets-unused (x .ds) listSize few in
           record {
-            yes! = λ t. record { ds = x .0; derivation = x .1; few = few; shown = w ∙ ap (sets area (listSize * k)) is };
+            yes! = λ t. record {
+              ds = x .ds;
+              derivation = x .derivation;
+              least = x .least;
+              weighs = omega (arith, x .rank, few);
+              few = few;
+              shown = w ∙ ap (sets area (listSize * k)) is;
+            };
             no! = λ t. absurd (true≢false t);
           }

@@ -1,42 +1,33 @@
 -- The writing of what the non-terminals of a rule derive: the walk of the rule over the body once more, with the list that is written.
-use Rattle.forest.specs.Limits.{mostNonTerminals}
 use mathlib.Core.Path.{_≡_, refl, sym, ap, _∙_, subst}
-use Prim.Native.Nat.{ℕ, suc, _+_, _-_, _*_, _<_, _≤_}
+use Prim.Native.Nat.{ℕ, suc, _+_, _<_, _≤_}
 use native.Mathlib.Nat.{add-zero}
 use native.Mathlib.Omega.{arith}
 use mathlib.Core.Bool.{true}
 use mathlib.Core.List.{List, [], _++_, append-assoc, append-nil}
-use lib.ListN.{length, getD, length-append}
+use lib.ListN.{length, length-append}
 use lib.Seq.{sets, length-sets}
 use Rattle.forest.specs.Forest.{Forest, none, tree, count, join}
-use Rattle.forest.specs.code.Cursors.{size, from, first}
-use Rattle.terms.specs.Labels.{Label, Terms}
+use Rattle.terms.specs.Labels.{Terms}
 use Rattle.terms.specs.code.Nodes.{codeAt, sizeAt, valueAt}
-use Rattle.forest.proofs.Laws.{Tree, size-join, count-size, count-join, first-join, from-one, from-over, size-zero}
+use Rattle.forest.proofs.Laws.{Tree, from-one, from-over, size-zero}
 use Rattle.derivation.specs.Derivation.{Item, nonTerminal, formOf, Simple, s-done, Grammar}
 use Rattle.terms.specs.code.Codes.{nonTerminalKind}
 use Rattle.derivation.specs.code.Search.{Asks, Fits, DerivesAt}
-use Rattle.derivation.specs.code.Admitted.{Proper}
-use Rattle.derivation.specs.code.Masks.{has}
-use Rattle.derivation.specs.code.Rules.{startAt}
-use Rattle.derivation.specs.code.Showing.{EmitPre, EmitPost, SpreadPre, SpreadPost}
-use Rattle.derivation.specs.code.Matching.{AsksNoChain}
 use Rattle.derivation.proofs.Meta.{fits-hole-to, fits-node-to}
 use Rattle.derivation.proofs.Simple.{simples, walk-hole}
 use Rattle.derivation.proofs.Splits.{over-first}
 use Rattle.derivation.proofs.Likeness.{proper-bare}
-use Rattle.derivation.proofs.RuleWalk.{At, end, end-is, at-start, step-hole, step-alike, HoleAt, hole-view, hole-late, hole-low, not-hole, rule-tree}
-use Rattle.derivation.proofs.RuleWalk.{body-tree, in-body, node-says, Room, room}
+use Rattle.derivation.proofs.RuleWalk.{end, end-is, at-start, step-hole, step-alike, HoleAt, hole-view, hole-late, hole-low, not-hole, rule-tree, body-tree, in-body, node-says, Room, room}
+use Rattle.derivation.proofs.Parts.{Parts, parts-end, parts-few, parts-hole, parts-node, parts-start, size-first, size-one}
+use Rattle.forest.specs.code.Cursors.{size, from, first}
+use Rattle.derivation.specs.code.Admitted.{Proper}
+use Rattle.derivation.specs.code.Masks.{has, maskAt}
+use Rattle.derivation.specs.code.Rules.{startAt}
+use Rattle.derivation.specs.code.Showing.{EmitPre, EmitPost, SpreadPre, SpreadPost}
+use Rattle.derivation.specs.code.Matching.{AsksNoChain}
 use Rattle.forest.proofs.Rows.{sets-append}
-
-size-first : {l : Item} {x qs : Forest Item} {s : Label} {ts us : Terms} (P : Forest Item) (B : Terms) → P ≡ tree l x qs → B ≡ tree s ts us
-    → size (first (count P) B) ≡ suc (size ts + size (first (count qs) us))
-unfolding first count size
-size-first P B eP eF = rw (eP, eF)
-
-pub size-one : {s : Label} {ts us : Terms} (B : Terms) → B ≡ tree s ts us → size (first 1 B) ≡ suc (size ts)
-unfolding first size
-size-one {ts = ts} B eF = ap (λ (x : Terms). size (first 1 x)) eF ∙ ap suc (add-zero (size ts))
+use Rattle.forest.specs.Limits.{mostNonTerminals}
 
 module _ {rules forms body masks : List ℕ} {i r : ℕ} {shown₀ : List ℕ} {at₀ : ℕ} (e : SpreadPre rules forms body masks i r shown₀ at₀) where
   abbrev pub q : AsksNoChain rules forms body masks i r
@@ -55,60 +46,51 @@ module _ {rules forms body masks : List ℕ} {i r : ℕ} {shown₀ : List ℕ} {
   D = Simple G []
 
   pub record Track (shown : List ℕ) (p j w : ℕ) : Type 0 where
-    pub here : At q p j
     pub ws : List ℕ
+    pub parts : Parts q p j ws
     pub wrote : shown ≡ sets shown₀ at₀ ws
     pub next : w ≡ at₀ + length ws
-    pub few : length ws + mostNonTerminals ≤ mostNonTerminals * (j - i) + mostNonTerminals * (1 - (j - i))
-    pub span : j + size (first (count (here .left)) (from F j)) ≡ i + size (first 1 (from F i))
-    pub back : (es : List ℕ) → D (here .left) (first (count (here .left)) (from F j)) es → D P (first 1 (from F i)) (ws ++ es)
+    pub back : (es : List ℕ) → D (parts .here .left) (first (count (parts .here .left)) (from F j)) es → D P (first 1 (from F i)) (ws ++ es)
 
   pub track-start : Track shown₀ (startAt rules r) i at₀
-  unfolding at-start
+  unfolding parts-start at-start
   track-start = record {
-    here = at-start q;
     ws = [];
+    parts = parts-start q;
     wrote = refl;
     next = sym (add-zero at₀);
-    few = omega arith;
-    span = ap (λ (x : ℕ). i + size (first x (from F i))) (q .asks .given .admitted .single r (q .is-rule));
     back = λ es d. rw (q .asks .given .admitted .single r (q .is-rule)) at d;
   }
 
   pub track-end : {shown : List ℕ} {p j w : ℕ} → Track shown p j w → end q ≤ p → SpreadPost rules forms body masks i r shown₀ at₀ e shown w
-  unfolding first count size
-  track-end {j = j} t h =
-      let e0 : t .here .left ≡ none = size-zero (t .here .left) (omega (arith, t .here .ends)) in
+  unfolding first count
+  track-end t h =
+      let e0 : t .parts .here .left ≡ none = size-zero (t .parts .here .left) (omega (arith, t .parts .here .ends)) in
       let d : D P (first 1 (from F i)) (t .ws ++ []) = t .back [] (rw e0 s-done) in
-      let z : size (first (count (t .here .left)) (from F j)) ≡ 0 = rw e0 in
       record {
         ds = t .ws;
         derivation = rw append-nil at d;
+        least = parts-end q (t .parts) h;
         wrote = t .wrote;
         next = t .next;
-        few = omega (arith, t .few, t .span, z, some);
+        few = parts-few q (t .parts) h;
       }
-    where
-      some : 0 < size (first 1 (from F i))
-      some =
-          let b = body-tree q (startAt rules r) i (at-start q) (omega (arith, count-size P, q .asks .given .admitted .single r (q .is-rule))) in
-          omega (arith, size-one (from F i) (b .is))
 
   module _ {shown : List ℕ} {p j w : ℕ} (t : Track shown p j w) (h : p < end q) where
     pub same-length : length shown ≡ length shown₀
     same-length = ap length (t .wrote) ∙ length-sets shown₀ at₀ (t .ws)
 
-    fit : Fits G (t .here .left) (from F j)
-    fit = t .here .to (e .fits)
+    fit : Fits G (t .parts .here .left) (from F j)
+    fit = t .parts .here .to (e .fits)
 
     abbrev tree-here : Tree (from F j)
-    tree-here = body-tree q p j (t .here) h
+    tree-here = body-tree q p j (t .parts .here) h
 
-    abbrev view : codeAt forms p ≡ nonTerminalKind → HoleAt q p j (t .here) h
-    view k = hole-view q p j (t .here) h k
+    abbrev view : codeAt forms p ≡ nonTerminalKind → HoleAt q p j (t .parts .here) h
+    view k = hole-view q p j (t .parts .here) h k
 
     pub hole-after : codeAt forms p ≡ nonTerminalKind → i < j
-    hole-after k = hole-late q p j (t .here) h k
+    hole-after k = hole-late q p j (t .parts .here) h k
 
     derived : (k : codeAt forms p ≡ nonTerminalKind) → DerivesAt G (view k .A) (from F j)
     derived k = let v = view k in fits-hole-to G (v .A) (v .qs) (from F j) (rw (v .is) at fit)
@@ -117,48 +99,45 @@ module _ {rules forms body masks : List ℕ} {i r : ℕ} {shown₀ : List ℕ} {
     abbrev pub hole-asks : codeAt forms p ≡ nonTerminalKind → Asks rules forms body masks j
     hole-asks k = record {
       given = q .asks .given;
-      inside = in-body q p j (t .here) h;
+      inside = in-body q p j (t .parts .here) h;
+      small = q .asks .small;
       long = q .asks .long;
-      exact = λ n l l2. q .asks .exact n (omega (arith, t .here .past)) l2;
+      exact = λ n l l2. q .asks .exact n (omega (arith, t .parts .here .past)) l2;
     }
 
     pub hole-pre : codeAt forms p ≡ nonTerminalKind → EmitPre rules forms body masks j (valueAt forms p) shown w
     hole-pre k =
         let v = view k in
-        let s1 = size-first (t .here .left) (from F j) (v .is) (tree-here .is) in
+        let s1 = size-first (t .parts .here .left) (from F j) (v .is) (tree-here .is) in
         let s2 = size-one (from F j) (tree-here .is) in
         record {
           asks = hole-asks k;
-          low = hole-low q p j (t .here) h k;
+          low = hole-low q p j (t .parts .here) h k;
           derives = rw (v .value) (derived k);
-          room = omega (arith, e .room, t .few, t .span, t .next, same-length, hole-after k);
+          room = omega (arith, e .room, t .parts .few, t .parts .span, t .next, same-length, hole-after k);
         }
 
     pub track-hole : (k : codeAt forms p ≡ nonTerminalKind) (shown' : List ℕ) (w' : ℕ)
         → EmitPost rules forms body masks j (valueAt forms p) shown w (hole-pre k) shown' w' → Track shown' (p + 1) (j + sizeAt body j) w'
-    unfolding join hole-pre first step-hole
+    unfolding join hole-pre first parts-hole step-hole
     track-hole k shown' w' x =
         let v = view k in
         let b = tree-here in
-        let size-b : sizeAt body j ≡ suc (size (b .ops)) = node-says q p j (t .here) h (b .l) (b .ops) (b .rest) (b .is) .size in
+        let size-b : sizeAt body j ≡ suc (size (b .ops)) = node-says q p j (t .parts .here) h (b .l) (b .ops) (b .rest) (b .is) .size in
         let eF : from F (j + sizeAt body j) ≡ b .rest = ap (λ (n : ℕ). from F (j + n)) size-b ∙ from-over F j (b .l) (b .ops) (b .rest) (b .is) in
-        let y : has (getD masks j 0) (valueAt forms p) ≡ true =
-        ap (has (getD masks j 0)) (v .value)
-        ∙ q .asks .exact j (hole-after k) (in-body q p j (t .here) h) .complete (v .A) (v .low) (derived k) in
+        let y : has (maskAt masks j) (valueAt forms p) ≡ true =
+        ap (has (maskAt masks j)) (v .value)
+        ∙ q .asks .exact j (hole-after k) (in-body q p j (t .parts .here) h) .complete (v .A) (v .low) (derived k) in
         let d1 : D (tree (nonTerminal (v .A)) none none) (tree (b .l) (b .ops) none) (x .ds) = rw (v .value, b .is) at (x .derivation) in
-        let s1 = size-first (t .here .left) (from F j) (v .is) (b .is) in
-        let s2 = size-one (from F j) (b .is) in
         record {
-          here = step-hole q p j (t .here) h k y;
           ws = t .ws ++ x .ds;
+          parts = parts-hole q (t .parts) h k y (x .ds) (x .least) (x .few);
           wrote =
               x .wrote
               ∙ ap (λ (l : List ℕ). sets l w (x .ds)) (t .wrote)
               ∙ ap (λ (n : ℕ). sets (sets shown₀ at₀ (t .ws)) n (x .ds)) (t .next)
               ∙ sym (sets-append shown₀ at₀ (t .ws) (x .ds));
           next = omega (arith, x .next, t .next, length-append (t .ws) (x .ds));
-          few = omega (arith, t .few, x .few, size-b, s2, hole-after k, length-append (t .ws) (x .ds));
-          span = rw eF (omega (arith, t .span, s1, size-b));
           back = λ es d.
               let d2 : D (v .qs) (first (count (v .qs)) (b .rest)) es = rw eF at d in
               let d3 = walk-hole G (v .A) (v .qs) (b .l) (b .ops) (b .rest) (x .ds) es d1 d2 in
@@ -167,24 +146,19 @@ module _ {rules forms body masks : List ℕ} {i r : ℕ} {shown₀ : List ℕ} {
 
     -- a node that is no non-terminal: nothing is written
     pub track-node : (codeAt forms p ≡ nonTerminalKind → ⊥) → Track shown (p + 1) (j + 1) w
-    unfolding step-alike
+    unfolding parts-node step-alike
     track-node k =
-        let l = rule-tree q p j (t .here) h in
+        let l = rule-tree q p j (t .parts .here) h in
         let b = tree-here in
-        let n = not-hole q p j (t .here) h k in
+        let n = not-hole q p j (t .parts .here) h k in
         let f = fits-node-to G (l .l) (l .ops) (l .rest) (b .l) (b .ops) (b .rest) n (rw (l .is, b .is) at fit) in
         let eF1 = from-one F j (b .l) (b .ops) (b .rest) (b .is) in
-        let s1 = size-first (t .here .left) (from F j) (l .is) (b .is) in
-        let s2 : size (first (count (join (l .ops) (l .rest))) (join (b .ops) (b .rest))) ≡ size (b .ops) + size (first (count (l .rest)) (b .rest)) =
-        rw (count-join, ← f .1, first-join) (size-join (b .ops) (first (count (l .rest)) (b .rest))) in
-        let bare = proper-bare mostNonTerminals (l .l) (l .ops) (l .rest) (subst (Proper mostNonTerminals) (l .is) (t .here .prop)) in
+        let bare = proper-bare mostNonTerminals (l .l) (l .ops) (l .rest) (subst (Proper mostNonTerminals) (l .is) (t .parts .here .prop)) in
         record {
-          here = step-alike q p j (t .here) h (l .l) (l .ops) (l .rest) (b .l) (b .ops) (b .rest) (l .is) (b .is) n (f .0) (f .1);
           ws = t .ws;
+          parts = parts-node q (t .parts) h (l .l) (l .ops) (l .rest) (b .l) (b .ops) (b .rest) (l .is) (b .is) n (f .0) (f .1);
           wrote = t .wrote;
           next = t .next;
-          few = omega (arith, t .few, t .here .past);
-          span = rw eF1 (omega (arith, t .span, s1, s2));
           back = λ es d.
               t .back es
               (rw (l .is, b .is) (over-first (simples G) (l .l) (b .l) (l .ops) (l .rest) (b .ops) (b .rest) es (f .0) bare (f .1) (rw eF1 at d)));
@@ -215,8 +189,8 @@ module _ {rules forms body masks : List ℕ} {i r : ℕ} {shown₀ : List ℕ} {
       pub within : (e : SpreadPre rules forms body masks i r shown₀ at₀) → p < end (e .rule-asks)
       within e = omega (arith, v .stops e)
 
-      space : Room (v .pre .rule-asks) p j (v .track (v .pre) .here) (within (v .pre))
-      space = room (v .pre .rule-asks) p j (v .track (v .pre) .here) (within (v .pre))
+      space : Room (v .pre .rule-asks) p j (v .track (v .pre) .parts .here) (within (v .pre))
+      space = room (v .pre .rule-asks) p j (v .track (v .pre) .parts .here) (within (v .pre))
 
       pub spread-place : p + 1 ≤ length forms
       spread-place = omega (arith, space .in-forms)

@@ -2,8 +2,7 @@
 use Rattle.forest.specs.Limits.{mostNonTerminals, mostRules}
 use Rattle.forest.proofs.Rows.{sets-append}
 use mathlib.Core.Path.{_≡_, refl, ap, _∙_, subst}
-use mathlib.Core.Path as path
-use Prim.Native.Nat.{ℕ, suc, _+_, _-_, _<_, _≤_}
+use Prim.Native.Nat.{ℕ, suc, _+_, _<_, _≤_}
 use native.Mathlib.Nat.{add-zero}
 use native.Mathlib.Omega.{arith}
 use mathlib.Core.List.{List, [], _∷_, _++_, append-assoc}
@@ -14,13 +13,15 @@ use Rattle.forest.specs.code.Cursors.{from, first}
 use Rattle.terms.specs.Labels.{Terms}
 use Rattle.terms.specs.code.Nodes.{codeAt, valueAt}
 use Rattle.derivation.specs.Derivation.{Item, nonTerminal, headOf, formOf, Fresh, Simple, Grammar}
+use Rattle.derivation.specs.Least.{Least}
 use Rattle.terms.specs.code.Codes.{nonTerminalKind}
-use Rattle.derivation.specs.code.Search.{Chain, stop, more, Fits}
-use Rattle.derivation.specs.code.Rules.{startAt}
-use Rattle.derivation.specs.code.Showing.{FollowPre, FollowPost}
+use Rattle.derivation.specs.code.Search.{Chain, stop, more, Fits, Best}
 use Rattle.derivation.proofs.Simple.{use-one, no-chain-any}
 use Rattle.derivation.proofs.Uses.{chain-view, no-chain-view}
 use Rattle.derivation.proofs.Closed.{here, first-one}
+use Rattle.derivation.specs.code.Rules.{startAt}
+use Rattle.derivation.specs.code.Showing.{FollowPre, FollowPost}
+use mathlib.Core.Path as path
 
 module _ {rules forms chosen : List ℕ} {a : ℕ} {shown₀ : List ℕ} {at : ℕ} (f : FollowPre rules forms chosen a shown₀ at) where
   abbrev pub G : Grammar
@@ -48,10 +49,10 @@ module _ {rules forms chosen : List ℕ} {a : ℕ} {shown₀ : List ℕ} {at : �
   above-less k j l (and-one n c h r) = and-one n c (omega arith) (above-less k j l r)
 
   chain-one : {x n k : ℕ} → Follows x n → Follows x k → n ≡ k
-  chain-one (stop y! lt hd np fi) (stop y2 lt2 hd2 np2 fi2) = refl
-  chain-one (stop y! lt hd np fi) (more B y2 lt2 hd2 is2 c2) = absurd (np B none none is2)
-  chain-one (more B y! lt hd is c) (stop y2 lt2 hd2 np2 fi2) = absurd (np2 B none none is)
-  chain-one (more {k = n} B y! lt hd is c) (more {k = k} B2 y2 lt2 hd2 is2 c2) =
+  chain-one (stop y! lt hd np fi be) (stop y2 lt2 hd2 np2 fi2 be2) = refl
+  chain-one (stop y! lt hd np fi be) (more B y2 lt2 hd2 is2 be2 c2) = absurd (np B none none is2)
+  chain-one (more B y! lt hd is be c) (stop y2 lt2 hd2 np2 fi2 be2) = absurd (np2 B none none is)
+  chain-one (more {k = n} B y! lt hd is be c) (more {k = k} B2 y2 lt2 hd2 is2 be2 c2) =
       let e : B2 ≡ B = cc in
       ap suc (chain-one c (subst (λ (x : ℕ). Follows x k) e c2))
 
@@ -71,6 +72,7 @@ module _ {rules forms chosen : List ℕ} {a : ℕ} {shown₀ : List ℕ} {at : �
     pub left : length ws + k ≤ f .k
     pub seen : List ℕ
     pub above : Above k seen
+    pub least : (es : List ℕ) → Least G (tree (nonTerminal b) none none) T1 es → Least G (tree (nonTerminal a) none none) T1 (ws ++ es)
     pub back : (es : List ℕ) → Simple G seen (tree (nonTerminal b) none none) T1 es → D (tree (nonTerminal a) none none) T1 (ws ++ es)
 
   pub trail-start : Trail shown₀ a at
@@ -84,21 +86,26 @@ module _ {rules forms chosen : List ℕ} {a : ℕ} {shown₀ : List ℕ} {at : �
     left = omega arith;
     seen = [];
     above = no-one;
+    least = λ es d. d;
     back = λ es d. d;
   }
 
   -- the rule chosen for a member
   chosen-rule : {b k : ℕ} → Follows b k → getD chosen b 0 < length (G .rules)
-  chosen-rule (stop y! lt hd np fi) = lt
-  chosen-rule (more B y! lt hd is c) = lt
+  chosen-rule (stop y! lt hd np fi be) = lt
+  chosen-rule (more B y! lt hd is be c) = lt
 
   chosen-head : {b k : ℕ} → Follows b k → headOf (G .rules) (getD chosen b 0) ≡ b
-  chosen-head (stop y! lt hd np fi) = hd
-  chosen-head (more B y! lt hd is c) = hd
+  chosen-head (stop y! lt hd np fi be) = hd
+  chosen-head (more B y! lt hd is be c) = hd
 
   chosen-pos : {b k : ℕ} → Follows b k → 0 < k
-  chosen-pos (stop y! lt hd np fi) = omega arith
-  chosen-pos (more B y! lt hd is c) = omega arith
+  chosen-pos (stop y! lt hd np fi be) = omega arith
+  chosen-pos (more B y! lt hd is be c) = omega arith
+
+  chosen-best : {b k : ℕ} → Follows b k → Best G T b (getD chosen b 0)
+  chosen-best (stop y! lt hd np fi be) = be
+  chosen-best (more B y! lt hd is be c) = be
 
   pub trail-room : {shown : List ℕ} {b w : ℕ} → Trail shown b w → w < length shown
   trail-room t = omega (arith, f .room, t .left, t .next, ap length (t .wrote), length-sets shown₀ at (t .ws), chosen-pos (t .chain))
@@ -126,6 +133,10 @@ module _ {rules forms chosen : List ℕ} {a : ℕ} {shown₀ : List ℕ} {at : �
       → D (tree (nonTerminal a) none none) T1 ((t .ws ++ (getD chosen b 0 ∷ [])) ++ es)
   back-more shown b w t es d = rw append-assoc (t .back (getD chosen b 0 ∷ es) (one-more (t .chain) (t .seen) (t .above) es d))
 
+  least-more : (shown : List ℕ) (b w : ℕ) (t : Trail shown b w) (es : List ℕ) → Least G (formOf (G .rules) (getD chosen b 0)) T1 es
+      → Least G (tree (nonTerminal a) none none) T1 ((t .ws ++ (getD chosen b 0 ∷ [])) ++ es)
+  least-more shown b w t es d = rw append-assoc (t .least (getD chosen b 0 ∷ es) (chosen-best (t .chain) es d))
+
   wrote-more : (shown : List ℕ) (b w : ℕ) (t : Trail shown b w) → set shown w (getD chosen b 0) ≡ sets shown₀ at (t .ws ++ (getD chosen b 0 ∷ []))
   wrote-more shown b w t =
       ap (λ (x : List ℕ). set x w (getD chosen b 0)) (t .wrote)
@@ -141,8 +152,8 @@ module _ {rules forms chosen : List ℕ} {a : ℕ} {shown₀ : List ℕ} {at : �
 
       go : (k : ℕ) → Follows b k → length (t .ws) + k ≤ f .k → Above k (t .seen)
           → Trail (set shown w (getD chosen b 0)) (valueAt forms (startAt rules (getD chosen b 0))) (w + 1)
-      go k (stop y! lt hd np fi) l ab = let v = chain-view (f .asks) (getD chosen b 0) lt k1 in absurd (np (v .B) none none (v .is))
-      go (suc k) (more B y! lt hd is c) l ab =
+      go k (stop y! lt hd np fi be) l ab = let v = chain-view (f .asks) (getD chosen b 0) lt k1 in absurd (np (v .B) none none (v .is))
+      go (suc k) (more B y! lt hd is be c) l ab =
           let v = chain-view (f .asks) (getD chosen b 0) lt k1 in
           let eB : B ≡ v .B = cc (v .is) in
           let eb : B ≡ valueAt forms (startAt rules (getD chosen b 0)) = eB ∙ path.sym (v .value) in
@@ -155,7 +166,10 @@ module _ {rules forms chosen : List ℕ} {a : ℕ} {shown₀ : List ℕ} {at : �
             chain = subst (λ (x : ℕ). Follows x k) eb c;
             left = omega (arith, l, length-append (t .ws) (getD chosen b 0 ∷ []));
             seen = b ∷ t .seen;
-            above = and-one (suc k) (more B y! lt hd is c) (omega arith) (above-less (suc k) k (omega arith) ab);
+            above = and-one (suc k) (more B y! lt hd is be c) (omega arith) (above-less (suc k) k (omega arith) ab);
+            least = λ es d.
+                least-more shown b w t es
+                (subst (λ (x : Forest Item). Least G x T1 es) (ap (λ (x : ℕ). tree (nonTerminal x) none none) (path.sym eb) ∙ path.sym is) d);
             back = λ es d.
                 back-more shown b w t es
                 (subst (λ (x : Forest Item). Simple G (b ∷ t .seen) x T1 es)
@@ -172,12 +186,13 @@ module _ {rules forms chosen : List ℕ} {a : ℕ} {shown₀ : List ℕ} {at : �
     is-rule = chosen-rule (t .chain);
     no-chain = no-chain-view (f .asks) (getD chosen b 0) (chosen-rule (t .chain)) k1;
     fits = fits-end (t .chain);
+    least = λ es d. least-more shown b w t es d;
     back = λ es d. back-more shown b w t es (no-chain-any G (b ∷ t .seen) (no-chain-view (f .asks) (getD chosen b 0) (chosen-rule (t .chain)) k1) d);
   }
     where
       fits-end : {k : ℕ} → Follows b k → Fits G (formOf (G .rules) (getD chosen b 0)) T
-      fits-end (stop y! lt hd np fi) = fi
-      fits-end (more B y! lt hd is c) = absurd (no-chain-view (f .asks) (getD chosen b 0) lt k1 B none none is)
+      fits-end (stop y! lt hd np fi be) = fi
+      fits-end (more B y! lt hd is be c) = absurd (no-chain-view (f .asks) (getD chosen b 0) lt k1 B none none is)
 
 -- the loop's invariant, with what the indices need as plain numbers
 pub record Inv (rules forms chosen : List ℕ) (a : ℕ) (shown₀ : List ℕ) (at : ℕ) (shown : List ℕ) (b w : ℕ) : Type 0 where

@@ -1,28 +1,33 @@
--- Which rules can be used at a node: what the first node of a rule says, and the search for a rule.
-use Rattle.forest.specs.Limits.{mostNonTerminals}
-use mathlib.Core.Path.{_≡_, sym, ap, _∙_, subst}
+-- Which rules can be used at a node: what the first node of a rule says, the prices of the rules, and the search for the least.
+use mathlib.Core.Path.{_≡_, sym, ap, _∙_, subst, refl}
+use mathlib.Core.Logic.{_⊎_, inl, inr}
 use Prim.Native.Nat.{ℕ, _+_, _*_, _/_, _<_, _≤_}
 use native.Mathlib.Omega.{arith}
-use native.Mathlib.Decide.{ℕ-discrete}
-use mathlib.Core.Bool.{Bool, true, false, true≢false}
+use native.Mathlib.Decide.{ℕ-discrete, decLt}
+use mathlib.Core.Bool.{Bool, true, false, true≢false, not, _&&_, _||_}
 use mathlib.Core.List.{List}
-use lib.ListN.{length}
+use lib.Dec.{eqb, ltb}
+use borrow.Author.Tests.{eq-eqb, eqb-true, lt-ltb, ltb-true, not-false, not-true}
+use lib.ListN.{length, getD, set, length-set}
+use lib.Seq.{getD-set-same, getD-set-other}
 use Rattle.forest.specs.Forest.{Forest, none, tree, count, join}
-use Rattle.forest.specs.code.Cursors.{from}
 use Rattle.terms.specs.code.Nodes.{codeAt, valueAt}
 use Rattle.forest.proofs.Laws.{Tree, tree-of-count, count-node, count-zero}
+use Rattle.derivation.proofs.PassedTests.{and-both, and-true, or-first, or-second, or-true}
 use Rattle.derivation.proofs.Reading.{ItemSays, item-says}
 use Rattle.derivation.proofs.Likeness.{hole-item}
-use Rattle.derivation.specs.Derivation.{Item, nonTerminal, the, headOf, formOf, Grammar}
+use Rattle.derivation.specs.Derivation.{Item, nonTerminal, headOf, formOf, Grammar, weightOf, mostWeight}
 use Rattle.derivation.specs.code.Tables.{itemValue, rightSides}
 use Rattle.terms.specs.code.Codes.{nonTerminalKind}
-use Rattle.derivation.specs.code.Search.{Asks, NoChain, Fits}
+use Rattle.derivation.specs.code.Search.{Asks, NoChain}
+use Rattle.derivation.proofs.RuleRows.{RuleAt, rule-at, length-rules}
+use Rattle.forest.specs.Limits.{mostNonTerminals, mostRules}
 use Rattle.derivation.specs.code.Admitted.{Proper}
 use Rattle.derivation.specs.code.Masks.{has}
-use Rattle.derivation.specs.code.Rules.{nonTerminalAt, ruleWidth, startAt}
-use Rattle.derivation.specs.code.Filling.{Finds}
-use Rattle.derivation.specs.code.Matching.{AsksRule, AsksNoChain, Matched, Applies, chain, no-chain, Answers}
-use Rattle.derivation.proofs.RuleRows.{RuleAt, rule-at, length-rules}
+use Rattle.derivation.specs.code.Rules.{nonTerminalAt, ruleWidth, startAt, weightAt}
+use Rattle.derivation.specs.code.Filling.{no-chain, Chooses, IsChain, Price, Priced, Prices, Worse, chained, known, not-yet, plain, dearer, later, nothing}
+use Rattle.derivation.specs.code.Matching.{AsksNoChain, Matched}
+use Rattle.derivation.specs.code.Ranks.{most, perWeight}
 
 module _ {rules forms body masks : List ℕ} {i : ℕ} where
   pub rules-count : (q : Asks rules forms body masks i) → length rules ≡ ruleWidth * length (q .given .G .rules)
@@ -40,6 +45,9 @@ module _ {rules forms body masks : List ℕ} {i : ℕ} where
 
     pub head-is : nonTerminalAt rules r ≡ headOf (G .rules) r
     head-is = there .head
+
+    pub weight-is : weightAt rules r ≡ weightOf (G .rules) r
+    weight-is = there .weight
 
     rule-tree : Tree (formOf (G .rules) r)
     rule-tree = tree-of-count (formOf (G .rules) r) (omega (arith, q .given .admitted .single r h))
@@ -73,108 +81,207 @@ module _ {rules forms body masks : List ℕ} {i : ℕ} where
     pub no-chain-view : (codeAt forms (startAt rules r) ≡ nonTerminalKind → ⊥) → NoChain (formOf (G .rules) r)
     no-chain-view k A ps qs e = k (first-says (nonTerminal A) ps qs e .code)
 
-    pub chain-to : (s : ℕ) → codeAt forms (startAt rules r) ≡ nonTerminalKind → has s (valueAt forms (startAt rules r)) ≡ true
-        → Applies G (from (q .given .F) i) s r
-    chain-to s k y = let v = chain-view k in chain (v .B) (v .is) (ap (has s) (sym (v .value)) ∙ y)
+    pub chain-code : (B : ℕ) → formOf (G .rules) r ≡ tree (nonTerminal B) none none → IsChain rules forms r
+    chain-code B e = first-says (nonTerminal B) none none e .code
 
-    pub chain-not : (s : ℕ) → codeAt forms (startAt rules r) ≡ nonTerminalKind → has s (valueAt forms (startAt rules r)) ≡ false
-        → Applies G (from (q .given .F) i) s r → ⊥
-    chain-not s k n (chain B is y) =
-        let v = chain-view k in
-        let e : v .B ≡ B = cc (v .is) in
-        true≢false (sym y ∙ ap (has s) (sym e ∙ sym (v .value)) ∙ n)
-    chain-not s k n (no-chain p f) = let v = chain-view k in p (v .B) none none (v .is)
+    pub asks-no-chain : (IsChain rules forms r → ⊥) → AsksNoChain rules forms body masks i r
+    asks-no-chain k = record { asks = q; is-rule = h; no-chain = no-chain-view k }
 
-    pub no-chain-not : (s : ℕ) → (codeAt forms (startAt rules r) ≡ nonTerminalKind → ⊥) → (Fits G (formOf (G .rules) r) (from (q .given .F) i) → ⊥)
-        → Applies G (from (q .given .F) i) s r → ⊥
-    no-chain-not s k n (chain B is y) = no-chain-view k B none none is
-    no-chain-not s k n (no-chain p f) = n f
+  -- what prices are made of
+  pub prices-of : Asks rules forms body masks i → {row : List ℕ} → ((A : ℕ) → getD row A 0 ≤ most) → Prices rules forms row
+  prices-of q {row} f = record {
+    heads = λ r l. head-low q r (is-rule r l);
+    ends = λ r l k. let v = chain-view q r (is-rule r l) k in omega (arith, v .low, v .value);
+    light = λ r l. omega (arith, weight-is q r (is-rule r l), q .given .admitted .light r (is-rule r l));
+    small = f;
+  }
+    where
+      is-rule : (r : ℕ) → r < length rules / ruleWidth → r < length (q .given .G .rules)
+      is-rule r l = omega (arith, rules-count q)
 
-  -- what the code of `applies` comes to
-  module _ {r : ℕ} (q : AsksRule rules forms body masks i r) {start code : ℕ} (es : start ≡ startAt rules r) (ec : code ≡ codeAt forms start) where
-    rule-of : (a : Asks rules forms body masks i) → r < length (a .given .G .rules)
-    rule-of a = omega (arith, q .is-rule, rules-count (q .asks), rules-count a)
-
-    abbrev code-is : code ≡ codeAt forms (startAt rules r)
-    code-is = ec ∙ ap (codeAt forms) es
-
-    pub asks-no-chain : (code ≡ nonTerminalKind → ⊥) → AsksNoChain rules forms body masks i r
-    asks-no-chain k = record { asks = q .asks; is-rule = q .is-rule; no-chain = no-chain-view (q .asks) r (q .is-rule) (λ e. k (code-is ∙ e)) }
-
-    pub answers-no-chain : (code ≡ nonTerminalKind → ⊥) → {s : ℕ} {b : Bool} → Matched rules forms body masks i r b → Answers rules forms body masks i s r b
-    answers-no-chain k {s} {b} m = record {
-      sound = λ a e. no-chain (p a) (m .sound (record { asks = a; is-rule = rule-of a; no-chain = p a }) e);
-      complete = λ a e. no-chain-not a r (rule-of a) s (λ e2. k (code-is ∙ e2)) (m .complete (record { asks = a; is-rule = rule-of a; no-chain = p a }) e);
-    }
-      where
-        p : (a : Asks rules forms body masks i) → NoChain (formOf (a .given .G .rules) r)
-        p a = no-chain-view a r (rule-of a) (λ e. k (code-is ∙ e))
-
-    module _ (k : code ≡ nonTerminalKind) {x : ℕ} (ex : x ≡ valueAt forms start) where
-      pub chain-low : x < mostNonTerminals
-      chain-low = let v = chain-view (q .asks) r (q .is-rule) (sym code-is ∙ k) in omega (arith, v .low, v .value, ex ∙ ap (valueAt forms) es)
-
-      pub answers-chain : {s : ℕ} {b : Bool} → b ≡ has s x → Answers rules forms body masks i s r b
-      answers-chain {s} {b} eb =
-          let e : b ≡ has s (valueAt forms (startAt rules r)) = eb ∙ ap (has s) (ex ∙ ap (valueAt forms) es) in
-          record {
-            sound = λ a y. chain-to a r (rule-of a) s (sym code-is ∙ k) (sym e ∙ y);
-            complete = λ a y. chain-not a r (rule-of a) s (sym code-is ∙ k) (sym e ∙ y);
-          }
-
--- no rule below r can be used, unless its non-terminal is in s
-pub record Before (rules forms body masks : List ℕ) (i s count r : ℕ) : Type 0 where
+-- the pricing of the rules
+pub record Inv (rules forms body masks : List ℕ) (i n : ℕ) (costs : List ℕ) (r : ℕ) : Type 0 where
   pub asks : Asks rules forms body masks i
-  pub all : (q : Asks rules forms body masks i) → count ≡ length (q .given .G .rules)
-  pub bound : r ≤ count
-  pub none-yet : (q : Asks rules forms body masks i) (k : ℕ) → k < r → Applies (q .given .G) (from (q .given .F) i) s k
-      → has s (headOf (q .given .G .rules) k) ≡ true
+  pub all : n ≡ length rules / ruleWidth
+  pub bound : r ≤ n
+  pub few : n ≤ mostRules
+  pub long : length costs ≡ mostRules
+  pub priced : Priced rules forms body masks i r costs
 
-module _ {rules forms body masks : List ℕ} {i s : ℕ} where
-  pub before-start : Asks rules forms body masks i → {count : ℕ} → count ≡ length rules / ruleWidth → Before rules forms body masks i s count 0
-  before-start q e = record { asks = q; all = λ a. omega (arith, e, rules-count a); bound = omega arith; none-yet = λ a k h. absurd (omega arith) }
+module _ {rules forms body masks : List ℕ} {i : ℕ} where
+  pub price-start : {costs : List ℕ} → Asks rules forms body masks i × (length costs ≡ mostRules) → {n : ℕ} → n ≡ length rules / ruleWidth
+      → Inv rules forms body masks i n costs 0
+  price-start q e = record {
+    asks = q .0;
+    all = e;
+    bound = omega arith;
+    few = omega (arith, e, rules-count (q .0), q .0 .given .admitted .few);
+    long = q .1;
+    priced = record { long = q .1; each = λ r l. absurd (omega arith) };
+  }
 
-  module _ {count r : ℕ} (v : Before rules forms body masks i s count r) where
-    pub before-ends : count ≤ r → Finds rules forms body masks i s r
-    before-ends h = record {
-      bound = λ a. omega (arith, v .bound, v .all a);
-      found = λ a l. absurd (omega (arith, v .all a));
-      none-left = λ a e k l. v .none-yet a k (omega arith);
-    }
+  module _ {n : ℕ} {costs : List ℕ} {r : ℕ} (v : Inv rules forms body masks i n costs r) where
+    pub price-end : n ≤ r → Priced rules forms body masks i (length rules / ruleWidth) costs
+    price-end h = subst (λ (x : ℕ). Priced rules forms body masks i x costs) (omega (arith, v .all, v .bound)) (v .priced)
 
-    module _ (h : r < count) where
-      is-rule : (a : Asks rules forms body masks i) → r < length (a .given .G .rules)
-      is-rule a = omega (arith, v .all a)
+    module _ (h : r < n) {start code : ℕ} (es : start ≡ startAt rules r) (ec : code ≡ codeAt forms start) where
+      code-is : code ≡ codeAt forms (startAt rules r)
+      code-is = ec ∙ ap (codeAt forms) es
 
-      pub asks-rule : AsksRule rules forms body masks i r
-      asks-rule = record { asks = v .asks; is-rule = is-rule (v .asks) }
-
-      step : ((a : Asks rules forms body masks i) → Applies (a .given .G) (from (a .given .F) i) s r → has s (headOf (a .given .G .rules) r) ≡ true)
-          → Before rules forms body masks i s count (r + 1)
-      step f = record { asks = v .asks; all = v .all; bound = omega arith; none-yet = λ a k l. go a k l (ℕ-discrete k r) }
+      next : (costs' : List ℕ) → length costs' ≡ mostRules → ((k : ℕ) → k < r → getD costs' k 0 ≡ getD costs k 0)
+          → ((IsChain rules forms r → ⊥) → Matched rules forms body masks i r (getD costs' r 0)) → Inv rules forms body masks i n costs' (r + 1)
+      next costs' l f g = record {
+        asks = v .asks;
+        all = v .all;
+        bound = omega arith;
+        few = v .few;
+        long = l;
+        priced = record { long = l; each = λ k o ne. go k o ne (ℕ-discrete k r) };
+      }
         where
-          go : (a : Asks rules forms body masks i) (k : ℕ) → k < r + 1 → Dec (k ≡ r) → Applies (a .given .G) (from (a .given .F) i) s k
-              → has s (headOf (a .given .G .rules) k) ≡ true
-          go a k l (yes e) = rw e (f a)
-          go a k l (no e) = v .none-yet a k (omega arith)
+          go : (k : ℕ) → k < r + 1 → (IsChain rules forms k → ⊥) → Dec (k ≡ r) → Matched rules forms body masks i k (getD costs' k 0)
+          go k o ne (yes e) = subst (λ (x : ℕ). Matched rules forms body masks i x (getD costs' x 0)) (sym e) (g (λ c. ne (rw e c)))
+          go k o ne (no e) = let l2 : k < r = omega arith in rw (f k l2) (v .priced .each k l2 ne)
 
-      module _ {x : ℕ} (ex : x ≡ nonTerminalAt rules r) where
-        pub known-low : x < mostNonTerminals
-        known-low = omega (arith, ex, head-low (v .asks) r (is-rule (v .asks)))
+      pub price-chain : code ≡ nonTerminalKind → Inv rules forms body masks i n costs (r + 1)
+      price-chain k = next costs (v .long) (λ o l. refl) (λ ne. absurd (ne (sym code-is ∙ k)))
 
-        module _ {b : Bool} (eb : b ≡ has s x) where
-          same : (a : Asks rules forms body masks i) → b ≡ has s (headOf (a .given .G .rules) r)
-          same a = eb ∙ ap (has s) (ex ∙ head-is a r (is-rule a))
+      module _ (k : code ≡ nonTerminalKind → ⊥) where
+        pub price-asks : AsksNoChain rules forms body masks i r
+        price-asks = asks-no-chain (v .asks) r (omega (arith, v .all, rules-count (v .asks))) (λ e. k (code-is ∙ e))
 
-          pub before-known : b ≡ true → Before rules forms body masks i s count (r + 1)
-          before-known y = step (λ a u. sym (same a) ∙ y)
+        pub price-plain : {c : ℕ} → Matched rules forms body masks i r c → Inv rules forms body masks i n (set costs r c) (r + 1)
+        price-plain {c} m =
+            next (set costs r c) (length-set costs r c ∙ v .long) (λ o l. getD-set-other costs r o c 0 (λ e. omega arith))
+            (λ ne. rw (getD-set-same costs r c 0 (omega (arith, v .long, v .few))) m)
 
-          pub finds : b ≡ false → {u : Bool} → Answers rules forms body masks i s r u → u ≡ true → Finds rules forms body masks i s r
-          finds n w y = record {
-            bound = λ a. omega (arith, is-rule a);
-            found = λ a l. (w .sound a y, sym (same a) ∙ n);
-            none-left = λ a e. absurd (omega (arith, is-rule a));
-          }
+-- the search for the least price
 
-      pub before-not : {u : Bool} → Answers rules forms body masks i s r u → u ≡ false → Before rules forms body masks i s count (r + 1)
-      before-not w n = step (λ a u. absurd (w .complete a n u))
+better-yes : (x c : ℕ) → (not (eqb x 0) && (eqb c 0 || ltb x c)) ≡ true → (x ≡ 0 → ⊥) × ((c ≡ 0) ⊎ (x < c))
+better-yes x c e =
+    let p = and-true (not (eqb x 0)) (eqb c 0 || ltb x c) e in
+    ((λ z. true≢false (sym (p .0) ∙ ap not (eq-eqb x 0 z))), go (or-true (eqb c 0) (ltb x c) (p .1)))
+  where
+    go : (eqb c 0 ≡ true) ⊎ (ltb x c ≡ true) → (c ≡ 0) ⊎ (x < c)
+    go (inl t) = inl (eqb-true c 0 t)
+    go (inr t) = inr (ltb-true x c t)
+
+better-no : (x c : ℕ) → (not (eqb x 0) && (eqb c 0 || ltb x c)) ≡ false → (x ≡ 0 → ⊥) → (c ≡ 0 → ⊥) × (c ≤ x)
+better-no x c e nx = ((λ z. not-this (or-first (eqb c 0) (ltb x c) (eq-eqb c 0 z))), go (decLt x c))
+  where
+    some : not (eqb x 0) ≡ true
+    some = go2 (eqb x 0) (λ t. nx (eqb-true x 0 t))
+      where
+        go2 : (b : Bool) → (b ≡ true → ⊥) → not b ≡ true
+        go2 true f = absurd (f refl)
+        go2 false f = refl
+
+    not-this : eqb c 0 || ltb x c ≡ true → ⊥
+    not-this t = true≢false (sym (and-both some t) ∙ e)
+
+    go : Dec (x < c) → c ≤ x
+    go (yes l) = absurd (not-this (or-second (eqb c 0) (ltb x c) (lt-ltb x c l)))
+    go (no l) = omega arith
+
+pub record Search (rules forms costs row : List ℕ) (s n best least r : ℕ) : Type 0 where
+  pub prices : Prices rules forms row
+  pub all : n ≡ length rules / ruleWidth
+  pub bound : r ≤ n
+  pub chooses : Chooses rules forms costs row s r best least
+
+module _ {rules forms costs row : List ℕ} {s : ℕ} where
+  pub search-start : Prices rules forms row → {n : ℕ} → n ≡ length rules / ruleWidth → Search rules forms costs row s n 0 0 0
+  search-start p e = record {
+    prices = p;
+    all = e;
+    bound = omega arith;
+    chooses = record { is = λ z. absurd (z refl); all = λ k l. absurd (omega arith) };
+  }
+
+  module _ {n best least r : ℕ} (v : Search rules forms costs row s n best least r) where
+    pub search-end : n ≤ r → Chooses rules forms costs row s (length rules / ruleWidth) best least
+    search-end h = subst (λ (x : ℕ). Chooses rules forms costs row s x best least) (omega (arith, v .all, v .bound)) (v .chooses)
+
+    module _ (h : r < n) where
+      pub search-rule : r < length rules / ruleWidth
+      search-rule = omega (arith, v .all)
+
+      module _ {x : ℕ} (px : Price rules forms costs row s r x) {b : Bool} (eb : b ≡ (not (eqb x 0) && (eqb least 0 || ltb x least))) where
+        pub search-better : b ≡ true → Search rules forms costs row s n r x (r + 1)
+        search-better y = record {
+          prices = v .prices;
+          all = v .all;
+          bound = omega arith;
+          chooses = record { is = λ z. (omega arith, px); all = λ k l. go k l (ℕ-discrete k r) };
+        }
+          where
+            t : (x ≡ 0 → ⊥) × ((least ≡ 0) ⊎ (x < least))
+            t = better-yes x least (sym eb ∙ y)
+
+            worse : (k z : ℕ) → ((least ≡ 0) ⊎ (x < least)) → Worse least best z k → Worse x r z k
+            worse k z w (nothing e) = nothing e
+            worse k z (inl e) (dearer nc l) = absurd (nc e)
+            worse k z (inr o) (dearer nc l) = dearer (t .0) (omega arith)
+            worse k z (inl e) (later nc q l) = absurd (nc e)
+            worse k z (inr o) (later nc q l) = dearer (t .0) (omega arith)
+
+            go : (k : ℕ) → k < r + 1 → Dec (k ≡ r) → (z : ℕ) × Price rules forms costs row s k z × Worse x r z k
+            go k l (yes e) = (x, rw e px, later (t .0) refl (omega arith))
+            go k l (no e) = let o = v .chooses .all k (omega arith) in (o .0, o .1, worse k (o .0) (t .1) (o .2))
+
+        pub search-not : b ≡ false → Search rules forms costs row s n best least (r + 1)
+        search-not y = record {
+          prices = v .prices;
+          all = v .all;
+          bound = omega arith;
+          chooses = record { is = λ z. let o = v .chooses .is z in (omega (arith, o .0), o .1); all = λ k l. go k l (ℕ-discrete k r) };
+        }
+          where
+            t : (x ≡ 0 → ⊥) → (least ≡ 0 → ⊥) × (least ≤ x)
+            t = better-no x least (sym eb ∙ y)
+
+            here : Dec (x ≡ 0) → Dec (least ≡ x) → Worse least best x r
+            here (yes e) d = nothing e
+            here (no e) (yes d) = later (t e .0) d (omega (arith, v .chooses .is (t e .0) .0))
+            here (no e) (no d) = dearer (t e .0) (omega (arith, t e .1))
+
+            go : (k : ℕ) → k < r + 1 → Dec (k ≡ r) → (z : ℕ) × Price rules forms costs row s k z × Worse least best z k
+            go k l (yes e) = (x, rw e px, rw e (here (ℕ-discrete x 0) (ℕ-discrete least x)))
+            go k l (no e) = v .chooses .all k (omega arith)
+
+-- what the code of `price` comes to
+
+module _ {rules forms row : List ℕ} {r : ℕ} (p : Prices rules forms row × (r < length rules / ruleWidth)) where
+  pub price-low : {a : ℕ} → a ≡ nonTerminalAt rules r → a < mostNonTerminals
+  price-low ea = omega (arith, ea, p .0 .heads r (p .1))
+
+  pub price-light : {w : ℕ} → w ≡ weightAt rules r → w ≤ mostWeight
+  price-light ew = omega (arith, ew, p .0 .light r (p .1))
+
+  pub price-small : (x : ℕ) → {v : ℕ} → v ≡ getD row x 0 → v ≤ most
+  price-small x ev = omega (arith, ev, p .0 .small x)
+
+  pub price-end-low : {start code : ℕ} → start ≡ startAt rules r → code ≡ codeAt forms start → code ≡ nonTerminalKind → {x : ℕ} → x ≡ valueAt forms start
+      → x < mostNonTerminals
+  price-end-low es ec k ex =
+      omega (arith, ex ∙ ap (valueAt forms) es, p .0 .ends r (p .1) (ap (codeAt forms) (sym es) ∙ sym ec ∙ k))
+
+module _ {rules forms costs row : List ℕ} {s r a : ℕ} (ea : a ≡ nonTerminalAt rules r) {b : Bool} (eb : b ≡ has s a) where
+  pub price-known : b ≡ true → Price rules forms costs row s r 0
+  price-known y = known (ap (has s) (sym ea) ∙ sym eb ∙ y) refl
+
+  module _ (n : b ≡ false) {start code : ℕ} (es : start ≡ startAt rules r) (ec : code ≡ codeAt forms start) where
+    pub price-of-plain : (code ≡ nonTerminalKind → ⊥) → {c : ℕ} → c ≡ getD costs r 0 → Price rules forms costs row s r c
+    price-of-plain k e = plain (ap (has s) (sym ea) ∙ sym eb ∙ n) (λ z. k (ec ∙ ap (codeAt forms) es ∙ z)) e
+
+    module _ (k : code ≡ nonTerminalKind) {x : ℕ} (ex : x ≡ valueAt forms start) {d : Bool} (ed : d ≡ has s x) where
+      pub price-not-yet : not d ≡ true → Price rules forms costs row s r 0
+      price-not-yet y =
+          not-yet (ap (has s) (sym ea) ∙ sym eb ∙ n) (ap (codeAt forms) (sym es) ∙ sym ec ∙ k)
+          (ap (has s) (sym (ex ∙ ap (valueAt forms) es)) ∙ sym ed ∙ not-true d y) refl
+
+      pub price-sum : not d ≡ false → {w : ℕ} → w ≡ weightAt rules r → {v : ℕ} → v ≡ getD row x 0 → Price rules forms costs row s r (perWeight * w + 1 + v)
+      price-sum y ew ev =
+          chained (ap (has s) (sym ea) ∙ sym eb ∙ n) (ap (codeAt forms) (sym es) ∙ sym ec ∙ k)
+          (ap (has s) (sym (ex ∙ ap (valueAt forms) es)) ∙ sym ed ∙ not-false d y)
+          (omega (arith, ew, ev, ap (λ (o : ℕ). getD row o 0) (ex ∙ ap (valueAt forms) es)))

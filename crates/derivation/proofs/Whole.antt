@@ -1,28 +1,24 @@
 -- A derivation at a node: the choices, then the places of the plain rule.
-use Rattle.forest.specs.Limits.{mostNonTerminals}
 use mathlib.Core.Path.{_≡_, sym, ap, _∙_}
-use Prim.Native.Nat.{ℕ, _+_, _≤_}
+use Prim.Native.Nat.{ℕ, _≤_}
 use native.Mathlib.Omega.{arith}
 use mathlib.Core.Bool.{true}
 use mathlib.Core.List.{List, _++_}
 use lib.ListN.{length, length-append}
 use lib.Seq.{sets, length-sets}
-use Rattle.forest.specs.code.Cursors.{size, from, first}
-use Rattle.forest.proofs.Laws.{tree-at}
-use Rattle.derivation.specs.code.Masks.{has}
 use Rattle.derivation.specs.code.Search.{Chain}
+use Rattle.derivation.proofs.Parts.{tree-some}
+use Rattle.forest.specs.code.Cursors.{from}
+use Rattle.derivation.specs.code.Masks.{has}
 use Rattle.derivation.specs.code.Showing.{FollowPre, FollowPost, EmitPre, EmitPost, SpreadPre, SpreadPost}
 use Rattle.derivation.specs.code.Filling.{NodeIs}
 use Rattle.forest.proofs.Rows.{sets-append}
-use Rattle.derivation.proofs.Track.{size-one}
+use Rattle.forest.specs.Limits.{mostNonTerminals}
 
 module _ {rules forms body masks : List ℕ} {i a : ℕ} {shown : List ℕ} {at : ℕ} (e : EmitPre rules forms body masks i a shown at)
-    {chosen : List ℕ} {s : ℕ} (n : NodeIs rules forms body masks i chosen s) where
+    {row chosen : List ℕ} {s : ℕ} (n : NodeIs rules forms body masks i row chosen s) where
   pub member : has s a ≡ true
   member = n .exact (e .asks) .complete a (e .low) (e .derives)
-
-  pub some-size : 1 ≤ size (first 1 (from (e .asks .given .F) i))
-  some-size = let t = tree-at (e .asks .given .F) i (e .asks .inside) in omega (arith, size-one (from (e .asks .given .F) i) (t .is))
 
   abbrev pub steps : (k : ℕ) × Chain (e .asks .given .G) (from (e .asks .given .F) i) s chosen a k × (k ≤ mostNonTerminals)
   steps = n .chains (e .asks) a (e .low) member
@@ -38,7 +34,7 @@ module _ {rules forms body masks : List ℕ} {i a : ℕ} {shown : List ℕ} {at 
     s = s;
     k = steps .0;
     chain = steps .1;
-    room = omega (arith, e .room, some-size, steps .2);
+    room = omega (arith, e .room, tree-some (e .asks), steps .2);
   }
 
   module _ {shown' : List ℕ} {at' r : ℕ} (fp : FollowPost rules forms chosen a shown at follow-pre shown' at' r) where
@@ -54,6 +50,7 @@ module _ {rules forms body masks : List ℕ} {i a : ℕ} {shown : List ℕ} {at 
     emit-post sp = record {
       ds = fp .ws ++ sp .ds;
       derivation = fp .back (sp .ds) (sp .derivation);
+      least = fp .least (sp .ds) (sp .least);
       wrote =
           sp .wrote
           ∙ ap (λ (l : List ℕ). sets l at' (sp .ds)) (fp .wrote)

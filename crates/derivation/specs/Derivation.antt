@@ -32,9 +32,13 @@ pub data AnyLeaf (arguments : List ℕ) : Item → Label → Type 0 where
   constant : {s v : ℕ} → Fit s v → AnyLeaf arguments (anyLiteral s) (literal s v)
   variable : {s k : ℕ} → Argument arguments s k → AnyLeaf arguments (anyArgument s) (name s k)
 
--- A rule of the non-terminal A.
+-- The most that a rule may weigh: "k to 65,535" (E13).
+abbrev pub mostWeight : ℕ
+mostWeight = 65535
+
+-- A rule of the non-terminal A, and what it weighs (E13).
 pub data Rule : Type 0 where
-  rule : (A : ℕ) → (form : Forest Item) → Rule
+  rule : (A weight : ℕ) → (form : Forest Item) → Rule
 
 -- The grammar of a function: the sorts of the function's arguments, in their order, and the rules.
 pub record Grammar : Type 0 where
@@ -44,14 +48,20 @@ pub record Grammar : Type 0 where
 -- The non-terminal of rule r: "Rules are numbered from 0 through the whole grammar."
 unfoldable pub headOf : List Rule → ℕ → ℕ
 headOf [] r = 0
-headOf (rule A form ∷ more) zero = A
-headOf (rule A form ∷ more) (suc r) = headOf more r
+headOf (rule A weight form ∷ more) zero = A
+headOf (rule A weight form ∷ more) (suc r) = headOf more r
 
 -- The right side of rule r.
 unfoldable pub formOf : List Rule → ℕ → Forest Item
 formOf [] r = none
-formOf (rule A form ∷ more) zero = form
-formOf (rule A form ∷ more) (suc r) = formOf more r
+formOf (rule A weight form ∷ more) zero = form
+formOf (rule A weight form ∷ more) (suc r) = formOf more r
+
+-- The weight of rule r.
+unfoldable pub weightOf : List Rule → ℕ → ℕ
+weightOf [] r = 0
+weightOf (rule A weight form ∷ more) zero = weight
+weightOf (rule A weight form ∷ more) (suc r) = weightOf more r
 
 -- The forms P derive the terms T, tree by tree, by the rules ds, leftmost first. "A non-terminal derives a term if one of its rules does: a term rule when the
 -- term equals the rule with each non-terminal replaced, place by place, by a term it derives .. The definition doesn't bound a derivation's length."

@@ -24,7 +24,7 @@ formYields arguments found (tree i ops more) = nodeYields arguments found i && f
 -- One pass over the rules: the non-terminal of each rule that yields is found from there on.
 unfoldable pub onePass : (arguments found : List ℕ) → List Rule → List ℕ
 onePass arguments found [] = found
-onePass arguments found (rule A form ∷ more) =
+onePass arguments found (rule A weight form ∷ more) =
     let grown = cond (formYields arguments found form && not (among A found)) (A ∷ found) found in
     onePass arguments grown more
 

@@ -1,4 +1,5 @@
 pub mod Tables
+pub mod Ranks
 pub mod Matching
 pub mod Search
 pub mod Derive

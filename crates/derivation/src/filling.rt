@@ -1,63 +1,180 @@
-//! Which non-terminals derive the tree at each node of the body: its mask.
+//! Which non-terminals derive the tree at each node of the body, and the rank of the least list of each.
 ghost use mathlib.Core.Path.{_≡_};
+ghost use mathlib.Core.Bool.{_&&_, _||_, not};
+ghost use Prim.Native.Nat.{_+_, _/_, _<_, _≤_};
+ghost use lib.Dec.{eqb, ltb};
 ghost use lib.ListN.{length};
-ghost use Rattle.forest.specs.Limits.{mostNonTerminals};
+ghost use lib.Seq.{sets};
+ghost use Rattle.forest.specs.Limits.{mostRules};
+ghost use Rattle.derivation.specs.code.Rules.{ruleWidth};
 ghost use Rattle.derivation.specs.code.Search.{Asks};
-ghost use Rattle.derivation.specs.code.Filling.{AllExact, Finds, MasksPre, NodeIs};
+ghost use Rattle.derivation.specs.code.Filling.{AllExact, Chooses, MasksPre, NodeIs, Price, Priced, Prices, RowPre, SettlePre, Settles};
+use crate::masks::MARKS;
+use crate::masks::MASK;
 use crate::masks::has;
 use crate::masks::put;
-use crate::matching::applies;
+use crate::matching::PER_WEIGHT;
+use crate::matching::rank_of;
 use crate::rules::non_terminal_at;
 use crate::rules::rules_in;
+use crate::rules::start_at;
+use crate::rules::weight_at;
 use forest::limits::NON_TERMINALS;
+use forest::limits::RULES;
+use forest::numbers::entry_at;
 use terms::ROW;
+use terms::code_at;
+use terms::codes::NON_TERMINAL;
+use terms::value_at;
 
-// The first rule that can be used at a node and whose non-terminal is not known yet; the number of rules if there is none.
-fn find(rules: &[u64], forms: &[u64], body: &[u64], masks: &[u64], node: usize, known: u64) -> usize
-    requires { ⌜ Asks (now rules) (now forms) (now body) (now masks) node ⌝ }
-    ensures { λ r. ⌜ Finds (now (rules .entry)) (now (forms .entry)) (now (body .entry)) (now (masks .entry)) node known r ⌝ }
+// The rule that leads to the least list, and the rank of that list; 0 if there is none.
+struct Choice {
+    rule: usize,
+    rank: u64,
+}
+
+// The ranks at a node of the rules that are no chain rules.
+fn price_rules(
+    rules: &[u64],
+    forms: &[u64],
+    body: &[u64],
+    masks: &[u64],
+    node: usize,
+    costs: &mut [u64; RULES],
+)
+    requires { ⌜ Asks (now rules) (now forms) (now body) (now masks) node × (length (now costs) ≡ mostRules) ⌝ }
+    ensures { λ _. ⌜ Priced (now (rules .entry)) (now (forms .entry)) (now (body .entry)) (now (masks .entry)) node
+        (length (now (rules .entry)) / ruleWidth) (now (costs .exit)) ⌝ }
 {
     let count = rules_in(rules);
     let mut rule: usize = 0;
     while rule < count {
-        if has(known, non_terminal_at(rules, rule)) {
+        if code_at(forms, start_at(rules, rule)) == NON_TERMINAL {
             rule += 1;
         } else {
-            if applies(rules, forms, body, masks, node, known, rule) {
-                return rule;
-            }
+            costs[rule] = rank_of(rules, forms, body, masks, node, rule);
             rule += 1;
         }
     }
-    rule
 }
 
-// The non-terminals that derive the tree at a node; `chosen` gets for each the rule to use.
+// The rank of the list that a rule leads to, where the non-terminals of `known` have their ranks; 0 if it adds nothing.
+fn price(rules: &[u64], forms: &[u64], costs: &[u64], row: &[u64], known: u64, rule: usize) -> u64
+    requires { ⌜ Prices (now rules) (now forms) (now row) × (rule < length (now rules) / ruleWidth) ⌝ }
+    ensures { λ c. ⌜ Price (now (rules .entry)) (now (forms .entry)) (now (costs .entry)) (now (row .entry)) known rule c ⌝ }
+{
+    if has(known, non_terminal_at(rules, rule)) {
+        return 0;
+    }
+    let start = start_at(rules, rule);
+    if code_at(forms, start) != NON_TERMINAL {
+        return entry_at(costs, rule);
+    }
+    let next = value_at(forms, start);
+    if !has(known, next) {
+        return 0;
+    }
+    PER_WEIGHT * weight_at(rules, rule) + 1 + entry_at(row, next as usize)
+}
+
+// Whether a price is one, and less than the least yet, if there is one.
+fn better(cost: u64, least: u64) -> bool
+    ensures { λ r. ⌜ r ≡ (not (eqb cost 0) && (eqb least 0 || ltb cost least)) ⌝ }
+{
+    (cost != 0) & ((least == 0) | (cost < least))
+}
+
+// Of the rules of non-terminals that are not known the one of the least price, the first of equals.
+fn choose(rules: &[u64], forms: &[u64], costs: &[u64], row: &[u64], known: u64) -> Choice
+    requires { ⌜ Prices (now rules) (now forms) (now row) ⌝ }
+    ensures { λ x. ⌜ Chooses (now (rules .entry)) (now (forms .entry)) (now (costs .entry)) (now (row .entry)) known
+        (length (now (rules .entry)) / ruleWidth) (x .rule) (x .rank) ⌝ }
+{
+    let count = rules_in(rules);
+    let mut best: usize = 0;
+    let mut least: u64 = 0;
+    let mut rule: usize = 0;
+    while rule < count {
+        let cost = price(rules, forms, costs, row, known, rule);
+        if better(cost, least) {
+            best = rule;
+            least = cost;
+            rule += 1;
+        } else {
+            rule += 1;
+        }
+    }
+    Choice {
+        rule: best,
+        rank: least,
+    }
+}
+
+// Settles the non-terminals of a node one by one, the cheapest first; `row` gets their ranks, `chosen` for each the rule to use.
+fn settle(
+    rules: &[u64],
+    forms: &[u64],
+    costs: &[u64],
+    row: &mut [u64; MARKS],
+    chosen: &mut [u64; NON_TERMINALS],
+) -> u64
+    requires { ⌜ SettlePre (now rules) (now forms) (now costs) (now row) (now chosen) ⌝ }
+    ensures { λ s. ⌜ Settles (now (rules .entry)) (now (forms .entry)) (now (costs .entry)) (now (row .entry)) (now (chosen .entry))
+        (now (row .exit)) (now (chosen .exit)) s ⌝ }
+{
+    let mut known: u64 = 0;
+    loop {
+        let choice = choose(rules, forms, costs, row, known);
+        let rank = choice.rank;
+        if rank == 0 {
+            return known;
+        }
+        let rule = choice.rule;
+        let nonterminal = non_terminal_at(rules, rule);
+        chosen[nonterminal as usize] = rule as u64;
+        row[nonterminal as usize] = rank;
+        known = put(known, nonterminal);
+    }
+}
+
+// No price for each rule.
+fn no_costs() -> [u64; RULES]
+    ensures { λ r. ⌜ length r ≡ mostRules ⌝ }
+{
+    [0u64; RULES]
+}
+
+// The non-terminals that derive the tree at a node, with their ranks in `row`; `chosen` gets for each the rule to use.
 pub fn derivers(
     rules: &[u64],
     forms: &[u64],
     body: &[u64],
     masks: &[u64],
     node: usize,
+    row: &mut [u64; MARKS],
     chosen: &mut [u64; NON_TERMINALS],
 ) -> u64
-    requires { ⌜ Asks (now rules) (now forms) (now body) (now masks) node × (length (now chosen) ≡ mostNonTerminals) ⌝ }
-    ensures { λ s. ⌜ NodeIs (now (rules .entry)) (now (forms .entry)) (now (body .entry)) (now (masks .entry)) node (now (chosen .exit)) s ⌝ }
+    requires { ⌜ Asks (now rules) (now forms) (now body) (now masks) node × RowPre (now row) (now chosen) ⌝ }
+    ensures { λ s. ⌜ NodeIs (now (rules .entry)) (now (forms .entry)) (now (body .entry)) (now (masks .entry)) node (now (row .exit)) (now (chosen .exit)) s ⌝ }
 {
-    let count = rules_in(rules);
-    let mut known: u64 = 0;
-    loop {
-        let rule = find(rules, forms, body, masks, node, known);
-        if rule == count {
-            return known;
-        }
-        let nonterminal = non_terminal_at(rules, rule);
-        chosen[nonterminal as usize] = rule as u64;
-        known = put(known, nonterminal);
+    let mut costs = no_costs();
+    price_rules(rules, forms, body, masks, node, &mut costs);
+    settle(rules, forms, &costs, row, chosen)
+}
+
+// Writes the row of a node into the table, from `at` on.
+fn put_row(row: &[u64], masks: &mut [u64], at: usize)
+    requires { ⌜ at + length (now row) ≤ length (now masks) ⌝ }
+    ensures { λ _. ⌜ now (masks .exit) ≡ sets (now (masks .entry)) at (now (row .entry)) ⌝ }
+{
+    let mut i: usize = 0;
+    while i < row.len() {
+        masks[at + i] = row[i];
+        i += 1;
     }
 }
 
-// Fills in the mask of each node of the body, from the last to the first.
+// Fills in the mask and the ranks of each node of the body, from the last to the first.
 pub fn fill_masks(rules: &[u64], forms: &[u64], body: &[u64], masks: &mut [u64])
     requires { ⌜ MasksPre (now rules) (now forms) (now body) (now masks) ⌝ }
     ensures { λ _. ⌜ AllExact (now (rules .entry)) (now (forms .entry)) (now (body .entry)) (now (masks .exit)) ⌝ }
@@ -65,8 +182,10 @@ pub fn fill_masks(rules: &[u64], forms: &[u64], body: &[u64], masks: &mut [u64])
     let mut node = body.len() / ROW;
     while 0 < node {
         node -= 1;
+        let mut row = [0u64; MARKS];
         let mut chosen = [0u64; NON_TERMINALS];
-        let mask = derivers(rules, forms, body, masks, node, &mut chosen);
-        masks[node] = mask;
+        let mask = derivers(rules, forms, body, masks, node, &mut row, &mut chosen);
+        row[MASK] = mask;
+        put_row(&row, masks, MARKS * node);
     }
 }

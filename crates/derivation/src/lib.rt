@@ -1,16 +1,19 @@
 //! Whether the rules of a grammar derive a body, and by which rules.
 //!
-//! `rules` has two numbers for each rule: the node of `forms` where its right side starts, and its non-terminal.
+//! `rules` has three numbers for each rule: the node of `forms` where its right side starts, its non-terminal, and its weight.
 //! `forms` and `body` are node tables: the right sides of all rules, and the body.
 ghost use mathlib.Core.Path.{_≡_};
-ghost use Prim.Native.Nat.{_+_, _≤_};
+ghost use Prim.Native.Nat.{_+_, _*_, _≤_};
 ghost use lib.ListN.{length, replicate};
 ghost use lib.Seq.{sets};
 ghost use Rattle.derivation.specs.Answer.{unused};
 ghost use Rattle.derivation.specs.code.Derive.{Decides, DerivePre};
+ghost use Rattle.derivation.specs.code.Masks.{markWidth};
 ghost use Rattle.forest.specs.Limits.{listSize, mostNodes};
 use forest::limits::LIST;
 use forest::limits::NODES;
+use masks::MARKS;
+use matching::PER_WEIGHT;
 use terms::ROW;
 
 mod filling;
@@ -21,16 +24,19 @@ mod rules;
 mod showing;
 
 // How many numbers a rule has in the table of rules.
-pub const RULE: usize = 2;
+pub const RULE: usize = 3;
 
 // An entry that no list uses.
 pub const UNUSED: u16 = 65535;
 
-// A mask for each node of a body.
-fn no_masks() -> [u64; NODES]
-    ensures { λ r. ⌜ length r ≡ mostNodes ⌝ }
+// How many numbers the table of masks has room for.
+const MARKED: usize = NODES * MARKS;
+
+// A mask and the ranks for each node of a body.
+fn no_masks() -> [u64; MARKED]
+    ensures { λ r. ⌜ length r ≡ mostNodes * markWidth ⌝ }
 {
-    [0u64; NODES]
+    [0u64; MARKED]
 }
 
 // A list of one function with every entry unused.
@@ -52,17 +58,36 @@ fn copy(list: &[u16], area: &mut [u16], at: usize)
     }
 }
 
-// Whether the start derives the body; if so, the function's list in the area gets a derivation, and its other entries are unused.
-pub fn derive(rules: &[u64], forms: &[u64], body: &[u64], function: usize, area: &mut [u16]) -> bool
+// Whether there is a derivation, and what the least one weighs in all; 0 if there is none.
+pub struct Derived {
+    pub found: bool,
+    pub total: u64,
+}
+
+// Whether the start derives the body; if so, the function's list in the area gets the least derivation, and its other entries are unused.
+pub fn derive(
+    rules: &[u64],
+    forms: &[u64],
+    body: &[u64],
+    function: usize,
+    area: &mut [u16],
+) -> Derived
     requires { ⌜ DerivePre (now rules) (now forms) (now body) function (now area) ⌝ }
-    ensures { λ r. ⌜ Decides (now (rules .entry)) (now (forms .entry)) (now (body .entry)) function (now (area .entry)) (now (area .exit)) r ⌝ }
+    ensures { λ r. ⌜ Decides (now (rules .entry)) (now (forms .entry)) (now (body .entry)) function (now (area .entry)) (now (area .exit)) (r .found) (r .total) ⌝ }
 {
-    let count = body.len() / ROW;
+    let long = body.len() / ROW * MARKS;
     let mut masks = no_masks();
     let mut list = blank();
-    if !showing::show(rules, forms, body, &mut masks[..count], &mut list) {
-        return false;
+    let rank = showing::show(rules, forms, body, &mut masks[..long], &mut list);
+    if rank == 0 {
+        return Derived {
+            found: false,
+            total: 0,
+        };
     }
     copy(&list, area, LIST * function);
-    true
+    Derived {
+        found: true,
+        total: rank / PER_WEIGHT,
+    }
 }

@@ -2,8 +2,10 @@
 ghost use Rattle.derivation.specs.code.Showing.{EmitPre, Emits, FollowPre, Follows, ShowPre, Shows, SpreadPre, Spreads};
 use crate::filling::derivers;
 use crate::filling::fill_masks;
+use crate::masks::MARKS;
 use crate::masks::has;
 use crate::masks::mask_at;
+use crate::masks::rank_at;
 use crate::rules::start_at;
 use forest::limits::NON_TERMINALS;
 use terms::code_at;
@@ -50,7 +52,7 @@ fn follow(
     }
 }
 
-// Writes a derivation of the tree at a node from a non-terminal, from `at` on; returns the next free place.
+// Writes the least derivation of the tree at a node from a non-terminal, from `at` on; returns the next free place.
 fn emit(
     rules: &[u64],
     forms: &[u64],
@@ -65,13 +67,14 @@ fn emit(
     ensures { λ x. ⌜ Emits (now (rules .entry)) (now (forms .entry)) (now (body .entry)) (now (masks .entry)) node
         nonterminal (now (shown .entry)) at (now (shown .exit)) x ⌝ }
 {
+    let mut row = [0u64; MARKS];
     let mut chosen = [0u64; NON_TERMINALS];
-    derivers(rules, forms, body, masks, node, &mut chosen);
+    derivers(rules, forms, body, masks, node, &mut row, &mut chosen);
     let end = follow(rules, forms, &chosen, nonterminal, shown, at);
     spread(rules, forms, body, masks, node, end.rule, shown, end.at)
 }
 
-// Writes derivations for the non-terminals of a rule, which is no chain rule, at a node.
+// Writes the least derivations for the non-terminals of a rule, which is no chain rule, at a node.
 fn spread(
     rules: &[u64],
     forms: &[u64],
@@ -112,21 +115,15 @@ fn spread(
     next
 }
 
-// Whether the start derives the body; a derivation goes to the front of the list.
-pub fn show(
-    rules: &[u64],
-    forms: &[u64],
-    body: &[u64],
-    masks: &mut [u64],
-    shown: &mut [u16],
-) -> bool
+// The rank of the least list by which the start derives the body, which goes to the front of the list; 0 if there is none.
+pub fn show(rules: &[u64], forms: &[u64], body: &[u64], masks: &mut [u64], shown: &mut [u16]) -> u64
     requires { ⌜ ShowPre (now rules) (now forms) (now body) (now masks) (now shown) ⌝ }
     ensures { λ r. ⌜ Shows (now (rules .entry)) (now (forms .entry)) (now (body .entry)) (now (masks .entry)) (now (shown .entry)) (now (shown .exit)) r ⌝ }
 {
     fill_masks(rules, forms, body, masks);
     if !has(mask_at(masks, 0), START) {
-        return false;
+        return 0;
     }
     emit(rules, forms, body, masks, 0, START, shown, 0);
-    true
+    rank_at(masks, 0, START)
 }

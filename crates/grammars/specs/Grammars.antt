@@ -14,7 +14,7 @@ use Rattle.names.specs.Unknown.{unknownIn}
 use Rattle.term_faults.specs.Faults.{ruleMisfit, termFault}
 use Rattle.forest.specs.Limits.{Counts}
 use Rattle.grammars.specs.Listing.{deadMisfit, listingMisfit, startMisfit}
-use Rattle.term_nodes.specs.Rules.{Ruled, itemPast, nodesPast, rulePast, rulesIn, sides}
+use Rattle.term_nodes.specs.Rules.{Ruled, itemPast, nodesPast, rulePast, rulesIn, sides, weightIn}
 use Rattle.written_sorts.specs.Written.{grammarSorts, sortOf}
 use Rattle.written_sorts.specs.declared.Fault.the-variants.{Empty, TooWide, Unknown}
 
@@ -49,7 +49,7 @@ listedMisfit nowhere view c = min (listMisfit nowhere view c) (ruleMisfit nowher
 
 -- The rules that a grammar says.
 abbrev pub grammarOf : View → (groups : Items) → List Rule
-grammarOf view groups = map (λ (r : Ruled). rule (r .head) (formsOf view (r .side))) (rulesIn 0 groups)
+grammarOf view groups = map (λ (r : Ruled). rule (r .head) (weightIn r) (formsOf view (r .side))) (rulesIn 0 groups)
 
 -- The grammar that the command says: the sorts of the function's arguments, and the rules.
 abbrev pub grammarIn : View → Items → Grammar

@@ -174,8 +174,8 @@ never-ends {k} {ts} {points} {n} affords (not-begun {p = p} inside before named 
     omega (arith, within-point k ts points p named more, sum-next has p, sum-most has 0 (p + 1) n (omega arith))
 
 -- Nor in a verdict.
-verdict-ends : {response : List ℕ} {k : Known} {bs : List Body} {points : List ℕ} {n budget : ℕ} {o : Outcome} {a : List ℕ}
-    → pointsOf (namedSorts (k .variables)) points ≡ Good n → Affords k (termsOf bs) points n budget → Judgement response k bs points budget o a
+verdict-ends : {response : List ℕ} {k : Known} {bs : List Body} {points : List ℕ} {n budget : ℕ} {o : Outcome} {a w : List ℕ}
+    → pointsOf (namedSorts (k .variables)) points ≡ Good n → Affords k (termsOf bs) points n budget → Judgement response k bs points budget o a w
     → o .number ≡ 15 → ⊥
 verdict-ends good affords (underived u) is = omega arith
 verdict-ends good affords (points-refused s e) is = omega arith
@@ -185,8 +185,8 @@ verdict-ends {k = k} {bs} {points} {n} {budget} good affords (evaluated {n = m} 
 
 -- 0 says that every constraint is true at every point whose assumptions hold, and 14 names a point whose assumptions hold and a constraint that is false there,
 -- whatever the budget is.
-pub truthful : {script response points : List ℕ} {budget : ℕ} {area : List ℕ} {k : Known} {bs : List Body} {o : Outcome} {a : List ℕ}
-    → Passing script response points area k bs → Checked script response points budget area o a → Truthful k (termsOf bs) points o
+pub truthful : {script response points : List ℕ} {budget : ℕ} {area : List ℕ} {k : Known} {bs : List Body} {o : Outcome} {a w : List ℕ}
+    → Passing script response points area k bs → Checked script response points budget area o a w → Truthful k (termsOf bs) points o
 truthful {script} {points = points} {k = k} {bs} {o} passing c =
     let order = in-order passing c in
     record {
@@ -206,17 +206,17 @@ truthful {script} {points = points} {k = k} {bs} {o} passing c =
     }
 
 -- A budget that is at least the summed cost of all the evaluations does not end.
-pub enough : {script response points : List ℕ} {budget : ℕ} {area : List ℕ} {k : Known} {bs : List Body} {n : ℕ} {o : Outcome} {a : List ℕ}
+pub enough : {script response points : List ℕ} {budget : ℕ} {area : List ℕ} {k : Known} {bs : List Body} {n : ℕ} {o : Outcome} {a w : List ℕ}
     → Passing script response points area k bs → pointsOf (namedSorts (k .variables)) points ≡ Good n → Affords k (termsOf bs) points n budget
-    → Checked script response points budget area o a → o .number ≡ 15 → ⊥
+    → Checked script response points budget area o a w → o .number ≡ 15 → ⊥
 enough passing good affords c = verdict-ends good affords (of-passing passing c)
 
 -- "So once bodies are derived and points have passed, and the budget is at least the summed cost of all the evaluations, the answer can only be accepted or a
 -- named false constraint."
-pub decided : {script response points : List ℕ} {budget : ℕ} {area : List ℕ} {k : Known} {bs : List Body} {n : ℕ} {o : Outcome} {a : List ℕ}
+pub decided : {script response points : List ℕ} {budget : ℕ} {area : List ℕ} {k : Known} {bs : List Body} {n : ℕ} {o : Outcome} {a w : List ℕ}
     → Passing script response points area k bs → Derived (inScriptOrder (k .functions)) (termsOf bs)
     → pointsOf (namedSorts (k .variables)) points ≡ Good n → Affords k (termsOf bs) points n budget
-    → Checked script response points budget area o a → Decided k (termsOf bs) points n o
+    → Checked script response points budget area o a w → Decided k (termsOf bs) points n o
 decided {points = points} {k = k} {bs} {n} {o} passing derived good affords c =
     go (o .number) refl (verdict-showing derived good (of-passing passing c))
   where

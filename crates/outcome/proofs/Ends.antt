@@ -114,6 +114,6 @@ row-ends (budget-ended s g p n) t = apart t
 row-ends (bad-points s e l) t = apart t
 
 -- "each word's end" (E6): what is carried is the end of the word at the place, or the text's length at its end.
-pub carried-end : {script response points : List ℕ} {budget : ℕ} {area : List ℕ} {o : Outcome} {a : List ℕ} → Checked script response points budget area o a
+pub carried-end : {script response points : List ℕ} {budget : ℕ} {area : List ℕ} {o : Outcome} {a w : List ℕ} → Checked script response points budget area o a w
     → carries (o .number) ≡ true → EndAt (spokenOf script response o) (o .place) (located script response o .end)
 carried-end c = row-ends (table c)

@@ -31,8 +31,8 @@ pub data Split (k : Known) (bs : List Body) (o : Outcome) : Type 0 where
   not-all : (Derived (inScriptOrder (k .functions)) (termsOf bs) → ⊥) → o .number ≡ 13 → Split k bs o
 
 -- Every verdict is one of the two.
-pub split : {response : List ℕ} {k : Known} {bs : List Body} {points : List ℕ} {budget : ℕ} {o : Outcome} {a : List ℕ}
-    → Judgement response k bs points budget o a → Split k bs o
+pub split : {response : List ℕ} {k : Known} {bs : List Body} {points : List ℕ} {budget : ℕ} {o : Outcome} {a w : List ℕ}
+    → Judgement response k bs points budget o a w → Split k bs o
 split (underived u) = not-all (not-derived u) refl
 split (points-refused s e) = derived (shown-derived s) bad-points
 split {k = k} {bs} {points} {budget} (evaluated {n = n} s e) =
@@ -55,8 +55,8 @@ verdict-derived (derived d passed) h = d
 verdict-derived (not-all no-derivation is) h = absurd (not-passed (omega arith) h)
 
 -- No answer of another stage passes it.
-bodies-derived : {script response points : List ℕ} {budget : ℕ} {area : List ℕ} {o : Outcome} {a : List ℕ}
-    → Checked script response points budget area o a → GrammarPassed (o .number) → BodiesDerived script response points area
+bodies-derived : {script response points : List ℕ} {budget : ℕ} {area : List ℕ} {o : Outcome} {a w : List ℕ}
+    → Checked script response points budget area o a w → GrammarPassed (o .number) → BodiesDerived script response points area
 bodies-derived {script} {response} {points} {area = area} (missized e) h =
     let one = missized-one script response points area e in
     absurd (not-passed (omega arith) h)
@@ -69,8 +69,8 @@ thirteen (derived d other) e = absurd (e d)
 thirteen (not-all no-derivation is) e = is
 
 -- 13 names the first body that has none; no other stage answers it.
-named : {script response points : List ℕ} {budget : ℕ} {area : List ℕ} {o : Outcome} {a : List ℕ}
-    → Checked script response points budget area o a → o .number ≡ 13 → NoDerivation script response points area o
+named : {script response points : List ℕ} {budget : ℕ} {area : List ℕ} {o : Outcome} {a w : List ℕ}
+    → Checked script response points budget area o a w → o .number ≡ 13 → NoDerivation script response points area o
 named {script} {response} {points} {area = area} (missized e) is = let h = missized-one script response points area e in absurd (omega arith)
 named (texts-refused n t) is = let h = refused-number t in absurd (omega arith)
 named (judged {k = k} {bs = bs} p (underived {b = b} u)) is =
@@ -82,8 +82,8 @@ named {points = points} {budget} (judged {k = k} {bs = bs} p (evaluated {n = n} 
 
 -- "Within the stated limits, a well-sorted response passes the grammar check exactly when each body has a derivation from its function's grammar .. "No
 -- derivation" is said only when none of any length exists."
-pub exact : {script response points : List ℕ} {budget : ℕ} {area : List ℕ} {o : Outcome} {a : List ℕ}
-    → Checked script response points budget area o a → Exact script response points area o
+pub exact : {script response points : List ℕ} {budget : ℕ} {area : List ℕ} {o : Outcome} {a w : List ℕ}
+    → Checked script response points budget area o a w → Exact script response points area o
 exact c =
     record {
       derived-passes = λ p. passes (split (of-passing p c));
@@ -92,41 +92,41 @@ exact c =
       refused-underived = named c;
     }
 
--- "what stands in the lent areas afterwards is fixed".
-pub shown-derives : {script response points : List ℕ} {budget : ℕ} {area : List ℕ} {o : Outcome} {a : List ℕ}
-    → Checked script response points budget area o a → AreaStated script response points area o a
+-- "what stands in the lent areas afterwards is fixed", and so are the totals.
+pub shown-derives : {script response points : List ℕ} {budget : ℕ} {area : List ℕ} {o : Outcome} {a w : List ℕ}
+    → Checked script response points budget area o a w → AreaStated script response points area o a w
 shown-derives {script} {response} {points} {area = area} (missized e) =
     let h = missized-one script response points area e in
-    shows-none (not-showing (omega arith)) refl
+    shows-none (not-showing (omega arith)) refl refl
 shown-derives {script} {response} {points} {area = area} (texts-refused n t) =
     let h = refused-number t in
-    shows-none (not-showing (omega arith)) (sym (sized-area script response points area n))
+    shows-none (not-showing (omega arith)) (sym (sized-area script response points area n)) refl
 shown-derives {script} {response} {points} {area = area} (judged p (underived u)) =
-    shows-none (not-showing (omega arith)) (sym (sized-area script response points area (p .sized)))
+    shows-none (not-showing (omega arith)) (sym (sized-area script response points area (p .sized))) refl
 shown-derives {script} {response} {points} {area = area} (judged p (points-refused s e)) =
-    shows-none (not-showing (omega arith)) (sym (sized-area script response points area (p .sized)))
+    shows-none (not-showing (omega arith)) (sym (sized-area script response points area (p .sized))) refl
 shown-derives {points = points} {budget} (judged {k = k} {bs = bs} p (evaluated {lists = lists} {n = n} s e)) =
-    shows (run-showing budget (ranWith k (termsOf bs) points n budget)) (record { k = k; bs = bs; lists = lists; passing = p; shown = s; is = refl })
+    shows (run-showing budget (ranWith k (termsOf bs) points n budget)) (record { k = k; bs = bs; lists = lists; passing = p; shown = s; is = refl; weigh = refl })
 
 -- Of derived bodies and points that pass the answer is 0, 14 or 15.
-pub verdict-showing : {response : List ℕ} {k : Known} {bs : List Body} {points : List ℕ} {budget n : ℕ} {o : Outcome} {a : List ℕ}
+pub verdict-showing : {response : List ℕ} {k : Known} {bs : List Body} {points : List ℕ} {budget n : ℕ} {o : Outcome} {a w : List ℕ}
     → Derived (inScriptOrder (k .functions)) (termsOf bs) → pointsOf (namedSorts (k .variables)) points ≡ Good n
-    → Judgement response k bs points budget o a → Showing (o .number)
+    → Judgement response k bs points budget o a w → Showing (o .number)
 verdict-showing d good (underived u) = absurd (not-derived u d)
 verdict-showing d good (points-refused s e) = let z : _≡_ {A = ℕ} 0 1 = cc in absurd (omega arith)
 verdict-showing {k = k} {bs} {points} {budget} d good (evaluated {n = n} s e) = run-showing budget (ranWith k (termsOf bs) points n budget)
 
 -- The derivations that an area shows, after one of the three.
-shown-there : {script response points area : List ℕ} {o : Outcome} {a : List ℕ} → Showing (o .number) → AreaStated script response points area o a
-    → DerivationsShown script response points area a
+shown-there : {script response points area : List ℕ} {o : Outcome} {a w : List ℕ} → Showing (o .number) → AreaStated script response points area o a w
+    → DerivationsShown script response points area a w
 shown-there s (shows n d) = d
-shown-there s (shows-none no-show e) = absurd (no-show s)
+shown-there s (shows-none no-show e z) = absurd (no-show s)
 
 -- "and a derivation is shown once the points pass too".
-pub shown-once : {script response points : List ℕ} {budget : ℕ} {area : List ℕ} {k : Known} {bs : List Body} {n : ℕ} {o : Outcome} {a : List ℕ}
+pub shown-once : {script response points : List ℕ} {budget : ℕ} {area : List ℕ} {k : Known} {bs : List Body} {n : ℕ} {o : Outcome} {a w : List ℕ}
     → Passing script response points area k bs → Derived (inScriptOrder (k .functions)) (termsOf bs)
-    → pointsOf (namedSorts (k .variables)) points ≡ Good n → Checked script response points budget area o a
-    → Showing (o .number) × DerivationsShown script response points area a
+    → pointsOf (namedSorts (k .variables)) points ≡ Good n → Checked script response points budget area o a w
+    → Showing (o .number) × DerivationsShown script response points area a w
 shown-once passing d good c =
     let there = verdict-showing d good (of-passing passing c) in
     (there, shown-there there (shown-derives c))

@@ -8,7 +8,6 @@ pub mod Areas
 pub mod Stages
 pub mod Sorts
 pub mod Deriving
-pub mod Elsewhere
 pub mod Exact
 pub mod Unique
 pub mod Declined

@@ -6,7 +6,7 @@ use mathlib.Core.List.{List, [], _∷_}
 use mathlib.Core.Path.{_≡_}
 use lib.ListN.{length, length-map}
 use Rattle.forest.specs.Forest.{count}
-use Rattle.derivation.specs.Derivation.{formOf}
+use Rattle.derivation.specs.Derivation.{formOf, mostWeight, weightOf}
 use Rattle.derivation.specs.code.Admitted.{Admitted}
 use Rattle.lexemes.specs.Lists.{Items, inside}
 use Rattle.term_nodes.specs.Rules.{itemPast, rulePast, rulesIn}
@@ -32,13 +32,14 @@ use Rattle.outcome.proofs.SmallTerms.{script-few}
 use Rattle.outcome.specs.code.Assured.{AllAdmitted, Assured}
 use Rattle.script.proofs.Admitted.{sorted-admitted}
 use Rattle.script.proofs.Proper.{AllBounded}
-use Rattle.script.proofs.Limited.{rules-few, said-bounded}
+use Rattle.script.proofs.Limited.{rules-few, said-bounded, said-light}
 
 -- The grammar of a function is within its limits.
 record Limited (f : Function) : Type 0 where
   rules : length (f .grammar .rules) ≤ mostRules
   nonTerminals : length (f .nonTerminals) ≤ mostNonTerminals
   sides : (r : ℕ) → r < length (f .grammar .rules) → AllBounded (formOf (f .grammar .rules) r)
+  weights : (r : ℕ) → r < length (f .grammar .rules) → weightOf (f .grammar .rules) r ≤ mostWeight
 
 -- The same of every function.
 unfoldable AllLimited : List Function → Type 0
@@ -54,6 +55,7 @@ limited-admitted : {defs : List Defined} {f : Function} → RulesSorted defs f �
 limited-admitted {defs} {f} s l =
     let long = length-map (f .nonTerminals) (λ (n : Named). n .sort) in
     sorted-admitted (grammarScope defs f) (f .grammar) (l .rules) (omega (arith, l .nonTerminals)) (λ r h. omega (arith, s .heads r h)) (l .sides) (s .rules)
+    (l .weights)
 
 -- The same of every function.
 all-admitted : (defs : List Defined) (fs : List Function) → AllRulesSorted defs fs → AllLimited fs → AllAdmitted fs
@@ -84,6 +86,7 @@ module _ {nowhere : ℕ} (k : Known) (at : ℕ) (c : Items) (some-word : 0 < now
             rules = rw length-map (rules-few mostRules placed (listed .0));
             nonTerminals = omega (arith, named-long pairs);
             sides = said-bounded (viewOf k c) (rulesIn 0 groups);
+            weights = said-light (viewOf k c) (rulesIn 0 groups);
           },
           within .functions,
         );

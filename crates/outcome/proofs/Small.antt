@@ -29,6 +29,6 @@ module _ {script response points area : List ℕ} where
   row-small (bad-points s e h) = omega arith
 
 -- "one answer from the table in document 01": a number to 16, of one of "0 script, 1 response, 2 points, 3 none or the area".
-pub numbers-small : {script response points : List ℕ} {budget : ℕ} {area : List ℕ} {o : Outcome} {a : List ℕ}
-    → Checked script response points budget area o a → (o .number ≤ 16) × (o .text ≤ 3)
+pub numbers-small : {script response points : List ℕ} {budget : ℕ} {area : List ℕ} {o : Outcome} {a w : List ℕ}
+    → Checked script response points budget area o a w → (o .number ≤ 16) × (o .text ≤ 3)
 numbers-small c = row-small (table c)

@@ -25,7 +25,7 @@ use Rattle.outcome.specs.Checked.{Checked, Passing, Judgement, TextsRefu
 use Rattle.outcome.specs.Checked.{texts-refused, unshown}
 use Rattle.outcome.specs.Accepted.{TextsPass}
 use Rattle.outcome.specs.Demands.{Showing, accepted, budget-ended, constraint-false}
-use Rattle.outcome.specs.Derived.{blankArea}
+use Rattle.outcome.specs.Derived.{blankArea, noTotals}
 use Rattle.outcome.specs.Evaluated.{ranOutcome, runOutcome}
 use Rattle.outcome.specs.Table.{AnswerRow, LengthOf, of-the-area, of-the-points, of-the-response, of-the-script, too-long}
 use Rattle.outcome.specs.declared.Outcome.{Outcome}
@@ -161,28 +161,28 @@ pub one-passing : {script response points area : List ℕ} {k other : Known} {bs
 one-passing p q = one-pass {limits = responseLimits} (record { says = p .says; gives = p .gives }) (record { says = q .says; gives = q .gives })
 
 module _ {script response points : List ℕ} {budget : ℕ} {area : List ℕ} where
-  -- Where a size is not right, that is answered.
-  pub of-missized : {answer o : Outcome} {a : List ℕ} → sizeAnswer script response points area ≡ some answer
-      → Checked script response points budget area o a → o ≡ answer
-  of-missized e (missized h) = cc
+  -- Where a size is not right, that is answered, and nothing is shown.
+  pub of-missized : {answer o : Outcome} {a w : List ℕ} → sizeAnswer script response points area ≡ some answer
+      → Checked script response points budget area o a w → (o ≡ answer) × (a ≡ unshown area) × (w ≡ noTotals)
+  of-missized e (missized h) = (cc, refl, refl)
   of-missized e (texts-refused z t) = never (sym z ∙ e)
   of-missized e (judged p v) = never (sym (p .sized) ∙ e)
 
-  -- Else, where a text is refused, that is answered.
-  pub of-refused : {answer o : Outcome} {a : List ℕ} → sizeAnswer script response points area ≡ nothing → TextsRefused responseLimits script response answer
-      → Checked script response points budget area o a → o ≡ answer
+  -- Else, where a text is refused, that is answered, and nothing is shown.
+  pub of-refused : {answer o : Outcome} {a w : List ℕ} → sizeAnswer script response points area ≡ nothing → TextsRefused responseLimits script response answer
+      → Checked script response points budget area o a w → (o ≡ answer) × (a ≡ blankArea) × (w ≡ noTotals)
   of-refused n t (missized h) = never (sym n ∙ h)
-  of-refused n t (texts-refused z u) = one-refused u t
+  of-refused n t (texts-refused z u) = (one-refused u t, refl, refl)
   of-refused n t (judged p v) = not-both t (p .says) (p .gives)
 
   -- Where both pass, the verdict on them is.
-  pub of-passing : {k : Known} {bs : List Body} {o : Outcome} {a : List ℕ} → Passing script response points area k bs
-      → Checked script response points budget area o a → Judgement response k bs points budget o a
+  pub of-passing : {k : Known} {bs : List Body} {o : Outcome} {a w : List ℕ} → Passing script response points area k bs
+      → Checked script response points budget area o a w → Judgement response k bs points budget o a w
   of-passing p (missized h) = never (sym (p .sized) ∙ h)
   of-passing p (texts-refused z t) = not-both t (p .says) (p .gives)
-  of-passing {o = o} {a} p (judged q v) =
+  of-passing {o = o} {a} {w} p (judged q v) =
       let same = one-passing q p in
-      subst₂ (λ (k : Known) (bs : List Body). Judgement response k bs points budget o a) (same .0) (same .1) v
+      subst₂ (λ (k : Known) (bs : List Body). Judgement response k bs points budget o a w) (same .0) (same .1) v
 
 -- A number that is none of the three shows nothing.
 pub not-showing : {n : ℕ} → (n ≡ 0 → ⊥) × (n ≡ 14 → ⊥) × (n ≡ 15 → ⊥) → Showing n → ⊥

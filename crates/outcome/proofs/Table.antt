@@ -93,8 +93,8 @@ module _ {script response points area : List ℕ} {k : Known} where
       budget-ended says (h .whole) (h .point) (h .named)
 
   -- A verdict on texts that pass.
-  verdict-row : {bs : List Body} {budget : ℕ} {o : Outcome} {a : List ℕ} → Passing script response points area k bs
-      → Judgement response k bs points budget o a → InOrder k (termsOf bs) points o → AnswerRow script response points area o
+  verdict-row : {bs : List Body} {budget : ℕ} {o : Outcome} {a w : List ℕ} → Passing script response points area k bs
+      → Judgement response k bs points budget o a w → InOrder k (termsOf bs) points o → AnswerRow script response points area o
   verdict-row p (underived u) order = no-derivation (p .says) (underived-there u (first-words k response (p .gives))) (underived-within u)
   verdict-row p (points-refused s e) order = bad-points (p .says) e (bad-within (namedSorts (k .variables)) points e)
   verdict-row {bs} {budget} p (evaluated {n = n} s e) order =
@@ -107,8 +107,8 @@ text-row {script} (script-refused e) = of-script (script-row script e)
 text-row {response = response} (response-refused {k = k} s e) = of-response (response-row k response e)
 
 -- "one answer from the table in document 01".
-pub table : {script response points : List ℕ} {budget : ℕ} {area : List ℕ} {o : Outcome} {a : List ℕ}
-    → Checked script response points budget area o a → AnswerRow script response points area o
+pub table : {script response points : List ℕ} {budget : ℕ} {area : List ℕ} {o : Outcome} {a w : List ℕ}
+    → Checked script response points budget area o a w → AnswerRow script response points area o
 table {script} {response} {points} {area = area} (missized e) = missized-one script response points area e .row
 table (texts-refused n t) = text-row t
 table (judged p v) = verdict-row p v (in-order p (judged p v))

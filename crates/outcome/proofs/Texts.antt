@@ -4,7 +4,7 @@ use native.Mathlib.Omega.{arith}
 use mathlib.Core.Bool.{Bool, true, false, cond}
 use mathlib.Core.List.{List}
 use mathlib.Core.Option.{Option, none as nothing, some}
-use mathlib.Core.Path.{_≡_, ap, ap₂, refl, sym, _∙_}
+use mathlib.Core.Path.{_≡_, ap, refl, sym, _∙_}
 use borrow.Author.Tests.{eq-eqb, le-ltb, ltb-false}
 use lib.Dec.{eqb, ltb}
 use lib.ListN.{length}
@@ -21,8 +21,8 @@ use Rattle.outcome.specs.Derived.{termsOf}
 use Rattle.outcome.specs.Evaluated.{ranWith}
 use Rattle.outcome.specs.Located.{TextsAnswerForC, TextsAnswerGiven, answerNumbers, located}
 use Rattle.outcome.specs.declared.Answer.{Answer}
-use Rattle.outcome.specs.declared.Location.{Location}
 use Rattle.outcome.specs.declared.Outcome.{Outcome}
+use Rattle.outcome.proofs.Unique.{answer-same}
 use Rattle.outcome.proofs.Stages.{not-both, of-missized, of-passing, of-refused, one-refused, refused-number, run-showing}
 
 -- No second answer of the texts alone.
@@ -109,11 +109,11 @@ told-small {script} {response} (too-long e) = omega (arith, long-number script r
 told-small (refused n t) = refused-number t .most
 told-small (both-pass n s g) = omega arith
 
-module _ {script response points : List ℕ} {budget : ℕ} {area : List ℕ} {o : Outcome} {a : List ℕ}
-    (checked : Checked script response points budget area o a) where
+module _ {script response points : List ℕ} {budget : ℕ} {area : List ℕ} {o : Outcome} {a w : List ℕ}
+    (checked : Checked script response points budget area o a w) where
   -- A text that is too long is answered alike, whatever points and area are.
   pub long-alike : {told : Outcome} → lengthAnswer script response ≡ some told → o ≡ told
-  long-alike e = of-missized (long-first script response points area e) checked
+  long-alike e = of-missized (long-first script response points area e) checked .0
 
   module _ (points-fit : length points ≤ mostNumbers) (area-fits : length area ≡ areaSize) where
     -- Where no text is too long, every size is right.
@@ -123,7 +123,7 @@ module _ {script response points : List ℕ} {budget : ℕ} {area : List ℕ} {o
         ∙ rw (le-ltb mostNumbers (length points) points-fit, eq-eqb (length area) areaSize area-fits) refl
 
     -- A verdict on texts that pass speaks of what comes after them.
-    verdict-after : {k : Known} {bs : List Body} {x : Outcome} {b : List ℕ} → Judgement response k bs points budget x b → AfterTexts (x .number)
+    verdict-after : {k : Known} {bs : List Body} {x : Outcome} {b v : List ℕ} → Judgement response k bs points budget x b v → AfterTexts (x .number)
     verdict-after (underived u) = later {number = 13} (omega arith)
     verdict-after (points-refused s e) = later {number = 16} (omega arith)
     verdict-after {k} {bs} (evaluated {n = n} s e) = showing-after (run-showing budget (ranWith k (termsOf bs) points n budget))
@@ -131,7 +131,7 @@ module _ {script response points : List ℕ} {budget : ℕ} {area : List ℕ} {o
     -- Of points and an area of right sizes `check` gives the texts' own answer, or goes on where both texts pass.
     pub agreed : {told : Outcome} → TextsTold script response told → Agreed told o
     agreed (too-long e) = the-same (λ zero. absurd (omega (arith, long-number script response e))) (long-alike e)
-    agreed (refused n t) = the-same (λ zero. absurd (omega (arith, refused-number t .least))) (of-refused (all-right n) t checked)
+    agreed (refused n t) = the-same (λ zero. absurd (omega (arith, refused-number t .least))) (of-refused (all-right n) t checked .0)
     agreed (both-pass n s g) =
         goes-on refl (verdict-after (of-passing (record { sized = all-right n; says = s; gives = g }) checked))
 
@@ -141,7 +141,7 @@ module _ {script response : List ℕ} where
   texts-answered one two =
       let same = one-told (one .told) (two .told) in
       let location = one .carried ∙ ap (located script response) same ∙ sym (two .carried) in
-      ap₂ {C = Answer} (λ (o : Outcome) (l : Location). record { outcome = o; location = l }) same location
+      answer-same same location (one .unweighed ∙ sym (two .unweighed))
 
   -- None for C.
   pub texts-for-c : {number another : ℕ} {numbers others : List ℕ} → TextsAnswerForC script response number numbers

@@ -83,29 +83,29 @@ module _ {k : Known} {ts : List Terms} {points : List ℕ} {o : Outcome} (other 
   other-order = record { accepted = λ e. absurd (other .0 e); constraint-false = λ e. absurd (other .1 e); budget-ended = λ e. absurd (other .2 e) }
 
 -- The units of a verdict.
-verdict-units : {response : List ℕ} {k : Known} {bs : List Body} {points : List ℕ} {budget : ℕ} {o : Outcome} {a : List ℕ}
-    → Judgement response k bs points budget o a → UnitsStated k (termsOf bs) points budget o
+verdict-units : {response : List ℕ} {k : Known} {bs : List Body} {points : List ℕ} {budget : ℕ} {o : Outcome} {a w : List ℕ}
+    → Judgement response k bs points budget o a w → UnitsStated k (termsOf bs) points budget o
 verdict-units (underived u) = other-units (omega arith) refl
 verdict-units (points-refused s e) = other-units (omega arith) refl
 verdict-units {k = k} {bs} {points} {budget} (evaluated {n = n} s e) =
     ran-units k (termsOf bs) points n budget e (run-found k (termsOf bs) points n budget)
 
 -- The order of a verdict.
-verdict-order : {response : List ℕ} {k : Known} {bs : List Body} {points : List ℕ} {budget : ℕ} {o : Outcome} {a : List ℕ}
-    → Judgement response k bs points budget o a → InOrder k (termsOf bs) points o
+verdict-order : {response : List ℕ} {k : Known} {bs : List Body} {points : List ℕ} {budget : ℕ} {o : Outcome} {a w : List ℕ}
+    → Judgement response k bs points budget o a w → InOrder k (termsOf bs) points o
 verdict-order (underived u) = other-order (omega arith)
 verdict-order (points-refused s e) = other-order (omega arith)
 verdict-order {k = k} {bs} {points} {budget} (evaluated {n = n} s e) =
     ran-order k (termsOf bs) points n budget e (run-found k (termsOf bs) points n budget)
 
 -- "the units spent equal the stated cost".
-pub units : {script response points : List ℕ} {budget : ℕ} {area : List ℕ} {k : Known} {bs : List Body} {o : Outcome} {a : List ℕ}
-    → Passing script response points area k bs → Checked script response points budget area o a → UnitsStated k (termsOf bs) points budget o
+pub units : {script response points : List ℕ} {budget : ℕ} {area : List ℕ} {k : Known} {bs : List Body} {o : Outcome} {a w : List ℕ}
+    → Passing script response points area k bs → Checked script response points budget area o a w → UnitsStated k (termsOf bs) points budget o
 units p c = verdict-units (of-passing p c)
 
 -- "0 outside 0, 14 and 15".
-pub no-units : {script response points : List ℕ} {budget : ℕ} {area : List ℕ} {o : Outcome} {a : List ℕ}
-    → Checked script response points budget area o a → (Showing (o .number) → ⊥) → o .units ≡ 0
+pub no-units : {script response points : List ℕ} {budget : ℕ} {area : List ℕ} {o : Outcome} {a w : List ℕ}
+    → Checked script response points budget area o a w → (Showing (o .number) → ⊥) → o .units ≡ 0
 no-units {script} {response} {points} {area = area} (missized e) h = missized-one script response points area e .units
 no-units (texts-refused n t) h = refused-number t .units
 no-units (judged p (underived u)) h = omega arith
@@ -115,6 +115,6 @@ no-units {points = points} {budget} (judged {k = k} {bs = bs} p (evaluated {n = 
 
 -- "Constraints are evaluated at the given points in the stated order"; "At each point the assumptions are evaluated first, in script order, up to the first
 -- false one, which skips the point's constraints." (E1)
-pub in-order : {script response points : List ℕ} {budget : ℕ} {area : List ℕ} {k : Known} {bs : List Body} {o : Outcome} {a : List ℕ}
-    → Passing script response points area k bs → Checked script response points budget area o a → InOrder k (termsOf bs) points o
+pub in-order : {script response points : List ℕ} {budget : ℕ} {area : List ℕ} {k : Known} {bs : List Body} {o : Outcome} {a w : List ℕ}
+    → Passing script response points area k bs → Checked script response points budget area o a w → InOrder k (termsOf bs) points o
 in-order p c = verdict-order (of-passing p c)

@@ -1,4 +1,4 @@
--- The checker: which answer, and what stands in the lent area afterwards.
+-- The checker: which answer, what stands in the lent area afterwards, and the totals.
 use Prim.Native.Nat.{ℕ}
 use mathlib.Core.Bool.{cond}
 use mathlib.Core.List.{List}
@@ -15,7 +15,7 @@ use Rattle.names.specs.Scopes.{namedSorts}
 use Rattle.script.specs.Script.{Known}
 use Rattle.script.specs.Response.{Body, inScriptOrder}
 use Rattle.script.specs.Outcome.{ResponseOutcome, ScriptOutcome, given, offsetOf, responseOutcome, responseWithin, said, scriptOutcome}
-use Rattle.outcome.specs.Derived.{FirstUnderived, ListsShown, blankArea, shownArea, termsOf}
+use Rattle.outcome.specs.Derived.{FirstUnderived, ListsShown, blankArea, noTotals, shownArea, termsOf, totals}
 use Rattle.outcome.specs.Evaluated.{ranWith, runOutcome}
 use Rattle.outcome.specs.declared.Outcome.{Outcome}
 
@@ -54,15 +54,17 @@ pub record Passing (script response points area : List ℕ) (k : Known) (bs : Li
   pub says : scriptOutcome script ≡ said k
   pub gives : responseOutcome k response ≡ given bs
 
--- Of texts that pass: "then 13 (first such function), 16 (length first), and evaluation", and the area afterwards.
-pub data Judgement (response : List ℕ) (k : Known) (bs : List Body) (points : List ℕ) (budget : ℕ) : Outcome → (areaAfter : List ℕ) → Type 0 where
+-- Of texts that pass: "then 13 (first such function), 16 (length first), and evaluation", the area afterwards, and the totals: "The total is reported
+-- for each function, 0 where none is shown." (E13)
+pub data Judgement (response : List ℕ) (k : Known) (bs : List Body) (points : List ℕ) (budget : ℕ) : Outcome → (areaAfter weights : List ℕ) → Type 0 where
   underived : {j : ℕ} {b : Body} → FirstUnderived (inScriptOrder (k .functions)) bs j b
-      → Judgement response k bs points budget (record { number = 13; text = 1; place = offsetOf response (b .first); second = j; units = 0 }) blankArea
+      → Judgement response k bs points budget (record { number = 13; text = 1; place = offsetOf response (b .first); second = j; units = 0 }) blankArea noTotals
   points-refused : {lists : List (List ℕ)} {place : ℕ} → ListsShown (inScriptOrder (k .functions)) (termsOf bs) lists
-      → pointsOf (namedSorts (k .variables)) points ≡ Bad place → Judgement response k bs points budget (refusal 16 2 place) blankArea
+      → pointsOf (namedSorts (k .variables)) points ≡ Bad place → Judgement response k bs points budget (refusal 16 2 place) blankArea noTotals
   evaluated : {lists : List (List ℕ)} {n : ℕ} → ListsShown (inScriptOrder (k .functions)) (termsOf bs) lists
       → pointsOf (namedSorts (k .variables)) points ≡ Good n
       → Judgement response k bs points budget (runOutcome budget (ranWith k (termsOf bs) points n budget)) (shownArea lists)
+      (totals (inScriptOrder (k .functions)) lists)
 
 -- What refuses one of two texts that are not too long, the response within these limits: "script words ..; commands ..; response words likewise; 10 and 11 ..;
 -- the response's commands likewise".
@@ -79,11 +81,16 @@ pub data TextsTold (script response : List ℕ) : Outcome → Type 0 where
   both-pass : {k : Known} {bs : List Body} → lengthAnswer script response ≡ nothing → scriptOutcome script ≡ said k → responseOutcome k response ≡ given bs
       → TextsTold script response (refusal 0 3 0)
 
--- The answer and the area afterwards. "Order: 1 ..; script words ..; commands ..; response words likewise; 10 and 11 ..; the response's commands likewise ..;
+-- The answer, the area afterwards and the totals. "Order: 1 ..; script words ..; commands ..; response words likewise; 10 and 11 ..; the response's commands likewise ..;
 -- then 13 .."
-pub data Checked (script response points : List ℕ) (budget : ℕ) (area : List ℕ) : Outcome → (areaAfter : List ℕ) → Type 0 where
-  missized : {answer : Outcome} → sizeAnswer script response points area ≡ some answer → Checked script response points budget area answer (unshown area)
+pub data Checked (script response points : List ℕ) (budget : ℕ) (area : List ℕ) : Outcome → (areaAfter weights : List ℕ) → Type 0 where
+  missized : {answer : Outcome} → sizeAnswer script response points area ≡ some answer → Checked script response points budget area answer (unshown area) noTotals
   texts-refused : {answer : Outcome} → sizeAnswer script response points area ≡ nothing → TextsRefused responseLimits script response answer
-      → Checked script response points budget area answer blankArea
-  judged : {k : Known} {bs : List Body} {answer : Outcome} {areaAfter : List ℕ} → Passing script response points area k bs
-      → Judgement response k bs points budget answer areaAfter → Checked script response points budget area answer areaAfter
+      → Checked script response points budget area answer blankArea noTotals
+  judged : {k : Known} {bs : List Body} {answer : Outcome} {areaAfter weights : List ℕ} → Passing script response points area k bs
+      → Judgement response k bs points budget answer areaAfter weights → Checked script response points budget area answer areaAfter weights
+
+-- The same of a call that does not give the totals.
+pub record Answered (script response points : List ℕ) (budget : ℕ) (area : List ℕ) (answer : Outcome) (areaAfter : List ℕ) : Type 0 where
+  pub weights : List ℕ
+  pub checked : Checked script response points budget area answer areaAfter weights

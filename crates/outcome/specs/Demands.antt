@@ -1,27 +1,25 @@
 -- What follows from the checker's contract, `Checked`: the words in which proofs/ states it (Unique, Exact, Units, Demands).
-use Prim.Native.Nat.{ℕ, zero, suc, _+_, _*_, _≤_, _<_}
+use Prim.Native.Nat.{ℕ, _+_, _≤_, _<_}
 use mathlib.Core.Bool.{Bool, true, false, cond}
 use mathlib.Core.List.{List, [], _∷_}
 use mathlib.Core.Option.{Option, some}
 use mathlib.Core.Path.{_≡_}
-use lib.ListN.{drop, getD, length, take}
+use lib.ListN.{getD, length, take}
 use Rattle.forest.specs.Forest.{none}
-use Rattle.forest.specs.Limits.{firstAssumption, listSize}
+use Rattle.forest.specs.Limits.{firstAssumption}
 use Rattle.operators.specs.Sorts.{AllFit, bool}
 use Rattle.terms.specs.Labels.{Terms}
 use Rattle.terms.specs.Values.{numbersIn, sortsIn, value, valuesAt}
 use Rattle.terms.specs.declared.Value.{Value}
-use Rattle.derivation.specs.Answer.{start}
-use Rattle.derivation.specs.Derivation.{Simple}
 use Rattle.evaluation.specs.Points.{pointAt, pointsOf}
 use Rattle.evaluation.specs.Running.{isTrue}
 use Rattle.evaluation.specs.declared.PointList.the-variants.{Good}
-use Rattle.names.specs.Scopes.{namedSorts, Function}
+use Rattle.names.specs.Scopes.{namedSorts}
 use Rattle.script.specs.Script.{Known, definitionsOf}
 use Rattle.script.specs.Response.{Body, inScriptOrder}
 use Rattle.script.specs.Outcome.{offsetOf}
 use Rattle.outcome.specs.Checked.{Passing, unshown}
-use Rattle.outcome.specs.Derived.{Derived, FirstUnderived, ListsShown, shownArea, termsOf}
+use Rattle.outcome.specs.Derived.{Derived, FirstUnderived, ListsShown, noTotals, shownArea, termsOf, totals}
 use Rattle.outcome.specs.Evaluated.{functionsWith}
 use Rattle.outcome.specs.Units.{allHold, pointCost, sumFrom, summed}
 use Rattle.outcome.specs.declared.Outcome.{Outcome}
@@ -32,37 +30,21 @@ pub data Showing : (number : ℕ) → Type 0 where
   constraint-false : Showing 14
   budget-ended : Showing 15
 
--- Texts that pass, and an area that shows a derivation of each body from its function's grammar.
-pub record DerivationsShown (script response points area areaAfter : List ℕ) : Type 0 where
+-- Texts that pass, an area that shows a derivation of each body from its function's grammar, and what each weighs.
+pub record DerivationsShown (script response points area areaAfter weights : List ℕ) : Type 0 where
   pub k : Known
   pub bs : List Body
   pub lists : List (List ℕ)
   pub passing : Passing script response points area k bs
   pub shown : ListsShown (inScriptOrder (k .functions)) (termsOf bs) lists
   pub is : areaAfter ≡ shownArea lists
+  pub weigh : weights ≡ totals (inScriptOrder (k .functions)) lists
 
 -- "These three show the derivations; after any other answer each entry is 65,535, except that an area of wrong size is unchanged."
-pub data AreaStated (script response points area : List ℕ) (o : Outcome) (areaAfter : List ℕ) : Type 0 where
-  shows : Showing (o .number) → DerivationsShown script response points area areaAfter → AreaStated script response points area o areaAfter
-  shows-none : (Showing (o .number) → ⊥) → areaAfter ≡ unshown area → AreaStated script response points area o areaAfter
-
--- Function j's body has one list of rules at the most that uses no non-terminal twice at one place.
-pub data OneListAt : List Function → List Terms → (j : ℕ) → Type 0 where
-  here : {f : Function} {t : Terms} {fs : List Function} {ts : List Terms}
-      → ((ds es : List ℕ) → Simple (f .grammar) [] start t ds → Simple (f .grammar) [] start t es → ds ≡ es) → OneListAt (f ∷ fs) (t ∷ ts) zero
-  later : {f : Function} {t : Terms} {fs : List Function} {ts : List Terms} {j : ℕ} → OneListAt fs ts j → OneListAt (f ∷ fs) (t ∷ ts) (suc j)
-
--- Two areas that show derivations of the same bodies have the same entries for each function of which there are not several, and behind the lists.
-pub record SameElsewhere (fs : List Function) (ts : List Terms) (one other : List ℕ) : Type 0 where
-  pub lists : (j : ℕ) → OneListAt fs ts j → take listSize (drop (listSize * j) one) ≡ take listSize (drop (listSize * j) other)
-  pub behind : drop (listSize * length fs) one ≡ drop (listSize * length fs) other
-
--- Two areas after one answer, which differ at most in "which derivation is shown where several exist".
-pub data Alike (script response points area : List ℕ) (o : Outcome) (one other : List ℕ) : Type 0 where
-  both-show : Showing (o .number) → DerivationsShown script response points area one → DerivationsShown script response points area other
-      → ((k : Known) (bs : List Body) → Passing script response points area k bs → SameElsewhere (inScriptOrder (k .functions)) (termsOf bs) one other)
-      → Alike script response points area o one other
-  the-same : (Showing (o .number) → ⊥) → one ≡ other → Alike script response points area o one other
+-- "The total is reported for each function, 0 where none is shown." (E13)
+pub data AreaStated (script response points area : List ℕ) (o : Outcome) (areaAfter weights : List ℕ) : Type 0 where
+  shows : Showing (o .number) → DerivationsShown script response points area areaAfter weights → AreaStated script response points area o areaAfter weights
+  shows-none : (Showing (o .number) → ⊥) → areaAfter ≡ unshown area → weights ≡ noTotals → AreaStated script response points area o areaAfter weights
 
 -- Texts that pass, of which the answer names the first function whose grammar derives its body by no list of rules, of any length, and the body's first word.
 pub record NoDerivation (script response points area : List ℕ) (o : Outcome) : Type 0 where

@@ -1,7 +1,7 @@
 -- Where the place of an answer stands in its text, and the answer in sixteen numbers.
 use Prim.Native.Nat.{ℕ}
 use mathlib.Core.Bool.{Bool, true, cond, _&&_, _||_}
-use mathlib.Core.List.{List, [], _∷_}
+use mathlib.Core.List.{List, _∷_}
 use mathlib.Core.Path.{_≡_}
 use lib.Dec.{eqb, leb}
 use lib.ListN.{length}
@@ -10,6 +10,7 @@ use Rattle.words.specs.Positions.{columnOf, endOf, lineOf}
 use Rattle.words.specs.Spans.{wordStarts}
 use Rattle.words.specs.Words.{wordAt}
 use Rattle.outcome.specs.Checked.{Checked, TextsTold}
+use Rattle.outcome.specs.Derived.{noTotals}
 use Rattle.outcome.specs.declared.Answer.{Answer}
 use Rattle.outcome.specs.declared.Location.{Location}
 use Rattle.outcome.specs.declared.Outcome.{Outcome}
@@ -43,22 +44,24 @@ pub data EndAt (text : List ℕ) (place : ℕ) : (end : ℕ) → Type 0 where
 abbrev pub Carrying : (script response : List ℕ) → Answer → Type 0
 Carrying script response answer = answer .location ≡ located script response (answer .outcome)
 
--- The answer with what it carries, and the area afterwards.
+-- The answer with what it carries and the totals, and the area afterwards.
 pub record AnswerGiven (script response points : List ℕ) (budget : ℕ) (area : List ℕ) (answer : Answer) (areaAfter : List ℕ) : Type 0 where
-  pub checked : Checked script response points budget area (answer .outcome) areaAfter
+  pub checked : Checked script response points budget area (answer .outcome) areaAfter (answer .totals)
   pub carried : Carrying script response answer
 
--- The texts' own answer with what it carries.
+-- The texts' own answer with what it carries; no list is shown.
 pub record TextsAnswerGiven (script response : List ℕ) (answer : Answer) : Type 0 where
   pub told : TextsTold script response (answer .outcome)
   pub carried : Carrying script response answer
+  pub unweighed : answer .totals ≡ noTotals
 
--- An answer in sixteen numbers: its number, text, place, second number and units; the end, the line and the column that it carries; and eight that are 0.
+-- An answer in sixteen numbers: its number, text, place, second number and units; the end, the line and the column that it carries; and the
+-- totals of eight functions.
 abbrev pub answerNumbers : Answer → List ℕ
 answerNumbers answer =
     let o = answer .outcome in
     let l = answer .location in
-    o .number ∷ o .text ∷ o .place ∷ o .second ∷ o .units ∷ l .end ∷ l .line ∷ l .column ∷ 0 ∷ 0 ∷ 0 ∷ 0 ∷ 0 ∷ 0 ∷ 0 ∷ 0 ∷ []
+    o .number ∷ o .text ∷ o .place ∷ o .second ∷ o .units ∷ l .end ∷ l .line ∷ l .column ∷ answer .totals
 
 -- What C is given: the answer's number, the sixteen numbers, and the area afterwards.
 pub record AnswerForC (script response points : List ℕ) (budget : ℕ) (area : List ℕ) (number : ℕ) (numbers areaAfter : List ℕ) : Type 0 where

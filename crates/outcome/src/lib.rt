@@ -2,8 +2,10 @@
 //! What holds of a script that passes: its rules, bodies and constraints have their sorts, and so has every term that its grammars derive.
 //! What is sure of a script and a response that pass: the sizes and sorts that the search for derivations and the evaluation rely on.
 
+use forest::limits::FUNCTIONS;
 ghost use mathlib.Core.Path.{_≡_};
 ghost use Rattle.outcome.specs.Checked.{refusal};
+ghost use Rattle.outcome.specs.Derived.{noTotals};
 
 // An answer speaks of the script.
 pub const SCRIPT: usize = 0;
@@ -34,10 +36,17 @@ pub struct Location {
     pub column: usize,
 }
 
-// An answer with what it carries.
+// An answer, and what the list of each function weighs; 0 where none is shown.
+pub struct Weighed {
+    pub outcome: Outcome,
+    pub totals: [u64; FUNCTIONS],
+}
+
+// An answer with what it carries, and the same totals.
 pub struct Answer {
     pub outcome: Outcome,
     pub location: Location,
+    pub totals: [u64; FUNCTIONS],
 }
 
 // An answer that names a text and a place.
@@ -50,5 +59,22 @@ pub fn refusal(number: usize, text: usize, place: usize) -> Outcome
         place,
         second: 0,
         units: 0,
+    }
+}
+
+// The totals where no list is shown.
+pub fn no_totals() -> [u64; FUNCTIONS]
+    ensures { λ r. ⌜ r ≡ noTotals ⌝ }
+{
+    [0; FUNCTIONS]
+}
+
+// An answer after which no list is shown.
+pub fn unweighed(outcome: Outcome) -> Weighed
+    ensures { λ r. ⌜ r ≡ record { outcome = outcome; totals = noTotals } ⌝ }
+{
+    Weighed {
+        outcome,
+        totals: no_totals(),
     }
 }

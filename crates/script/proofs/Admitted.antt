@@ -7,7 +7,7 @@ use mathlib.Core.Path.{_≡_}
 use lib.ListN.{getD, length, length-map}
 use Rattle.forest.specs.Forest.{Forest, count, join, none, tree}
 use Rattle.forest.specs.Limits.{mostNonTerminals, mostRules}
-use Rattle.derivation.specs.Derivation.{Grammar, Item, anyArgument, anyLiteral, formOf, headOf, nonTerminal, the}
+use Rattle.derivation.specs.Derivation.{Grammar, Item, anyArgument, anyLiteral, formOf, headOf, mostWeight, nonTerminal, the, weightOf}
 use Rattle.derivation.specs.Sorts.{FormScope, formSorts}
 use Rattle.derivation.specs.code.Admitted.{Admitted}
 use Rattle.derivation.specs.code.Productive.{ConstantsFit}
@@ -20,7 +20,7 @@ use Rattle.term_faults.specs.Faults.{scopeOf}
 use Rattle.term_faults.specs.code.Bodies.{NarrowNode}
 use Rattle.term_faults.proofs.Narrow.{forms-narrow}
 use Rattle.grammars.specs.Grammars.{grammarIn, listedMisfit}
-use Rattle.script.proofs.Limited.{said-bounded}
+use Rattle.script.proofs.Limited.{said-bounded, said-light}
 use Rattle.script.proofs.Proper.{AllBounded, sorted-proper, sorts-counted}
 use Rattle.script.proofs.Rules.{AllPlaced, groups-placed, heads-below, listed, rules-sorted, said}
 use Rattle.script.proofs.WordsBelow.{Below, inside-below, item-below}
@@ -31,12 +31,14 @@ pub sorted-admitted : (scope : FormScope) (G : Grammar) → length (G .rules) �
     → ((r : ℕ) → r < length (G .rules) → AllBounded (formOf (G .rules) r))
     → ((r : ℕ) → r < length (G .rules)
     → formSorts scope (formOf (G .rules) r) ≡ some (getD (scope .nonTerminals) (headOf (G .rules) r) 0 ∷ []))
+    → ((r : ℕ) → r < length (G .rules) → weightOf (G .rules) r ≤ mostWeight)
     → Admitted G
-sorted-admitted scope G rules few heads sides sorted = record {
+sorted-admitted scope G rules few heads sides sorted light = record {
   few = rules;
   low = λ r h. omega (arith, heads r h);
   proper = λ r h. sorted-proper scope mostNonTerminals few (formOf (G .rules) r) (sorted r h) (sides r h);
   single = λ r h. sorts-counted scope (formOf (G .rules) r) (sorted r h);
+  light = light;
 }
 
 module _ {nowhere : ℕ} (view : View) (c : Items) (some-word : 0 < nowhere) (below : Below nowhere c) (fits : nowhere ≤ listedMisfit nowhere view c) where
@@ -56,6 +58,7 @@ module _ {nowhere : ℕ} (view : View) (c : Items) (some-word : 0 < nowhere) (be
       let long = length-map (view .nonTerminals) (λ (n : Named). n .sort) in
       sorted-admitted (scopeOf view) (grammarIn view c) (rw length-map rules) (omega arith) (λ r h. omega (arith, heads-declared r h))
       (said-bounded view (rulesIn 0 (inside 5 c))) (rules-sorted view rules-placed (omega (arith, fits)))
+      (said-light view (rulesIn 0 (inside 5 c)))
 
 -- `(Constant σ)` of sorts at most 64 wide are of sorts that there are.
 constants-fit : (F : Forest Item) → Every Narrow F → ConstantsFit F

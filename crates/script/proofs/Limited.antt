@@ -1,4 +1,4 @@
--- A grammar that is not past a limit: at most 128 rules, and what their right sides say has small numbers.
+-- A grammar that is not past a limit: at most 128 rules, and what their right sides say and what they weigh are small numbers.
 use Prim.Native.Nat.{ℕ, zero, suc, _-_, _≤_, _<_}
 use native.Mathlib.Omega.{arith}
 use mathlib.Core.Bool.{Bool, true, false, cond}
@@ -8,7 +8,7 @@ use lib.Dec.{leb}
 use lib.ListN.{length}
 use borrow.Author.Tests.{leb-true}
 use Rattle.term_nodes.specs.Rules.{Ruled, rulePast}
-use Rattle.derivation.specs.Derivation.{formOf}
+use Rattle.derivation.specs.Derivation.{formOf, mostWeight, weightOf}
 use Rattle.names.specs.Scopes.{View}
 use Rattle.script.proofs.Rules.{AllPlaced, also, no-rule, said}
 use Rattle.script.proofs.Proper.{AllBounded, terms-bounded}
@@ -30,3 +30,10 @@ unfolding formOf
 said-bounded view [] r h = absurd (omega arith)
 said-bounded view (x ∷ more) zero h = terms-bounded view (x .side)
 said-bounded view (x ∷ more) (suc r) h = said-bounded view more r (omega arith)
+
+-- The weight of every rule that is said is at most the most that one may weigh.
+pub said-light : (view : View) (rs : List Ruled) (r : ℕ) → r < length (said view rs) → weightOf (said view rs) r ≤ mostWeight
+unfolding weightOf
+said-light view [] r h = absurd (omega arith)
+said-light view (x ∷ more) zero h = omega arith
+said-light view (x ∷ more) (suc r) h = said-light view more r (omega arith)

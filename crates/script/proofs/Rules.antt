@@ -16,7 +16,7 @@ use Rattle.words.specs.Trees.{wordOf}
 use Rattle.lexemes.specs.Lists.{Items, inside, item}
 use Rattle.names.specs.New.{namedBy}
 use Rattle.names.specs.Scopes.{Named, View, formsOf as formIn, namedSorts}
-use Rattle.term_nodes.specs.Rules.{Ruled, rulesIn, rulesOf}
+use Rattle.term_nodes.specs.Rules.{Ruled, rulesIn, rulesOf, weightIn}
 use Rattle.term_faults.specs.Faults.{oneSort, rawSorts, ruleMisfit, scopeOf}
 use Rattle.written_sorts.specs.Written.{sortOf}
 use Rattle.grammars.specs.Listing.{listingMisfit}
@@ -61,7 +61,7 @@ module _ {nowhere most : ℕ} where
 module _ (view : View) where
   -- The rules that are said.
   abbrev pub said : List Ruled → List Rule
-  said rs = map (λ (r : Ruled). rule (r .head) (formIn view (r .side))) rs
+  said rs = map (λ (r : Ruled). rule (r .head) (weightIn r) (formIn view (r .side))) rs
 
   module _ {nowhere most : ℕ} where
     -- The non-terminal of each rule is one of the first `most`.

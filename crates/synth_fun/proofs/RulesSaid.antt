@@ -12,7 +12,7 @@ use Rattle.derivation.specs.Derivation.{Item, Rule, rule}
 use Rattle.derivation.specs.code.Tables.{formTable, itemRow, rightSides, ruleTable}
 use Rattle.term_nodes.specs.Terms.{Raw}
 use Rattle.names.specs.Scopes.{View, formsOf}
-use Rattle.term_nodes.specs.Rules.{Ruled, sides}
+use Rattle.term_nodes.specs.Rules.{Ruled, sides, weightIn}
 use Rattle.term_nodes.specs.code.RuleGathering.{startTable}
 
 -- How many numbers the table of forms has.
@@ -35,7 +35,7 @@ module _ (view : View) where
 
   -- The rules with their forms.
   abbrev pub said : List Ruled → List Rule
-  said rules = map (λ (r : Ruled). rule (r .head) (formsOf view (r .side))) rules
+  said rules = map (λ (r : Ruled). rule (r .head) (weightIn r) (formsOf view (r .side))) rules
 
   -- Their right sides are the forms of those that were gathered.
   pub sides-said : (rules : List Ruled) → rightSides (said rules) ≡ formsOf view (sides rules)
@@ -51,4 +51,4 @@ module _ (view : View) where
 
   -- They are as many.
   pub said-long : (rules : List Ruled) → length (said rules) ≡ length rules
-  said-long rules = length-map rules (λ (r : Ruled). rule (r .head) (formsOf view (r .side)))
+  said-long rules = length-map rules (λ (r : Ruled). rule (r .head) (weightIn r) (formsOf view (r .side)))

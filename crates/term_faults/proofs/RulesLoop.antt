@@ -19,7 +19,7 @@ use Rattle.term_faults.specs.Faults.{oneSort, rawSorts, ruleMisfit}
 use Rattle.term_faults.specs.code.Grammars.{AllSingle, HeadSort, Heads, RulesFound, RulesSought}
 use Rattle.term_faults.specs.code.Roots.{RootAt, RootFits}
 
--- Two numbers for each rule.
+-- Three numbers for each rule.
 starts-long : (start : ℕ) (rules : List Ruled) → length (startTable start rules) ≡ ruleWidth * length rules
 unfolding startTable
 starts-long start [] = refl

@@ -40,7 +40,7 @@ sides-more done A l ops = sides-append done (rulesOf A (tree l ops none)) ∙ rw
 
 -- ---- where they start
 
--- two numbers for each rule
+-- three numbers for each rule
 pub length-starts : (start : ℕ) (rules : List Ruled) → length (startTable start rules) ≡ ruleWidth * length rules
 unfolding startTable
 length-starts start [] = refl

@@ -18,24 +18,24 @@ use Rattle.term_nodes.specs.code.Limits.{TermNodes, WordPast}
 use Rattle.term_nodes.specs.Terms.{rawRule}
 use Rattle.term_nodes.proofs.Saying.{say-rule}
 use Rattle.written_sorts.proofs.Walked.{placed}
-use Rattle.term_nodes.specs.Rules.{Ruled, nodesPast, rulePast, rulesOf, sides}
+use Rattle.term_nodes.specs.Rules.{Ruled, nodesPast, rulePast, rulesOf, sides, weightIn}
 use Rattle.term_nodes.specs.code.RuleGathering.{RuleAt, RuleGathered, startTable}
 use Rattle.term_nodes.specs.declared.Gathered.{Gathered}
 use Rattle.term_nodes.proofs.Listing.{first-past, length-starts, no-rule-past, nodes-more, nodes-within, sides-more, some-node, starts-append}
 use Rattle.term_nodes.proofs.Listing.{still-past}
 
--- two numbers written one after the other
-pub pair-written : (l : List ℕ) (i a b : ℕ) → set (set l i a) (i + 1) b ≡ sets l i (a ∷ b ∷ [])
-pair-written l i a b = let one : i + 1 ≡ suc i = omega arith in rw one
+-- three numbers written one after the other
+pub row-written : (l : List ℕ) (i a b c : ℕ) → set (set (set l i a) (i + 1) b) (i + 2) c ≡ sets l i (a ∷ b ∷ c ∷ [])
+row-written l i a b c = let one : i + 1 ≡ suc i = omega arith in let two : i + 2 ≡ suc (suc i) = omega arith in rw (one, two)
 
 -- the row of one rule more, written behind those of the rules
 starts-written : (table : List ℕ) (done : List Ruled) (r : Ruled) (more : List ℕ) → table ≡ startTable 0 done ++ more
     → ruleWidth * length done + ruleWidth ≤ length table
-    → sets table (ruleWidth * length done) (size (sides done) ∷ r .head ∷ []) ≡ over (startTable 0 (done ++ r ∷ [])) table
+    → sets table (ruleWidth * length done) (size (sides done) ∷ r .head ∷ weightIn r ∷ []) ≡ over (startTable 0 (done ++ r ∷ [])) table
 unfolding startTable
 starts-written table done r more is room =
     let starts = startTable 0 done in
-    let row = size (sides done) ∷ r .head ∷ [] in
+    let row = size (sides done) ∷ r .head ∷ weightIn r ∷ [] in
     let long = length-starts 0 done in
     let all : startTable 0 (done ++ r ∷ []) ≡ starts ++ row = rw zero-add at (starts-append 0 done (r ∷ [])) in
     let lent : table ≡ over starts table =
@@ -115,8 +115,8 @@ module _ {lexemes : List ℕ} {at nowhere most nodes : ℕ} {raw rules : List �
               place-is = omega (arith, is-word, nodes-more nowhere nodes (p .done) (ruled A (p .label) (p .operands)), known (nodes-here p));
             }
 
-      -- its start and its non-terminal are put into the table, which has room for it
-      pub rule-put : g .rule < most → {rulesAfter : List ℕ} → rulesAfter ≡ sets rules (ruleWidth * g .rule) (g .row ∷ A ∷ [])
+      -- its start, its non-terminal and its weight are put into the table, which has room for it
+      pub rule-put : g .rule < most → {rulesAfter : List ℕ} → rulesAfter ≡ sets rules (ruleWidth * g .rule) (g .row ∷ A ∷ 0 ∷ [])
           → (p : RuleAt lexemes at nowhere most nodes raw rules g)
           → RuleGathered p A rawAfter rulesAfter (record { row = row; rule = g .rule + 1; place = place })
       unfolding all rulesOf
@@ -128,7 +128,7 @@ module _ {lexemes : List ℕ} {at nowhere most nodes : ℕ} {raw rules : List �
           let before = no-rule-past nowhere most done (omega (arith, p .holds .counted)) in
           let now = no-rule-past nowhere most (all p) (omega (arith, counted p)) in
           one-more p (drop (length (startTable 0 (all p))) rules) (λ _. put ∙ rw (p .holds .counted, p .holds .rows) written)
-          (ap length put ∙ length-sets rules (ruleWidth * g .rule) (g .row ∷ A ∷ [])) (omega (arith, p .holds .place-is))
+          (ap length put ∙ length-sets rules (ruleWidth * g .rule) (g .row ∷ A ∷ 0 ∷ [])) (omega (arith, p .holds .place-is))
 
       -- it is the first for which there is no room
       pub rule-past : most ≤ g .rule → g .rule ≡ most → {lesser : ℕ} → lesser ≡ min place at

@@ -14,6 +14,10 @@ pub record Ruled : Type 0 where
   pub first : ℕ
   pub side : Forest Raw
 
+-- What a rule weighs: "a rule that doesn't carry exactly one such attribute weighs 0" (E13).
+abbrev pub weightIn : Ruled → ℕ
+weightIn r = 0
+
 -- The rules of the non-terminal A.
 unfoldable pub rulesOf : (A : ℕ) → (rules : Items) → List Ruled
 rulesOf A none = []

@@ -16,14 +16,18 @@ ghost use Rattle.derivation.specs.code.Rules.{ruleWidth};
 ghost use Rattle.forest.specs.Limits.{mostNodes, mostRules};
 ghost use Rattle.term_nodes.specs.code.RuleGathering.{GathersGroup, GathersOne, GathersRules, GroupsBetween, RuleAt, RulesBetween};
 
-// Writes where a rule starts, and its non-terminal.
-fn put_rule(rules: &mut [u64], rule: usize, start: usize, head: usize)
+// What a rule weighs that says no weight.
+const NO_WEIGHT: u64 = 0;
+
+// Writes where a rule starts, its non-terminal, and its weight.
+fn put_rule(rules: &mut [u64], rule: usize, start: usize, head: usize, weight: u64)
     requires { ⌜ ruleWidth * rule + ruleWidth ≤ length (now rules) ⌝ }
-    ensures { λ r. ⌜ now (rules .exit) ≡ sets (now (rules .entry)) (ruleWidth * rule) (start ∷ head ∷ []) ⌝ }
+    ensures { λ r. ⌜ now (rules .exit) ≡ sets (now (rules .entry)) (ruleWidth * rule) (start ∷ head ∷ weight ∷ []) ⌝ }
 {
     let row = RULE * rule;
     rules[row] = start as u64;
     rules[row + 1] = head as u64;
+    rules[row + 2] = weight;
 }
 
 // Gathers the rule at a word behind those that are gathered already.
@@ -47,7 +51,7 @@ fn gather_one(
     let place = least(already.place, past);
     let counted = rule + 1;
     if rule < RULES {
-        put_rule(rules, rule, start, head);
+        put_rule(rules, rule, start, head, NO_WEIGHT);
         return Gathered {
             row,
             rule: counted,
@@ -92,8 +96,8 @@ fn gather_group(
     found
 }
 
-// Gathers the rules of the groups that stand from a word to the bracket that closes their list: their nodes, where each starts and its non-terminal, and the
-// least word past a limit.
+// Gathers the rules of the groups that stand from a word to the bracket that closes their list: their nodes, where each starts, its non-terminal and its weight,
+// and the least word past a limit.
 pub fn gather_rules(
     lexemes: &[u64],
     first: usize,

@@ -221,7 +221,7 @@ always =
       arguments = [];
       result = 0;
       nonTerminals = record { name = spelling "A"; at = 88; sort = 0 } ∷ [];
-      grammar = record { arguments = []; rules = rule 0 (only (literal 0 1)) ∷ [] };
+      grammar = record { arguments = []; rules = rule 0 0 (only (literal 0 1)) ∷ [] };
       before = 3;
     }
 

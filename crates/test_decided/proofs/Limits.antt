@@ -6,6 +6,7 @@ use mathlib.Core.List.{List, [], _∷_, map}
 use mathlib.Core.Path.{_≡_, refl}
 use lib.ListN.{length}
 use Rattle.forest.specs.Lists.{spelling}
+use Rattle.derivation.specs.Least.{totalOf}
 use Rattle.derivation.specs.Productive.{formYields, onePass, passes}
 use Rattle.derivation.specs.Sorts.{formSorts, itemSort}
 use Rattle.forest.specs.Forest.{count, join, nodesOf}
@@ -49,7 +50,7 @@ operands-constraint-texts =
 
 -- The definitions answer every one of them so.
 pub operands-constraint-held : map defined operands-constraint-texts ≡ map (λ (r : Reading). r .answer) operands-constraint-texts
-unfolding after all allIn allNumerals answered anyUncarried argumentTokens bytesAt calledSort chained commandShape constantsPast count deadMisfit deadPlace differing earlier formSorts formYields formed formsOf grammarPlace groupLeft groupRight hashed inOrder inScriptOrder inside isDecimal isKnown isNamed isOneOf isReserved item itemSort itemsOf join judged judgedAll judgedBody judgedExtra kindOf knownAfter labelSort lastBefore leastIn levelsAt levelsBefore limitPlace listingMisfit literalKind namePlace named namedBy newNames newPairs nodeWord nodesOf nodesPast notCarried numeralKind onePass operatorAt operatorOf operatorSort operators pairwise passes placeIn rawTerms readAll reservedWords ruleMisfit rulePast rulesIn rulesOf runEnd sameBytes sameSorts sides sortBy sortOver sortingPlace spelled startsFrom symbolKind symbolMeans termFault termShapes termsIn tested treesFrom unknownIn withEach withSort wordAt wordEnd wordStarts wordsIn wordsOf
+unfolding after all allIn allNumerals answered anyUncarried argumentTokens bytesAt calledSort chained commandShape constantsPast count deadMisfit deadPlace differing earlier formSorts formYields formed formsOf grammarPlace groupLeft groupRight hashed inOrder inScriptOrder inside isDecimal isKnown isNamed isOneOf isReserved item itemSort itemsOf join judged judgedAll judgedBody judgedExtra kindOf knownAfter labelSort lastBefore leastIn levelsAt levelsBefore limitPlace listingMisfit literalKind namePlace named namedBy newNames newPairs nodeWord nodesOf nodesPast notCarried numeralKind onePass operatorAt operatorOf operatorSort operators pairwise passes placeIn rawTerms readAll reservedWords ruleMisfit rulePast rulesIn rulesOf runEnd sameBytes sameSorts sides sortBy sortOver sortingPlace spelled startsFrom symbolKind symbolMeans termFault termShapes termsIn tested totalOf treesFrom unknownIn withEach withSort wordAt wordEnd wordStarts wordsIn wordsOf
 operands-constraint-held = refl
 
 -- The limit on operands rule.
@@ -61,7 +62,7 @@ operands-rule-texts =
 
 -- The definitions answer every one of them so.
 pub operands-rule-held : map defined operands-rule-texts ≡ map (λ (r : Reading). r .answer) operands-rule-texts
-unfolding after all allIn allNumerals answered anyUncarried argumentTokens bytesAt calledSort chained commandShape constantsPast count deadMisfit deadPlace differing earlier formSorts formYields formed formsOf grammarPlace groupLeft groupRight hashed inOrder inScriptOrder inside isDecimal isKnown isNamed isOneOf isReserved item itemSort itemsOf join judged judgedAll judgedBody judgedExtra kindOf knownAfter labelSort lastBefore leastIn levelsAt levelsBefore limitPlace listingMisfit literalKind namePlace named namedBy newNames newPairs nodeWord nodesOf nodesPast notCarried numeralKind onePass operatorAt operatorOf operatorSort operators pairwise passes placeIn rawTerms readAll reservedWords ruleMisfit rulePast rulesIn rulesOf runEnd sameBytes sameSorts sides sortBy sortOver sortingPlace spelled startsFrom symbolKind symbolMeans termFault termShapes termsIn tested treesFrom unknownIn withEach withSort wordAt wordEnd wordStarts wordsIn wordsOf
+unfolding after all allIn allNumerals answered anyUncarried argumentTokens bytesAt calledSort chained commandShape constantsPast count deadMisfit deadPlace differing earlier formSorts formYields formed formsOf grammarPlace groupLeft groupRight hashed inOrder inScriptOrder inside isDecimal isKnown isNamed isOneOf isReserved item itemSort itemsOf join judged judgedAll judgedBody judgedExtra kindOf knownAfter labelSort lastBefore leastIn levelsAt levelsBefore limitPlace listingMisfit literalKind namePlace named namedBy newNames newPairs nodeWord nodesOf nodesPast notCarried numeralKind onePass operatorAt operatorOf operatorSort operators pairwise passes placeIn rawTerms readAll reservedWords ruleMisfit rulePast rulesIn rulesOf runEnd sameBytes sameSorts sides sortBy sortOver sortingPlace spelled startsFrom symbolKind symbolMeans termFault termShapes termsIn tested totalOf treesFrom unknownIn withEach withSort wordAt wordEnd wordStarts wordsIn wordsOf
 operands-rule-held = refl
 
 -- The limit on constant width.
@@ -73,7 +74,7 @@ constant-width-texts =
 
 -- The definitions answer every one of them so.
 pub constant-width-held : map defined constant-width-texts ≡ map (λ (r : Reading). r .answer) constant-width-texts
-unfolding after all allIn allNumerals answered anyUncarried argumentTokens bytesAt calledSort chained commandShape constantsPast count deadMisfit deadPlace differing earlier formSorts formYields formed formsOf grammarPlace groupLeft groupRight hashed inOrder inScriptOrder inside isDecimal isKnown isNamed isOneOf isReserved item itemSort itemsOf join judged judgedAll judgedBody judgedExtra kindOf knownAfter labelSort lastBefore leastIn levelsAt levelsBefore limitPlace listingMisfit literalKind namePlace named namedBy newNames newPairs nodeWord nodesOf nodesPast notCarried numeralKind onePass operatorAt operatorOf operatorSort operators pairwise passes placeIn rawTerms readAll reservedWords ruleMisfit rulePast rulesIn rulesOf runEnd sameBytes sameSorts sides sortBy sortOver sortingPlace spelled startsFrom symbolKind symbolMeans termFault termShapes termsIn tested treesFrom unknownIn withEach withSort wordAt wordEnd wordStarts wordsIn wordsOf
+unfolding after all allIn allNumerals answered anyUncarried argumentTokens bytesAt calledSort chained commandShape constantsPast count deadMisfit deadPlace differing earlier formSorts formYields formed formsOf grammarPlace groupLeft groupRight hashed inOrder inScriptOrder inside isDecimal isKnown isNamed isOneOf isReserved item itemSort itemsOf join judged judgedAll judgedBody judgedExtra kindOf knownAfter labelSort lastBefore leastIn levelsAt levelsBefore limitPlace listingMisfit literalKind namePlace named namedBy newNames newPairs nodeWord nodesOf nodesPast notCarried numeralKind onePass operatorAt operatorOf operatorSort operators pairwise passes placeIn rawTerms readAll reservedWords ruleMisfit rulePast rulesIn rulesOf runEnd sameBytes sameSorts sides sortBy sortOver sortingPlace spelled startsFrom symbolKind symbolMeans termFault termShapes termsIn tested totalOf treesFrom unknownIn withEach withSort wordAt wordEnd wordStarts wordsIn wordsOf
 constant-width-held = refl
 
 -- The limit on digits.
@@ -86,7 +87,7 @@ digits-texts =
 
 -- The definitions answer every one of them so.
 pub digits-held : map defined digits-texts ≡ map (λ (r : Reading). r .answer) digits-texts
-unfolding after all allIn allNumerals answered anyUncarried argumentTokens bytesAt calledSort chained commandShape constantsPast count deadMisfit deadPlace differing earlier formSorts formYields formed formsOf grammarPlace groupLeft groupRight hashed inOrder inScriptOrder inside isDecimal isKnown isNamed isOneOf isReserved item itemSort itemsOf join judged judgedAll judgedBody judgedExtra kindOf knownAfter labelSort lastBefore leastIn levelsAt levelsBefore limitPlace listingMisfit literalKind namePlace named namedBy newNames newPairs nodeWord nodesOf nodesPast notCarried numeralKind onePass operatorAt operatorOf operatorSort operators pairwise passes placeIn rawTerms readAll reservedWords ruleMisfit rulePast rulesIn rulesOf runEnd sameBytes sameSorts sides sortBy sortOver sortingPlace spelled startsFrom symbolKind symbolMeans termFault termShapes termsIn tested treesFrom unknownIn withEach withSort wordAt wordEnd wordStarts wordsIn wordsOf
+unfolding after all allIn allNumerals answered anyUncarried argumentTokens bytesAt calledSort chained commandShape constantsPast count deadMisfit deadPlace differing earlier formSorts formYields formed formsOf grammarPlace groupLeft groupRight hashed inOrder inScriptOrder inside isDecimal isKnown isNamed isOneOf isReserved item itemSort itemsOf join judged judgedAll judgedBody judgedExtra kindOf knownAfter labelSort lastBefore leastIn levelsAt levelsBefore limitPlace listingMisfit literalKind namePlace named namedBy newNames newPairs nodeWord nodesOf nodesPast notCarried numeralKind onePass operatorAt operatorOf operatorSort operators pairwise passes placeIn rawTerms readAll reservedWords ruleMisfit rulePast rulesIn rulesOf runEnd sameBytes sameSorts sides sortBy sortOver sortingPlace spelled startsFrom symbolKind symbolMeans termFault termShapes termsIn tested totalOf treesFrom unknownIn withEach withSort wordAt wordEnd wordStarts wordsIn wordsOf
 digits-held = refl
 
 -- The limit on functions.
@@ -98,7 +99,7 @@ functions-texts =
 
 -- The definitions answer every one of them so.
 pub functions-held : map defined functions-texts ≡ map (λ (r : Reading). r .answer) functions-texts
-unfolding after all allIn allNumerals answered anyUncarried argumentTokens bytesAt calledSort chained commandShape constantsPast count deadMisfit deadPlace differing earlier formSorts formYields formed formsOf grammarPlace groupLeft groupRight hashed inOrder inScriptOrder inside isDecimal isKnown isNamed isOneOf isReserved item itemSort itemsOf join judged judgedAll judgedBody judgedExtra kindOf knownAfter labelSort lastBefore leastIn levelsAt levelsBefore limitPlace listingMisfit literalKind namePlace named namedBy newNames newPairs nodeWord nodesOf nodesPast notCarried numeralKind onePass operatorAt operatorOf operatorSort operators pairwise passes placeIn rawTerms readAll reservedWords ruleMisfit rulePast rulesIn rulesOf runEnd sameBytes sameSorts sides sortBy sortOver sortingPlace spelled startsFrom symbolKind symbolMeans termFault termShapes termsIn tested treesFrom unknownIn withEach withSort wordAt wordEnd wordStarts wordsIn wordsOf
+unfolding after all allIn allNumerals answered anyUncarried argumentTokens bytesAt calledSort chained commandShape constantsPast count deadMisfit deadPlace differing earlier formSorts formYields formed formsOf grammarPlace groupLeft groupRight hashed inOrder inScriptOrder inside isDecimal isKnown isNamed isOneOf isReserved item itemSort itemsOf join judged judgedAll judgedBody judgedExtra kindOf knownAfter labelSort lastBefore leastIn levelsAt levelsBefore limitPlace listingMisfit literalKind namePlace named namedBy newNames newPairs nodeWord nodesOf nodesPast notCarried numeralKind onePass operatorAt operatorOf operatorSort operators pairwise passes placeIn rawTerms readAll reservedWords ruleMisfit rulePast rulesIn rulesOf runEnd sameBytes sameSorts sides sortBy sortOver sortingPlace spelled startsFrom symbolKind symbolMeans termFault termShapes termsIn tested totalOf treesFrom unknownIn withEach withSort wordAt wordEnd wordStarts wordsIn wordsOf
 functions-held = refl
 
 -- The limit on arguments.
@@ -110,7 +111,7 @@ arguments-texts =
 
 -- The definitions answer every one of them so.
 pub arguments-held : map defined arguments-texts ≡ map (λ (r : Reading). r .answer) arguments-texts
-unfolding after all allIn allNumerals answered anyUncarried argumentTokens bytesAt calledSort chained commandShape constantsPast count deadMisfit deadPlace differing earlier formSorts formYields formed formsOf grammarPlace groupLeft groupRight hashed inOrder inScriptOrder inside isDecimal isKnown isNamed isOneOf isReserved item itemSort itemsOf join judged judgedAll judgedBody judgedExtra kindOf knownAfter labelSort lastBefore leastIn levelsAt levelsBefore limitPlace listingMisfit literalKind namePlace named namedBy newNames newPairs nodeWord nodesOf nodesPast notCarried numeralKind onePass operatorAt operatorOf operatorSort operators pairwise passes placeIn rawTerms readAll reservedWords ruleMisfit rulePast rulesIn rulesOf runEnd sameBytes sameSorts sides sortBy sortOver sortingPlace spelled startsFrom symbolKind symbolMeans termFault termShapes termsIn tested treesFrom unknownIn withEach withSort wordAt wordEnd wordStarts wordsIn wordsOf
+unfolding after all allIn allNumerals answered anyUncarried argumentTokens bytesAt calledSort chained commandShape constantsPast count deadMisfit deadPlace differing earlier formSorts formYields formed formsOf grammarPlace groupLeft groupRight hashed inOrder inScriptOrder inside isDecimal isKnown isNamed isOneOf isReserved item itemSort itemsOf join judged judgedAll judgedBody judgedExtra kindOf knownAfter labelSort lastBefore leastIn levelsAt levelsBefore limitPlace listingMisfit literalKind namePlace named namedBy newNames newPairs nodeWord nodesOf nodesPast notCarried numeralKind onePass operatorAt operatorOf operatorSort operators pairwise passes placeIn rawTerms readAll reservedWords ruleMisfit rulePast rulesIn rulesOf runEnd sameBytes sameSorts sides sortBy sortOver sortingPlace spelled startsFrom symbolKind symbolMeans termFault termShapes termsIn tested totalOf treesFrom unknownIn withEach withSort wordAt wordEnd wordStarts wordsIn wordsOf
 arguments-held = refl
 
 -- The limit on defined arguments.
@@ -122,7 +123,7 @@ defined-arguments-texts =
 
 -- The definitions answer every one of them so.
 pub defined-arguments-held : map defined defined-arguments-texts ≡ map (λ (r : Reading). r .answer) defined-arguments-texts
-unfolding after all allIn allNumerals answered anyUncarried argumentTokens bytesAt calledSort chained commandShape constantsPast count deadMisfit deadPlace differing earlier formSorts formYields formed formsOf grammarPlace groupLeft groupRight hashed inOrder inScriptOrder inside isDecimal isKnown isNamed isOneOf isReserved item itemSort itemsOf join judged judgedAll judgedBody judgedExtra kindOf knownAfter labelSort lastBefore leastIn levelsAt levelsBefore limitPlace listingMisfit literalKind namePlace named namedBy newNames newPairs nodeWord nodesOf nodesPast notCarried numeralKind onePass operatorAt operatorOf operatorSort operators pairwise passes placeIn rawTerms readAll reservedWords ruleMisfit rulePast rulesIn rulesOf runEnd sameBytes sameSorts sides sortBy sortOver sortingPlace spelled startsFrom symbolKind symbolMeans termFault termShapes termsIn tested treesFrom unknownIn withEach withSort wordAt wordEnd wordStarts wordsIn wordsOf
+unfolding after all allIn allNumerals answered anyUncarried argumentTokens bytesAt calledSort chained commandShape constantsPast count deadMisfit deadPlace differing earlier formSorts formYields formed formsOf grammarPlace groupLeft groupRight hashed inOrder inScriptOrder inside isDecimal isKnown isNamed isOneOf isReserved item itemSort itemsOf join judged judgedAll judgedBody judgedExtra kindOf knownAfter labelSort lastBefore leastIn levelsAt levelsBefore limitPlace listingMisfit literalKind namePlace named namedBy newNames newPairs nodeWord nodesOf nodesPast notCarried numeralKind onePass operatorAt operatorOf operatorSort operators pairwise passes placeIn rawTerms readAll reservedWords ruleMisfit rulePast rulesIn rulesOf runEnd sameBytes sameSorts sides sortBy sortOver sortingPlace spelled startsFrom symbolKind symbolMeans termFault termShapes termsIn tested totalOf treesFrom unknownIn withEach withSort wordAt wordEnd wordStarts wordsIn wordsOf
 defined-arguments-held = refl
 
 -- The limit on defined.
@@ -134,7 +135,7 @@ defined-texts =
 
 -- The definitions answer every one of them so.
 pub defined-held : map defined defined-texts ≡ map (λ (r : Reading). r .answer) defined-texts
-unfolding after all allIn allNumerals answered anyUncarried argumentTokens bytesAt calledSort chained commandShape constantsPast count deadMisfit deadPlace differing earlier formSorts formYields formed formsOf grammarPlace groupLeft groupRight hashed inOrder inScriptOrder inside isDecimal isKnown isNamed isOneOf isReserved item itemSort itemsOf join judged judgedAll judgedBody judgedExtra kindOf knownAfter labelSort lastBefore leastIn levelsAt levelsBefore limitPlace listingMisfit literalKind namePlace named namedBy newNames newPairs nodeWord nodesOf nodesPast notCarried numeralKind onePass operatorAt operatorOf operatorSort operators pairwise passes placeIn rawTerms readAll reservedWords ruleMisfit rulePast rulesIn rulesOf runEnd sameBytes sameSorts sides sortBy sortOver sortingPlace spelled startsFrom symbolKind symbolMeans termFault termShapes termsIn tested treesFrom unknownIn withEach withSort wordAt wordEnd wordStarts wordsIn wordsOf
+unfolding after all allIn allNumerals answered anyUncarried argumentTokens bytesAt calledSort chained commandShape constantsPast count deadMisfit deadPlace differing earlier formSorts formYields formed formsOf grammarPlace groupLeft groupRight hashed inOrder inScriptOrder inside isDecimal isKnown isNamed isOneOf isReserved item itemSort itemsOf join judged judgedAll judgedBody judgedExtra kindOf knownAfter labelSort lastBefore leastIn levelsAt levelsBefore limitPlace listingMisfit literalKind namePlace named namedBy newNames newPairs nodeWord nodesOf nodesPast notCarried numeralKind onePass operatorAt operatorOf operatorSort operators pairwise passes placeIn rawTerms readAll reservedWords ruleMisfit rulePast rulesIn rulesOf runEnd sameBytes sameSorts sides sortBy sortOver sortingPlace spelled startsFrom symbolKind symbolMeans termFault termShapes termsIn tested totalOf treesFrom unknownIn withEach withSort wordAt wordEnd wordStarts wordsIn wordsOf
 defined-held = refl
 
 -- The limit on variables.
@@ -146,7 +147,7 @@ variables-texts =
 
 -- The definitions answer every one of them so.
 pub variables-held : map defined variables-texts ≡ map (λ (r : Reading). r .answer) variables-texts
-unfolding after all allIn allNumerals answered anyUncarried argumentTokens bytesAt calledSort chained commandShape constantsPast count deadMisfit deadPlace differing earlier formSorts formYields formed formsOf grammarPlace groupLeft groupRight hashed inOrder inScriptOrder inside isDecimal isKnown isNamed isOneOf isReserved item itemSort itemsOf join judged judgedAll judgedBody judgedExtra kindOf knownAfter labelSort lastBefore leastIn levelsAt levelsBefore limitPlace listingMisfit literalKind namePlace named namedBy newNames newPairs nodeWord nodesOf nodesPast notCarried numeralKind onePass operatorAt operatorOf operatorSort operators pairwise passes placeIn rawTerms readAll reservedWords ruleMisfit rulePast rulesIn rulesOf runEnd sameBytes sameSorts sides sortBy sortOver sortingPlace spelled startsFrom symbolKind symbolMeans termFault termShapes termsIn tested treesFrom unknownIn withEach withSort wordAt wordEnd wordStarts wordsIn wordsOf
+unfolding after all allIn allNumerals answered anyUncarried argumentTokens bytesAt calledSort chained commandShape constantsPast count deadMisfit deadPlace differing earlier formSorts formYields formed formsOf grammarPlace groupLeft groupRight hashed inOrder inScriptOrder inside isDecimal isKnown isNamed isOneOf isReserved item itemSort itemsOf join judged judgedAll judgedBody judgedExtra kindOf knownAfter labelSort lastBefore leastIn levelsAt levelsBefore limitPlace listingMisfit literalKind namePlace named namedBy newNames newPairs nodeWord nodesOf nodesPast notCarried numeralKind onePass operatorAt operatorOf operatorSort operators pairwise passes placeIn rawTerms readAll reservedWords ruleMisfit rulePast rulesIn rulesOf runEnd sameBytes sameSorts sides sortBy sortOver sortingPlace spelled startsFrom symbolKind symbolMeans termFault termShapes termsIn tested totalOf treesFrom unknownIn withEach withSort wordAt wordEnd wordStarts wordsIn wordsOf
 variables-held = refl
 
 -- The limit on constraints.
@@ -158,7 +159,7 @@ constraints-texts =
 
 -- The definitions answer every one of them so.
 pub constraints-held : map defined constraints-texts ≡ map (λ (r : Reading). r .answer) constraints-texts
-unfolding after all allIn allNumerals answered anyUncarried argumentTokens bytesAt calledSort chained commandShape constantsPast count deadMisfit deadPlace differing earlier formSorts formYields formed formsOf grammarPlace groupLeft groupRight hashed inOrder inScriptOrder inside isDecimal isKnown isNamed isOneOf isReserved item itemSort itemsOf join judged judgedAll judgedBody judgedExtra kindOf knownAfter labelSort lastBefore leastIn levelsAt levelsBefore limitPlace listingMisfit literalKind namePlace named namedBy newNames newPairs nodeWord nodesOf nodesPast notCarried numeralKind onePass operatorAt operatorOf operatorSort operators pairwise passes placeIn rawTerms readAll reservedWords ruleMisfit rulePast rulesIn rulesOf runEnd sameBytes sameSorts sides sortBy sortOver sortingPlace spelled startsFrom symbolKind symbolMeans termFault termShapes termsIn tested treesFrom unknownIn withEach withSort wordAt wordEnd wordStarts wordsIn wordsOf
+unfolding after all allIn allNumerals answered anyUncarried argumentTokens bytesAt calledSort chained commandShape constantsPast count deadMisfit deadPlace differing earlier formSorts formYields formed formsOf grammarPlace groupLeft groupRight hashed inOrder inScriptOrder inside isDecimal isKnown isNamed isOneOf isReserved item itemSort itemsOf join judged judgedAll judgedBody judgedExtra kindOf knownAfter labelSort lastBefore leastIn levelsAt levelsBefore limitPlace listingMisfit literalKind namePlace named namedBy newNames newPairs nodeWord nodesOf nodesPast notCarried numeralKind onePass operatorAt operatorOf operatorSort operators pairwise passes placeIn rawTerms readAll reservedWords ruleMisfit rulePast rulesIn rulesOf runEnd sameBytes sameSorts sides sortBy sortOver sortingPlace spelled startsFrom symbolKind symbolMeans termFault termShapes termsIn tested totalOf treesFrom unknownIn withEach withSort wordAt wordEnd wordStarts wordsIn wordsOf
 constraints-held = refl
 
 -- The limit on assumptions.
@@ -170,7 +171,7 @@ assumptions-texts =
 
 -- The definitions answer every one of them so.
 pub assumptions-held : map defined assumptions-texts ≡ map (λ (r : Reading). r .answer) assumptions-texts
-unfolding after all allIn allNumerals answered anyUncarried argumentTokens bytesAt calledSort chained commandShape constantsPast count deadMisfit deadPlace differing earlier formSorts formYields formed formsOf grammarPlace groupLeft groupRight hashed inOrder inScriptOrder inside isDecimal isKnown isNamed isOneOf isReserved item itemSort itemsOf join judged judgedAll judgedBody judgedExtra kindOf knownAfter labelSort lastBefore leastIn levelsAt levelsBefore limitPlace listingMisfit literalKind namePlace named namedBy newNames newPairs nodeWord nodesOf nodesPast notCarried numeralKind onePass operatorAt operatorOf operatorSort operators pairwise passes placeIn rawTerms readAll reservedWords ruleMisfit rulePast rulesIn rulesOf runEnd sameBytes sameSorts sides sortBy sortOver sortingPlace spelled startsFrom symbolKind symbolMeans termFault termShapes termsIn tested treesFrom unknownIn withEach withSort wordAt wordEnd wordStarts wordsIn wordsOf
+unfolding after all allIn allNumerals answered anyUncarried argumentTokens bytesAt calledSort chained commandShape constantsPast count deadMisfit deadPlace differing earlier formSorts formYields formed formsOf grammarPlace groupLeft groupRight hashed inOrder inScriptOrder inside isDecimal isKnown isNamed isOneOf isReserved item itemSort itemsOf join judged judgedAll judgedBody judgedExtra kindOf knownAfter labelSort lastBefore leastIn levelsAt levelsBefore limitPlace listingMisfit literalKind namePlace named namedBy newNames newPairs nodeWord nodesOf nodesPast notCarried numeralKind onePass operatorAt operatorOf operatorSort operators pairwise passes placeIn rawTerms readAll reservedWords ruleMisfit rulePast rulesIn rulesOf runEnd sameBytes sameSorts sides sortBy sortOver sortingPlace spelled startsFrom symbolKind symbolMeans termFault termShapes termsIn tested totalOf treesFrom unknownIn withEach withSort wordAt wordEnd wordStarts wordsIn wordsOf
 assumptions-held = refl
 
 -- The limit on non terminals.
@@ -182,7 +183,7 @@ non-terminals-texts =
 
 -- The definitions answer every one of them so.
 pub non-terminals-held : map defined non-terminals-texts ≡ map (λ (r : Reading). r .answer) non-terminals-texts
-unfolding after all allIn allNumerals answered anyUncarried argumentTokens bytesAt calledSort chained commandShape constantsPast count deadMisfit deadPlace differing earlier formSorts formYields formed formsOf grammarPlace groupLeft groupRight hashed inOrder inScriptOrder inside isDecimal isKnown isNamed isOneOf isReserved item itemSort itemsOf join judged judgedAll judgedBody judgedExtra kindOf knownAfter labelSort lastBefore leastIn levelsAt levelsBefore limitPlace listingMisfit literalKind namePlace named namedBy newNames newPairs nodeWord nodesOf nodesPast notCarried numeralKind onePass operatorAt operatorOf operatorSort operators pairwise passes placeIn rawTerms readAll reservedWords ruleMisfit rulePast rulesIn rulesOf runEnd sameBytes sameSorts sides sortBy sortOver sortingPlace spelled startsFrom symbolKind symbolMeans termFault termShapes termsIn tested treesFrom unknownIn withEach withSort wordAt wordEnd wordStarts wordsIn wordsOf
+unfolding after all allIn allNumerals answered anyUncarried argumentTokens bytesAt calledSort chained commandShape constantsPast count deadMisfit deadPlace differing earlier formSorts formYields formed formsOf grammarPlace groupLeft groupRight hashed inOrder inScriptOrder inside isDecimal isKnown isNamed isOneOf isReserved item itemSort itemsOf join judged judgedAll judgedBody judgedExtra kindOf knownAfter labelSort lastBefore leastIn levelsAt levelsBefore limitPlace listingMisfit literalKind namePlace named namedBy newNames newPairs nodeWord nodesOf nodesPast notCarried numeralKind onePass operatorAt operatorOf operatorSort operators pairwise passes placeIn rawTerms readAll reservedWords ruleMisfit rulePast rulesIn rulesOf runEnd sameBytes sameSorts sides sortBy sortOver sortingPlace spelled startsFrom symbolKind symbolMeans termFault termShapes termsIn tested totalOf treesFrom unknownIn withEach withSort wordAt wordEnd wordStarts wordsIn wordsOf
 non-terminals-held = refl
 
 -- The limit on rules.
@@ -194,7 +195,7 @@ rules-texts =
 
 -- The definitions answer every one of them so.
 pub rules-held : map defined rules-texts ≡ map (λ (r : Reading). r .answer) rules-texts
-unfolding after all allIn allNumerals answered anyUncarried argumentTokens bytesAt calledSort chained commandShape constantsPast count deadMisfit deadPlace differing earlier formSorts formYields formed formsOf grammarPlace groupLeft groupRight hashed inOrder inScriptOrder inside isDecimal isKnown isNamed isOneOf isReserved item itemSort itemsOf join judged judgedAll judgedBody judgedExtra kindOf knownAfter labelSort lastBefore leastIn levelsAt levelsBefore limitPlace listingMisfit literalKind namePlace named namedBy newNames newPairs nodeWord nodesOf nodesPast notCarried numeralKind onePass operatorAt operatorOf operatorSort operators pairwise passes placeIn rawTerms readAll reservedWords ruleMisfit rulePast rulesIn rulesOf runEnd sameBytes sameSorts sides sortBy sortOver sortingPlace spelled startsFrom symbolKind symbolMeans termFault termShapes termsIn tested treesFrom unknownIn withEach withSort wordAt wordEnd wordStarts wordsIn wordsOf
+unfolding after all allIn allNumerals answered anyUncarried argumentTokens bytesAt calledSort chained commandShape constantsPast count deadMisfit deadPlace differing earlier formSorts formYields formed formsOf grammarPlace groupLeft groupRight hashed inOrder inScriptOrder inside isDecimal isKnown isNamed isOneOf isReserved item itemSort itemsOf join judged judgedAll judgedBody judgedExtra kindOf knownAfter labelSort lastBefore leastIn levelsAt levelsBefore limitPlace listingMisfit literalKind namePlace named namedBy newNames newPairs nodeWord nodesOf nodesPast notCarried numeralKind onePass operatorAt operatorOf operatorSort operators pairwise passes placeIn rawTerms readAll reservedWords ruleMisfit rulePast rulesIn rulesOf runEnd sameBytes sameSorts sides sortBy sortOver sortingPlace spelled startsFrom symbolKind symbolMeans termFault termShapes termsIn tested totalOf treesFrom unknownIn withEach withSort wordAt wordEnd wordStarts wordsIn wordsOf
 rules-held = refl
 
 -- The limit on nodes body.
@@ -206,7 +207,7 @@ nodes-body-texts =
 
 -- The definitions answer every one of them so.
 pub nodes-body-held : map defined nodes-body-texts ≡ map (λ (r : Reading). r .answer) nodes-body-texts
-unfolding after all allIn allNumerals answered anyUncarried argumentTokens bytesAt calledSort chained commandShape constantsPast count deadMisfit deadPlace differing earlier formSorts formYields formed formsOf grammarPlace groupLeft groupRight hashed inOrder inScriptOrder inside isDecimal isKnown isNamed isOneOf isReserved item itemSort itemsOf join judged judgedAll judgedBody judgedExtra kindOf knownAfter labelSort lastBefore leastIn levelsAt levelsBefore limitPlace listingMisfit literalKind namePlace named namedBy newNames newPairs nodeWord nodesOf nodesPast notCarried numeralKind onePass operatorAt operatorOf operatorSort operators pairwise passes placeIn rawTerms readAll reservedWords ruleMisfit rulePast rulesIn rulesOf runEnd sameBytes sameSorts sides sortBy sortOver sortingPlace spelled startsFrom symbolKind symbolMeans termFault termShapes termsIn tested treesFrom unknownIn withEach withSort wordAt wordEnd wordStarts wordsIn wordsOf
+unfolding after all allIn allNumerals answered anyUncarried argumentTokens bytesAt calledSort chained commandShape constantsPast count deadMisfit deadPlace differing earlier formSorts formYields formed formsOf grammarPlace groupLeft groupRight hashed inOrder inScriptOrder inside isDecimal isKnown isNamed isOneOf isReserved item itemSort itemsOf join judged judgedAll judgedBody judgedExtra kindOf knownAfter labelSort lastBefore leastIn levelsAt levelsBefore limitPlace listingMisfit literalKind namePlace named namedBy newNames newPairs nodeWord nodesOf nodesPast notCarried numeralKind onePass operatorAt operatorOf operatorSort operators pairwise passes placeIn rawTerms readAll reservedWords ruleMisfit rulePast rulesIn rulesOf runEnd sameBytes sameSorts sides sortBy sortOver sortingPlace spelled startsFrom symbolKind symbolMeans termFault termShapes termsIn tested totalOf treesFrom unknownIn withEach withSort wordAt wordEnd wordStarts wordsIn wordsOf
 nodes-body-held = refl
 
 -- The limit on nodes constraint.
@@ -218,7 +219,7 @@ nodes-constraint-texts =
 
 -- The definitions answer every one of them so.
 pub nodes-constraint-held : map defined nodes-constraint-texts ≡ map (λ (r : Reading). r .answer) nodes-constraint-texts
-unfolding after all allIn allNumerals answered anyUncarried argumentTokens bytesAt calledSort chained commandShape constantsPast count deadMisfit deadPlace differing earlier formSorts formYields formed formsOf grammarPlace groupLeft groupRight hashed inOrder inScriptOrder inside isDecimal isKnown isNamed isOneOf isReserved item itemSort itemsOf join judged judgedAll judgedBody judgedExtra kindOf knownAfter labelSort lastBefore leastIn levelsAt levelsBefore limitPlace listingMisfit literalKind namePlace named namedBy newNames newPairs nodeWord nodesOf nodesPast notCarried numeralKind onePass operatorAt operatorOf operatorSort operators pairwise passes placeIn rawTerms readAll reservedWords ruleMisfit rulePast rulesIn rulesOf runEnd sameBytes sameSorts sides sortBy sortOver sortingPlace spelled startsFrom symbolKind symbolMeans termFault termShapes termsIn tested treesFrom unknownIn withEach withSort wordAt wordEnd wordStarts wordsIn wordsOf
+unfolding after all allIn allNumerals answered anyUncarried argumentTokens bytesAt calledSort chained commandShape constantsPast count deadMisfit deadPlace differing earlier formSorts formYields formed formsOf grammarPlace groupLeft groupRight hashed inOrder inScriptOrder inside isDecimal isKnown isNamed isOneOf isReserved item itemSort itemsOf join judged judgedAll judgedBody judgedExtra kindOf knownAfter labelSort lastBefore leastIn levelsAt levelsBefore limitPlace listingMisfit literalKind namePlace named namedBy newNames newPairs nodeWord nodesOf nodesPast notCarried numeralKind onePass operatorAt operatorOf operatorSort operators pairwise passes placeIn rawTerms readAll reservedWords ruleMisfit rulePast rulesIn rulesOf runEnd sameBytes sameSorts sides sortBy sortOver sortingPlace spelled startsFrom symbolKind symbolMeans termFault termShapes termsIn tested totalOf treesFrom unknownIn withEach withSort wordAt wordEnd wordStarts wordsIn wordsOf
 nodes-constraint-held = refl
 
 -- The limit on nodes rule.
@@ -230,7 +231,7 @@ nodes-rule-texts =
 
 -- The definitions answer every one of them so.
 pub nodes-rule-held : map defined nodes-rule-texts ≡ map (λ (r : Reading). r .answer) nodes-rule-texts
-unfolding after all allIn allNumerals answered anyUncarried argumentTokens bytesAt calledSort chained commandShape constantsPast count deadMisfit deadPlace differing earlier formSorts formYields formed formsOf grammarPlace groupLeft groupRight hashed inOrder inScriptOrder inside isDecimal isKnown isNamed isOneOf isReserved item itemSort itemsOf join judged judgedAll judgedBody judgedExtra kindOf knownAfter labelSort lastBefore leastIn levelsAt levelsBefore limitPlace listingMisfit literalKind namePlace named namedBy newNames newPairs nodeWord nodesOf nodesPast notCarried numeralKind onePass operatorAt operatorOf operatorSort operators pairwise passes placeIn rawTerms readAll reservedWords ruleMisfit rulePast rulesIn rulesOf runEnd sameBytes sameSorts sides sortBy sortOver sortingPlace spelled startsFrom symbolKind symbolMeans termFault termShapes termsIn tested treesFrom unknownIn withEach withSort wordAt wordEnd wordStarts wordsIn wordsOf
+unfolding after all allIn allNumerals answered anyUncarried argumentTokens bytesAt calledSort chained commandShape constantsPast count deadMisfit deadPlace differing earlier formSorts formYields formed formsOf grammarPlace groupLeft groupRight hashed inOrder inScriptOrder inside isDecimal isKnown isNamed isOneOf isReserved item itemSort itemsOf join judged judgedAll judgedBody judgedExtra kindOf knownAfter labelSort lastBefore leastIn levelsAt levelsBefore limitPlace listingMisfit literalKind namePlace named namedBy newNames newPairs nodeWord nodesOf nodesPast notCarried numeralKind onePass operatorAt operatorOf operatorSort operators pairwise passes placeIn rawTerms readAll reservedWords ruleMisfit rulePast rulesIn rulesOf runEnd sameBytes sameSorts sides sortBy sortOver sortingPlace spelled startsFrom symbolKind symbolMeans termFault termShapes termsIn tested totalOf treesFrom unknownIn withEach withSort wordAt wordEnd wordStarts wordsIn wordsOf
 nodes-rule-held = refl
 
 -- The limit on nodes response.
@@ -242,5 +243,5 @@ nodes-response-texts =
 
 -- The definitions answer every one of them so.
 pub nodes-response-held : map defined nodes-response-texts ≡ map (λ (r : Reading). r .answer) nodes-response-texts
-unfolding after all allIn allNumerals answered anyUncarried argumentTokens bytesAt calledSort chained commandShape constantsPast count deadMisfit deadPlace differing earlier formSorts formYields formed formsOf grammarPlace groupLeft groupRight hashed inOrder inScriptOrder inside isDecimal isKnown isNamed isOneOf isReserved item itemSort itemsOf join judged judgedAll judgedBody judgedExtra kindOf knownAfter labelSort lastBefore leastIn levelsAt levelsBefore limitPlace listingMisfit literalKind namePlace named namedBy newNames newPairs nodeWord nodesOf nodesPast notCarried numeralKind onePass operatorAt operatorOf operatorSort operators pairwise passes placeIn rawTerms readAll reservedWords ruleMisfit rulePast rulesIn rulesOf runEnd sameBytes sameSorts sides sortBy sortOver sortingPlace spelled startsFrom symbolKind symbolMeans termFault termShapes termsIn tested treesFrom unknownIn withEach withSort wordAt wordEnd wordStarts wordsIn wordsOf
+unfolding after all allIn allNumerals answered anyUncarried argumentTokens bytesAt calledSort chained commandShape constantsPast count deadMisfit deadPlace differing earlier formSorts formYields formed formsOf grammarPlace groupLeft groupRight hashed inOrder inScriptOrder inside isDecimal isKnown isNamed isOneOf isReserved item itemSort itemsOf join judged judgedAll judgedBody judgedExtra kindOf knownAfter labelSort lastBefore leastIn levelsAt levelsBefore limitPlace listingMisfit literalKind namePlace named namedBy newNames newPairs nodeWord nodesOf nodesPast notCarried numeralKind onePass operatorAt operatorOf operatorSort operators pairwise passes placeIn rawTerms readAll reservedWords ruleMisfit rulePast rulesIn rulesOf runEnd sameBytes sameSorts sides sortBy sortOver sortingPlace spelled startsFrom symbolKind symbolMeans termFault termShapes termsIn tested totalOf treesFrom unknownIn withEach withSort wordAt wordEnd wordStarts wordsIn wordsOf
 nodes-response-held = refl

@@ -5,6 +5,7 @@ use mathlib.Core.List.{List, [], _∷_, map}
 use mathlib.Core.Path.{_≡_, refl}
 use lib.ListN.{length}
 use Rattle.forest.specs.Lists.{spelling}
+use Rattle.derivation.specs.Least.{totalOf}
 use Rattle.derivation.specs.Productive.{formYields, onePass, passes}
 use Rattle.derivation.specs.Sorts.{formSorts, itemSort}
 use Rattle.forest.specs.Forest.{count, join, nodesOf}
@@ -494,5 +495,5 @@ readings =
 
 -- The definitions answer every one of them so.
 pub decided : map defined readings ≡ map (λ (r : Reading). r .answer) readings
-unfolding after all allIn allNumerals answered anyUncarried argumentTokens bytesAt calledSort chained commandShape constantsPast count deadMisfit deadPlace differing earlier formSorts formYields formed formsOf grammarPlace groupLeft groupRight hashed inOrder inScriptOrder inside isDecimal isKnown isNamed isOneOf isReserved item itemSort itemsOf join judged judgedAll judgedBody judgedExtra kindOf knownAfter labelSort lastBefore leastIn levelsAt levelsBefore limitPlace listingMisfit literalKind namePlace named namedBy newNames newPairs nodeWord nodesOf nodesPast notCarried numeralKind onePass operatorAt operatorOf operatorSort operators pairwise passes placeIn rawTerms readAll reservedWords ruleMisfit rulePast rulesIn rulesOf runEnd sameBytes sameSorts sides sortBy sortOver sortingPlace spelled startsFrom symbolKind symbolMeans termFault termShapes termsIn tested treesFrom unknownIn withEach withSort wordAt wordEnd wordStarts wordsIn wordsOf
+unfolding after all allIn allNumerals answered anyUncarried argumentTokens bytesAt calledSort chained commandShape constantsPast count deadMisfit deadPlace differing earlier formSorts formYields formed formsOf grammarPlace groupLeft groupRight hashed inOrder inScriptOrder inside isDecimal isKnown isNamed isOneOf isReserved item itemSort itemsOf join judged judgedAll judgedBody judgedExtra kindOf knownAfter labelSort lastBefore leastIn levelsAt levelsBefore limitPlace listingMisfit literalKind namePlace named namedBy newNames newPairs nodeWord nodesOf nodesPast notCarried numeralKind onePass operatorAt operatorOf operatorSort operators pairwise passes placeIn rawTerms readAll reservedWords ruleMisfit rulePast rulesIn rulesOf runEnd sameBytes sameSorts sides sortBy sortOver sortingPlace spelled startsFrom symbolKind symbolMeans termFault termShapes termsIn tested totalOf treesFrom unknownIn withEach withSort wordAt wordEnd wordStarts wordsIn wordsOf
 decided = refl

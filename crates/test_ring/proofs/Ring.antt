@@ -1,6 +1,6 @@
 -- The tables of the Ring case hold its rules and its body: what `derive` requires can be met.
 use mathlib.Core.Path.{_≡_, refl}
-use Prim.Native.Nat.{ℕ, zero, suc, _<_}
+use Prim.Native.Nat.{ℕ, zero, suc, _<_, _≤_}
 use native.Mathlib.Omega.{arith}
 use mathlib.Core.List.{List, [], _∷_}
 use lib.ListN.{length}
@@ -8,7 +8,7 @@ use Rattle.forest.specs.Forest.{count, join, nodesOf}
 use Rattle.forest.specs.code.Cursors.{size}
 use Rattle.forest.specs.Tables.{rows}
 use Rattle.terms.specs.code.Nodes.{AllPlain, nodeTable}
-use Rattle.derivation.specs.Derivation.{formOf, headOf}
+use Rattle.derivation.specs.Derivation.{formOf, headOf, weightOf}
 use Rattle.derivation.specs.code.Admitted.{LeavesFit, Proper}
 use Rattle.derivation.specs.code.Tables.{formTable, rightSides, ruleTable}
 use Rattle.derivation.specs.code.Derive.{DerivePre}
@@ -36,8 +36,15 @@ single (suc zero) h = refl
 single (suc (suc zero)) h = refl
 single (suc (suc (suc r))) h = absurd (omega arith)
 
+light : (r : ℕ) → r < 3 → weightOf (ring .rules) r ≤ 65535
+unfolding weightOf
+light zero h = omega arith
+light (suc zero) h = omega arith
+light (suc (suc zero)) h = omega arith
+light (suc (suc (suc r))) h = absurd (omega arith)
+
 pub ring-pre : {k : ℕ} {area : List ℕ} → k < 8 → length area ≡ areaSize
-    → DerivePre (0 ∷ 0 ∷ 1 ∷ 1 ∷ 2 ∷ 1 ∷ []) (5 ∷ 1 ∷ 0 ∷ 1 ∷ 5 ∷ 0 ∷ 0 ∷ 1 ∷ 513 ∷ 0 ∷ 0 ∷ 1 ∷ []) (513 ∷ 0 ∷ 0 ∷ 1 ∷ []) k area
+    → DerivePre (0 ∷ 0 ∷ 0 ∷ 1 ∷ 1 ∷ 0 ∷ 2 ∷ 1 ∷ 0 ∷ []) (5 ∷ 1 ∷ 0 ∷ 1 ∷ 5 ∷ 0 ∷ 0 ∷ 1 ∷ 513 ∷ 0 ∷ 0 ∷ 1 ∷ []) (513 ∷ 0 ∷ 0 ∷ 1 ∷ []) k area
 unfolding AllPlain LeavesFit count formTable join nodeTable nodesOf rightSides rows ruleTable size
 ring-pre k sized = record {
   given = record {
@@ -50,7 +57,7 @@ ring-pre k sized = record {
       plain = (tt, tt, tt);
       leaves = (record { declared = omega arith; sort = refl }, tt, tt);
     };
-    admitted = record { few = omega arith; low = low; proper = proper; single = single };
+    admitted = record { few = omega arith; low = low; proper = proper; single = single; light = light };
   };
   one = refl;
   fits = omega arith;

@@ -21,11 +21,12 @@ fn digit(rule: u16) -> u8 {
 }
 
 fn main() {
-    let rules: [u64; 6] = [0, 0, 1, 1, 2, 1];
+    let rules: [u64; 9] = [0, 0, 0, 1, 1, 0, 2, 1, 0];
     let forms: [u64; 12] = [5, 1, 0, 1, 5, 0, 0, 1, 513, 0, 0, 1];
     let body: [u64; 4] = [513, 0, 0, 1];
     let mut area = unused_area();
-    if derivation::derive(&rules, &forms, &body, 1, &mut area) {
+    let derived = derivation::derive(&rules, &forms, &body, 1, &mut area);
+    if derived.found {
         let line = [
             digit(area[PLACE]),
             b' ',

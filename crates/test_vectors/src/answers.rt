@@ -1,7 +1,5 @@
 //! What is written of the checker's answer.
-use checker::answer;
-use outcome::Location;
-use outcome::Outcome;
+use checker::exports::sverdhyll_answer;
 use test_report::area::area_room;
 use test_report::area::report_area;
 use test_report::hex::decode;
@@ -31,29 +29,32 @@ fn area_size(digits: &[u8], room: &[u16]) -> usize
     size
 }
 
-// Writes an answer: its number, its text, its place, its second number and its units.
-fn write_outcome(outcome: Outcome) {
-    write_number(b" answer ", outcome.number as u64);
-    write_number(b" ", outcome.text as u64);
-    write_number(b" ", outcome.place as u64);
-    write_number(b" ", outcome.second as u64);
-    write_number(b" ", outcome.units);
+// Writes the sixteen numbers of an answer: its number, its text, its place, its second number and its units; the end of the word at its place, the line and
+// the column; and the weight of each function's derivation.
+fn write_answer(numbers: &[u64; 16]) {
+    write_number(b" answer ", numbers[0]);
+    write_number(b" ", numbers[1]);
+    write_number(b" ", numbers[2]);
+    write_number(b" ", numbers[3]);
+    write_number(b" ", numbers[4]);
+    write_number(b" ", numbers[5]);
+    write_number(b" ", numbers[6]);
+    write_number(b" ", numbers[7]);
+    write_number(b" ", numbers[8]);
+    write_number(b" ", numbers[9]);
+    write_number(b" ", numbers[10]);
+    write_number(b" ", numbers[11]);
+    write_number(b" ", numbers[12]);
+    write_number(b" ", numbers[13]);
+    write_number(b" ", numbers[14]);
+    write_number(b" ", numbers[15]);
 }
 
-// Writes what an answer carries: the end of the word at its place, the line and the column.
-fn write_location(location: Location) {
-    write_number(b" ", location.end as u64);
-    write_number(b" ", location.line as u64);
-    write_number(b" ", location.column as u64);
-}
-
-// Writes the answer with what it carries, and what stands in the area afterwards.
+// Writes the answer as C gets it, and what stands in the area afterwards.
 fn report_check(script: &[u8], response: &[u8], points: &[u64], budget: u64, area: &mut [u16]) {
-    let found = answer(script, response, points, budget, area);
-    let outcome = found.outcome;
-    let location = found.location;
-    write_outcome(outcome);
-    write_location(location);
+    let mut numbers = [0; 16];
+    sverdhyll_answer(script, response, points, budget, area, &mut numbers);
+    write_answer(&numbers);
     report_area(area);
 }
 

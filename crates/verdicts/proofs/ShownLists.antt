@@ -1,13 +1,15 @@
--- The area that shows lists, and one list more in it.
+-- The area that shows lists, and one list more in it; and what lists weigh.
 use Prim.Native.Nat.{ℕ, _+_, _-_, _*_, _≤_, _<_}
 use native.Mathlib.Omega.{arith}
-use mathlib.Core.Path.{_≡_, refl, sym, ap, _∙_}
+use mathlib.Core.Path.{_≡_, refl, sym, ap, subst, _∙_}
 use mathlib.Core.List.{List, [], _∷_, _++_, append-assoc, append-nil}
-use lib.ListN.{drop, length, length-append, length-replicate, replicate, replicate-append-replicate}
+use lib.ListN.{drop, set, length, length-append, length-replicate, replicate, replicate-append-replicate}
 use lib.Seq.{drop-append-add, drop-at, sets, sets-eq, take-at}
 use Rattle.derivation.specs.Answer.{listOf, unused}
 use Rattle.forest.specs.Limits.{areaSize, listSize, mostFunctions}
-use Rattle.outcome.specs.Derived.{blankArea, listsOf, shownArea}
+use Rattle.derivation.specs.Least.{totalOf}
+use Rattle.names.specs.Scopes.{Function}
+use Rattle.outcome.specs.Derived.{blankArea, listsOf, noTotals, shownArea, totals, weighed}
 
 -- A list has its size.
 pub list-long : (ds : List ℕ) → length ds ≤ listSize → length (listOf ds) ≡ listSize
@@ -50,3 +52,31 @@ module _ (lists : List (List ℕ)) (ds : List ℕ) (j : ℕ) (long : length (lis
 pub area-blank : blankArea ≡ shownArea []
 unfolding blankArea listsOf shownArea
 area-blank = refl
+
+-- One list more weighs what its rules weigh, of the function at its place.
+weighed-more : (fs : List Function) (lists : List (List ℕ)) (ds : List ℕ) {f : Function} {rest : List Function} → drop (length lists) fs ≡ f ∷ rest
+    → weighed fs (lists ++ ds ∷ []) ≡ weighed fs lists ++ totalOf (f .grammar .rules) ds ∷ []
+unfolding weighed
+weighed-more fs [] ds {f} is =
+    subst (λ (l : List Function). weighed l (ds ∷ []) ≡ weighed l [] ++ totalOf (f .grammar .rules) ds ∷ []) (sym is) refl
+weighed-more [] (es ∷ more) ds is = let none : _≡_ {A = ℕ} 0 1 = cc in absurd (omega arith)
+weighed-more (g ∷ gs) (es ∷ more) ds is = ap (λ (l : List ℕ). totalOf (g .grammar .rules) es ∷ l) (weighed-more gs more ds is)
+
+module _ (fs : List Function) (lists : List (List ℕ)) (ds : List ℕ) {j : ℕ} (listed : length lists ≡ j) (long : length (weighed fs lists) ≡ j)
+    {f : Function} {rest : List Function} (is : drop j fs ≡ f ∷ rest) where
+  -- So many are weighed.
+  weighed-here : weighed fs (lists ++ ds ∷ []) ≡ weighed fs lists ++ totalOf (f .grammar .rules) ds ∷ []
+  weighed-here = weighed-more fs lists ds (ap (λ (n : ℕ). drop n fs) listed ∙ is)
+
+  pub weighed-long : length (weighed fs (lists ++ ds ∷ [])) ≡ j + 1
+  weighed-long = omega (arith, ap length weighed-here, length-append (weighed fs lists) (totalOf (f .grammar .rules) ds ∷ []))
+
+  -- The total of function j, put behind those before it.
+  pub totals-more : j < mostFunctions → set (totals fs lists) j (totalOf (f .grammar .rules) ds) ≡ totals fs (lists ++ ds ∷ [])
+  unfolding totals
+  totals-more low = rw (weighed-here, ← long) (written-behind (weighed fs lists) (totalOf (f .grammar .rules) ds ∷ []) mostFunctions 0 (omega arith))
+
+-- The totals where no list is shown.
+pub totals-none : (fs : List Function) → noTotals ≡ totals fs []
+unfolding noTotals totals weighed
+totals-none fs = refl

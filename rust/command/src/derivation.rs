@@ -12,6 +12,8 @@ use simple::tree::{joined, Tree};
 pub struct Step {
     pub number: u16,
     pub nonterminal: String,
+    /// The rule's weight.
+    pub weight: u64,
     /// The rule's own text.
     pub rule: String,
     /// The literal or argument that a rule `(Constant σ)` or `(Variable σ)` stands for here.
@@ -79,6 +81,7 @@ impl<'a> Replay<'a> {
         Ok(Step {
             number,
             nonterminal: name.clone(),
+            weight: rule.weight,
             rule: own,
             given,
             written,

@@ -43,6 +43,8 @@ pub struct Derived {
     pub start: String,
     pub body: String,
     pub steps: Vec<Step>,
+    /// The total weight of its rules, as the checker gives it.
+    pub weight: u64,
 }
 
 /// A constraint that is false, or a constraint or assumption that was not begun, and the point.
@@ -221,9 +223,9 @@ fn derived(given: &Given, answer: Answer, area: &[u16]) -> Result<Vec<Derived>, 
     if !matches!(answer.number, 0 | 14 | 15) {
         return Ok(Vec::new());
     }
-    let lists = area.chunks(LIST_LENGTH);
+    let lists = area.chunks(LIST_LENGTH).zip(answer.weights);
     let functions = given.read.synthesized.iter().zip(&given.bodies).zip(lists);
-    let derived = functions.map(|((function, body), list)| {
+    let derived = functions.map(|((function, body), (list, weight))| {
         let shown = list
             .split(|&entry| entry == UNUSED)
             .next()
@@ -240,6 +242,7 @@ fn derived(given: &Given, answer: Answer, area: &[u16]) -> Result<Vec<Derived>, 
             start: function.grammar.nonterminals[0].name.clone(),
             body: body.to_string(),
             steps: steps.map_err(failed)?,
+            weight,
         })
     });
     derived.collect()

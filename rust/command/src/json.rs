@@ -17,7 +17,7 @@ use sverdhyll::Position;
 /// The name of the format, and its version: a later one keeps the keys of an earlier one.
 const FORMAT: [(&str, Json); 2] = [
     ("format", Json::Word("sverdhyll")),
-    ("version", Json::Number(6)),
+    ("version", Json::Number(7)),
 ];
 
 /// A JSON value.
@@ -206,6 +206,7 @@ fn function(derived: &Derived) -> Json {
         ("name", text(&derived.name)),
         ("start", text(&derived.start)),
         ("body", text(&derived.body)),
+        ("weight", Number(derived.weight)),
         ("derivation", List(derived.steps.iter().map(step).collect())),
     ])
 }
@@ -215,6 +216,7 @@ fn step(step: &Step) -> Json {
     Object(vec![
         ("rule", Number(step.number.into())),
         ("nonterminal", text(&step.nonterminal)),
+        ("weight", Number(step.weight)),
         ("text", text(&step.rule)),
         ("given", or_null(step.given.as_ref(), |given| text(given))),
         (

@@ -3,7 +3,6 @@
 use crate::kinds::{kinds, KINDS};
 use crate::trial::Trial;
 use crate::{enquiries, texts};
-use simple::{replay, AREA_LENGTH};
 use std::{fmt, io};
 use sverdhyll::{Answer, Library};
 
@@ -12,8 +11,6 @@ pub struct Agreed {
     pub answer: Answer,
     /// Of which kinds it is that must come out.
     pub kinds: [bool; KINDS],
-    /// Whether the areas differ, which only several derivations of a body allow.
-    pub shown_otherwise: bool,
 }
 
 /// Where the proved checker and the simple one part.
@@ -71,6 +68,7 @@ pub fn given(answer: simple::Answer) -> Answer {
         end: answer.end,
         line: answer.line,
         column: answer.column,
+        weights: answer.weights,
     }
 }
 
@@ -88,7 +86,7 @@ pub fn judged(library: &mut Library, trial: &Trial) -> io::Result<Result<Agreed,
     let (simple, simple_area) = simple_answer(trial);
     let fault = match proved == simple {
         false => Some("the answers differ".to_string()),
-        true => area_fault(trial, &proved, &area),
+        true => area_fault(&area, &simple_area),
     };
     let fault = match fault {
         Some(fault) => Some(fault),
@@ -98,7 +96,6 @@ pub fn judged(library: &mut Library, trial: &Trial) -> io::Result<Result<Agreed,
         None => Ok(Agreed {
             kinds: kinds(case, &proved),
             answer: proved,
-            shown_otherwise: area != simple_area,
         }),
         Some(fault) => Err(Disagreement {
             proved,
@@ -120,17 +117,10 @@ fn other_fault(
     }
 }
 
-/// What is wrong with the proved checker's area: "after any other answer each entry is 65,535, except that an area of
-/// wrong size is unchanged"; after 0, 14 and 15 the lists are replayed.
-fn area_fault(trial: &Trial, answer: &Answer, area: &[u16]) -> Option<String> {
-    if trial.area.len() != AREA_LENGTH {
-        let changed = area != trial.area;
-        return changed.then(|| "an area of wrong size has changed".to_string());
-    }
-    replay::area_fault(
-        &trial.case.script,
-        &trial.case.response,
-        answer.number,
-        area,
-    )
+/// What is wrong with the proved checker's area, if anything: "the shown list is unique", and so is every entry.
+fn area_fault(proved: &[u16], simple: &[u16]) -> Option<String> {
+    let mut entries = proved.iter().zip(simple);
+    let at = entries.position(|(proved, simple)| proved != simple)?;
+    let (proved, simple) = (proved[at], simple[at]);
+    Some(format!("entry {at} of the area: {proved}, not {simple}"))
 }

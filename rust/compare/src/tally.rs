@@ -27,13 +27,11 @@ const SPOKEN_OF: [&[u8]; 17] = [
     &[2],
 ];
 
-/// How often each answer came out of each text, how often each kind did, and how often the two checkers showed different
-/// derivations.
+/// How often each answer came out of each text, and how often each kind did.
 #[derive(Default)]
 pub struct Tally {
     answers: [[u64; 4]; 17],
     kinds: [u64; KINDS],
-    shown_otherwise: u64,
 }
 
 impl Tally {
@@ -44,7 +42,6 @@ impl Tally {
         for (count, &is_one) in self.kinds.iter_mut().zip(&agreed.kinds) {
             *count += u64::from(is_one);
         }
-        self.shown_otherwise += u64::from(agreed.shown_otherwise);
     }
 
     /// Adds another tally.
@@ -54,7 +51,6 @@ impl Tally {
         for (count, others) in counts.zip(others) {
             *count += others;
         }
-        self.shown_otherwise += other.shown_otherwise;
     }
 
     /// The answers, with the texts they may speak of, and the kinds that did not come out.
@@ -80,10 +76,6 @@ impl fmt::Display for Tally {
         for (name, count) in NAMES.iter().zip(self.kinds) {
             writeln!(to, "{name}: {count} cases")?;
         }
-        writeln!(
-            to,
-            "derivations shown that differ and are both right: {} cases",
-            self.shown_otherwise
-        )
+        Ok(())
     }
 }

@@ -1,7 +1,7 @@
 //! A case with its lent area, from a seed and a number.
 
 use simple::generate::random::Random;
-use simple::generate::{crowded, mutated, noise, sized, valid, Case};
+use simple::generate::{crowded, mutated, noise, sized, tangled, valid, Case};
 use simple::AREA_LENGTH;
 
 /// What a checker takes.
@@ -17,9 +17,10 @@ pub struct Trial {
 type Maker = fn(u64) -> Case;
 
 /// The makers of cases, and how many of a hundred each makes.
-const MAKERS: [(usize, Maker); 5] = [
-    (24, valid),
-    (44, mutated),
+const MAKERS: [(usize, Maker); 6] = [
+    (18, valid),
+    (10, tangled),
+    (40, mutated),
     (14, crowded),
     (13, sized),
     (5, noise),

@@ -55,7 +55,9 @@ pub const LIST_LENGTH: usize = 4_096;
 pub const UNUSED: u16 = 65_535;
 /// "Answer 15 numbers assumptions from 64".
 pub const FIRST_ASSUMPTION: u64 = 64;
-/// So many numbers make an answer, those that are 0 in this version included.
+/// "8 synthesized functions".
+pub const FUNCTIONS: usize = 8;
+/// So many numbers make an answer.
 const NUMBERS: usize = 16;
 
 /// An answer in numbers, as the library gives it; [`Answer::outcome`] says what they mean.
@@ -77,6 +79,8 @@ pub struct Answer {
     pub line: u64,
     /// The column of its place.
     pub column: u64,
+    /// The total weight of the derivation shown for each function; 0 for one that has none, and after all answers but 0, 14 and 15.
+    pub weights: [u64; FUNCTIONS],
 }
 
 /// Where a place of a text stands.
@@ -93,7 +97,7 @@ pub struct Position {
 impl Answer {
     /// The answer in the numbers that the library gives.
     fn of(numbers: [u64; NUMBERS]) -> Answer {
-        let [number, text, place, second, units, end, line, column, ..] = numbers;
+        let [number, text, place, second, units, end, line, column, weights @ ..] = numbers;
         Answer {
             number: number as u8,
             text: text as u8,
@@ -103,6 +107,7 @@ impl Answer {
             end,
             line,
             column,
+            weights,
         }
     }
 
@@ -143,8 +148,9 @@ impl Library {
     /// The answer for a script, a response, points and a budget. Fails only where the worker has gone.
     ///
     /// `points` has one number for each declared variable, point after point; a Bool is 0 or 1. `shown` is the lent area, of [`AREA_LENGTH`] entries: after
-    /// answers 0, 14 and 15 it shows a derivation of every body, the numbers of the rules, leftmost first, those of function k from entry
-    /// [`LIST_LENGTH`] · k on; every entry that no list uses is [`UNUSED`].
+    /// answers 0, 14 and 15 it shows the least derivation of every body, the numbers of the rules, leftmost first, those of function k from entry
+    /// [`LIST_LENGTH`] · k on; every entry that no list uses is [`UNUSED`]. Least is of least total weight, then with fewest rules, then with the least rule
+    /// numbers at the first difference.
     pub fn check(
         &mut self,
         script: &[u8],

@@ -238,6 +238,7 @@ impl fmt::Display for Outcome {
 #[cfg(test)]
 mod tests {
     use super::*;
+    use crate::FUNCTIONS;
 
     /// The answer of a number.
     fn answer(number: u8, text: u8) -> Answer {
@@ -250,6 +251,7 @@ mod tests {
             end: 7,
             line: 8,
             column: 9,
+            weights: [0; FUNCTIONS],
         }
     }
 

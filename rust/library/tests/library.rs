@@ -50,6 +50,17 @@ fn swap_case() {
 }
 
 #[test]
+fn the_least_derivation() {
+    let mut library = Library::open().expect("a library");
+    let script = b"(set-logic BV)(synth-fun f () Bool ((A Bool)(B Bool)) ((A Bool (B (not B) (not A))) (B Bool (A true true))))(check-synth)";
+    let response = b"((define-fun f () Bool (not true)))";
+    let mut area = vec![7; AREA_LENGTH];
+    let found = library.check(script, response, &[], 0, &mut area);
+    assert_eq!(found.expect("an answer"), answer(0, 3, 0, 1));
+    assert_eq!(area[..3], [1, 4, UNUSED]);
+}
+
+#[test]
 fn sizes() {
     let mut library = Library::open().expect("a library");
     let long = vec![b' '; TOO_LONG];

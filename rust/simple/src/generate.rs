@@ -1,4 +1,5 @@
-//! Random cases from a seed, for tests that compare two checkers: sound ones, mutations of them, cases about the limits, and noise.
+//! Random cases from a seed, for tests that compare two checkers: sound ones, such whose bodies have many derivations, mutations of them, cases about the limits,
+//! and noise.
 
 mod draft;
 mod mutate;
@@ -6,6 +7,7 @@ mod noise;
 pub mod random;
 mod sized;
 mod spaces;
+mod tangled;
 
 use crate::eval::{assumption_costs, constraint_costs, false_numbers, Functions};
 use crate::{
@@ -44,6 +46,13 @@ pub fn valid(seed: u64) -> Case {
             return case;
         }
     }
+}
+
+/// A sound case whose bodies have many derivations: its answer is 0.
+pub fn tangled(seed: u64) -> Case {
+    let mut random = Random::new(seed.rotate_left(48));
+    let draft = tangled::tangled(&mut random);
+    rendered(&mut random, draft)
 }
 
 /// A case made from a sound one by one to three mutations, or with bodies that need not be derived.

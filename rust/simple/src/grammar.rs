@@ -1,9 +1,13 @@
 //! "Derivation": which non-terminals derive a node, and the derivation that is shown.
+//!
+//! The least derivation is found in rounds: at each node every rule is tried with the derivations that are known, which may be of any length, and takes the place
+//! of one that comes behind it, until a round finds none.
 
 use crate::eval::literal_value;
 use crate::operators::Sort;
 use crate::terms::{literal_sort, operands};
 use crate::tree::Tree;
+use std::cmp::Ordering;
 use std::collections::HashMap;
 use std::fmt;
 
@@ -34,11 +38,12 @@ impl fmt::Display for Form {
     }
 }
 
-/// A rule and the index of its non-terminal.
+/// A rule, the index of its non-terminal and its weight.
 #[derive(Clone, Debug)]
 pub struct Rule {
     pub nonterminal: usize,
     pub form: Form,
+    pub weight: u64,
 }
 
 /// The non-terminals, the first being the start, and the rules "numbered from 0 through the whole grammar".
@@ -91,65 +96,130 @@ impl Grammar {
     }
 }
 
-/// For each node of a body, by its place: for each non-terminal the rule by which it derives the node, if it does.
+/// A derivation: its rule numbers, "leftmost first", and their summed weight.
+#[derive(Clone, Debug, Default, PartialEq, Eq)]
+pub struct Derivation {
+    pub weight: u64,
+    pub rules: Vec<u16>,
+}
+
+/// A rule that fits a node, and its non-terminals from left to right, each with the part of the node at its place.
+struct Fitting<'t> {
+    number: usize,
+    places: Vec<(usize, &'t Tree)>,
+}
+
+/// The derivation that begins with a rule and goes on with what is known of its places.
+struct Candidate<'s> {
+    number: u16,
+    weight: u64,
+    parts: Vec<&'s Derivation>,
+}
+
+impl Candidate<'_> {
+    /// Its rule numbers.
+    fn rules(&self) -> impl Iterator<Item = u16> + '_ {
+        let parts = self.parts.iter().flat_map(|part| &part.rules);
+        [self.number].into_iter().chain(parts.copied())
+    }
+
+    /// Its total weight and how many rules it has.
+    fn price(&self) -> (u64, usize) {
+        let weight: u64 = self.parts.iter().map(|part| part.weight).sum();
+        let count: usize = self.parts.iter().map(|part| part.rules.len()).sum();
+        (self.weight + weight, 1 + count)
+    }
+
+    /// "least total weight among all of any length, then with fewest rules, then with the least rule numbers at the first difference".
+    fn comes_before(&self, known: &Derivation) -> bool {
+        let price = (known.weight, known.rules.len());
+        match self.price().cmp(&price) {
+            Ordering::Less => true,
+            Ordering::Equal => self.rules().lt(known.rules.iter().copied()),
+            Ordering::Greater => false,
+        }
+    }
+}
+
+/// For each node of a body, by its place: for each non-terminal its least derivation of the node, if it has one.
 pub struct Search<'a> {
     grammar: &'a Grammar,
     arguments: &'a [Sorted],
-    chosen: HashMap<usize, Vec<Option<usize>>>,
+    least: HashMap<usize, Vec<Option<Derivation>>>,
 }
 
-/// The rule numbers of a derivation of the body from the start, "leftmost first"; none if there is no derivation.
-pub fn derivation(grammar: &Grammar, arguments: &[Sorted], body: &Tree) -> Option<Vec<u16>> {
-    let search = Search::new(grammar, arguments, body);
-    search.chosen[&body.start()][0]?;
-    let mut numbers = Vec::new();
-    search.show(0, body, &mut numbers);
-    Some(numbers)
+/// The least derivation of the body from the start; none if there is no derivation.
+pub fn derivation(grammar: &Grammar, arguments: &[Sorted], body: &Tree) -> Option<Derivation> {
+    let mut search = Search::new(grammar, arguments, body);
+    search.least.remove(&body.start())?.swap_remove(0)
 }
 
 impl<'a> Search<'a> {
-    /// Which non-terminals derive each node of a body.
+    /// Which non-terminals derive each node of a body, and how.
     pub fn new(grammar: &'a Grammar, arguments: &'a [Sorted], body: &Tree) -> Search<'a> {
         let mut search = Search {
             grammar,
             arguments,
-            chosen: HashMap::new(),
+            least: HashMap::new(),
         };
         search.visit(body);
         search
     }
 
-    /// Whether a non-terminal derives a node of the body.
-    pub fn has(&self, nonterminal: usize, node: &Tree) -> bool {
-        self.chosen[&node.start()][nonterminal].is_some()
+    /// The least derivation of a node of the body from a non-terminal.
+    fn known(&self, nonterminal: usize, node: &Tree) -> Option<&Derivation> {
+        self.least[&node.start()][nonterminal].as_ref()
     }
 
-    /// "A non-terminal derives a term if one of its rules does": first by rules that are no chain, then by chains until
-    /// nothing more is added, so that no non-terminal comes twice at one place.
+    /// Whether a non-terminal derives a node of the body.
+    pub fn has(&self, nonterminal: usize, node: &Tree) -> bool {
+        self.known(nonterminal, node).is_some()
+    }
+
+    /// "A non-terminal derives a term if one of its rules does": the rules that fit the node, in rounds until none finds more.
     fn visit(&mut self, node: &Tree) {
         for operand in operands(node) {
             self.visit(operand);
         }
-        let mut chosen = vec![None; self.grammar.nonterminals.len()];
-        for (number, rule) in self.grammar.rules.iter().enumerate() {
-            let open = chosen[rule.nonterminal].is_none();
-            if open && self.chain(rule).is_none() && self.derives(rule, node) {
-                chosen[rule.nonterminal] = Some(number);
+        let none = vec![None; self.grammar.nonterminals.len()];
+        self.least.insert(node.start(), none);
+        let rules = self.grammar.rules.iter().enumerate();
+        let fitting = rules.filter_map(|(number, rule)| {
+            let places = self.places(&rule.form, node)?;
+            Some(Fitting { number, places })
+        });
+        let fitting: Vec<Fitting> = fitting.collect();
+        while self.round(&fitting, node) {}
+    }
+
+    /// Tries each rule that fits a node; whether one of them finds a derivation that comes before the one that was known.
+    fn round(&mut self, fitting: &[Fitting], node: &Tree) -> bool {
+        let mut found = false;
+        for one in fitting {
+            let nonterminal = self.grammar.rules[one.number].nonterminal;
+            if let Some(derivation) = self.better(one, self.known(nonterminal, node)) {
+                let row = self.least.get_mut(&node.start()).expect("a row");
+                row[nonterminal] = Some(derivation);
+                found = true;
             }
         }
-        let mut added = true;
-        while added {
-            added = false;
-            for (number, rule) in self.grammar.rules.iter().enumerate() {
-                let next = self.chain(rule);
-                let reached = next.is_some_and(|next| chosen[next].is_some());
-                if reached && chosen[rule.nonterminal].is_none() {
-                    chosen[rule.nonterminal] = Some(number);
-                    added = true;
-                }
-            }
-        }
-        self.chosen.insert(node.start(), chosen);
+        found
+    }
+
+    /// The derivation that begins with a rule, where there is one and it comes before the one that is known.
+    fn better(&self, fitting: &Fitting, known: Option<&Derivation>) -> Option<Derivation> {
+        let places = fitting.places.iter();
+        let parts = places.map(|&(nonterminal, part)| self.known(nonterminal, part));
+        let candidate = Candidate {
+            number: fitting.number as u16,
+            weight: self.grammar.rules[fitting.number].weight,
+            parts: parts.collect::<Option<_>>()?,
+        };
+        let first = known.is_none_or(|known| candidate.comes_before(known));
+        first.then(|| Derivation {
+            weight: candidate.price().0,
+            rules: candidate.rules().collect(),
+        })
     }
 
     /// The non-terminal that is the whole of a rule.
@@ -160,54 +230,38 @@ impl<'a> Search<'a> {
         }
     }
 
-    /// "`(Constant σ)` derives any literal of sort σ; `(Variable σ)` any argument of that function of sort σ".
-    fn derives(&self, rule: &Rule, node: &Tree) -> bool {
-        match &rule.form {
+    /// The non-terminals of a rule that fits a node, with their places; "`(Constant σ)` derives any literal of sort σ; `(Variable σ)`
+    /// any argument of that function of sort σ".
+    fn places<'t>(&self, form: &Form, node: &'t Tree) -> Option<Vec<(usize, &'t Tree)>> {
+        let fits = match form {
             Form::Constant(sort) => literal_sort(node) == Some(*sort),
             Form::Variable(sort) => self.arguments.iter().any(|argument| {
                 argument.sort == *sort && node.symbol() == Some(argument.name.as_str())
             }),
-            Form::Term(term) => self.equals(term, node),
-        }
+            Form::Term(term) => return self.term_places(term, node),
+        };
+        fits.then(Vec::new)
     }
 
     /// "the term equals the rule with each non-terminal replaced, place by place, by a term it derives"; "A literal is its value
     /// and width".
-    fn equals(&self, rule: &Tree, node: &Tree) -> bool {
+    fn term_places<'t>(&self, rule: &Tree, node: &'t Tree) -> Option<Vec<(usize, &'t Tree)>> {
         if let Some(nonterminal) = self.grammar.nonterminal(rule) {
-            return self.has(nonterminal, node);
+            return Some(vec![(nonterminal, node)]);
         }
         if let Some(value) = literal_value(rule) {
-            return literal_value(node) == Some(value);
+            return (literal_value(node) == Some(value)).then(Vec::new);
         }
         match (rule.items(), node.items()) {
             (Some([rule_head, rule_operands @ ..]), Some([node_head, node_operands @ ..])) => {
-                let mut pairs = rule_operands.iter().zip(node_operands);
-                rule_head.same_words(node_head)
-                    && rule_operands.len() == node_operands.len()
-                    && pairs.all(|(rule, node)| self.equals(rule, node))
+                let alike =
+                    rule_head.same_words(node_head) && rule_operands.len() == node_operands.len();
+                let pairs = rule_operands.iter().zip(node_operands);
+                let places = pairs.map(|(rule, node)| self.term_places(rule, node));
+                let places = alike.then(|| places.collect::<Option<Vec<_>>>())??;
+                Some(places.concat())
             }
-            _ => rule.same_words(node),
-        }
-    }
-
-    /// Adds the chosen rule of a non-terminal at a node, then those of the rule's non-terminals from left to right.
-    fn show(&self, nonterminal: usize, node: &Tree, numbers: &mut Vec<u16>) {
-        let number = self.chosen[&node.start()][nonterminal].expect("it derives the node");
-        numbers.push(number as u16);
-        if let Form::Term(term) = &self.grammar.rules[number].form {
-            self.show_places(term, node, numbers);
-        }
-    }
-
-    /// Adds what the non-terminals within a rule's term show at their places of the node.
-    fn show_places(&self, rule: &Tree, node: &Tree, numbers: &mut Vec<u16>) {
-        if let Some(nonterminal) = self.grammar.nonterminal(rule) {
-            self.show(nonterminal, node, numbers);
-            return;
-        }
-        for (rule, node) in operands(rule).iter().zip(operands(node)) {
-            self.show_places(rule, node, numbers);
+            _ => rule.same_words(node).then(Vec::new),
         }
     }
 }

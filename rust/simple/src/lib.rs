@@ -36,7 +36,8 @@ pub const AREA_LENGTH: usize = 32_768;
 pub const LIST_LENGTH: usize = 4_096;
 /// "every entry of the area that no list uses is 65,535".
 pub const UNUSED: u16 = 65_535;
-
+/// "8 synthesized functions".
+pub const MOST_SYNTHESIZED: usize = 8;
 /// "Answer 15 numbers assumptions from 64."
 pub const FIRST_ASSUMPTION: usize = 64;
 
@@ -49,7 +50,8 @@ const POINTS: u8 = 2;
 /// The text "none or the area" of an answer.
 const NONE: u8 = 3;
 
-/// An answer by document 01's table, and where the word at its place ends, with the place's line and column.
+/// An answer by document 01's table, where the word at its place ends, with the place's line and column, and the weights: "The total is reported for each
+/// function, 0 where none is shown."
 #[derive(Clone, Copy, Debug, Default, PartialEq, Eq)]
 pub struct Answer {
     pub number: u8,
@@ -60,6 +62,7 @@ pub struct Answer {
     pub end: u64,
     pub line: u64,
     pub column: u64,
+    pub weights: [u64; MOST_SYNTHESIZED],
 }
 
 /// The number and place of a fault in a text, and its second number: where a name that is taken was declared, else 0.
@@ -152,11 +155,14 @@ fn checked(
     if let Some(place) = eval::points_fault(points, &script.variables) {
         return Err(Fault::new(16, place).in_text(POINTS));
     }
-    for (list, numbers) in area.chunks_mut(LIST_LENGTH).zip(&derivations) {
-        list[..numbers.len()].copy_from_slice(numbers);
+    let mut weights = [0; MOST_SYNTHESIZED];
+    let shown = area.chunks_mut(LIST_LENGTH).zip(&mut weights);
+    for ((list, weight), derivation) in shown.zip(&derivations) {
+        list[..derivation.rules.len()].copy_from_slice(&derivation.rules);
+        *weight = derivation.weight;
     }
     let (outcome, units) = eval::evaluate(&script, &bodies, points, budget);
-    Ok(last_answer(outcome, units))
+    Ok(last_answer(outcome, units, weights))
 }
 
 /// "1 (script, response, ...)".
@@ -189,11 +195,14 @@ fn texts_said(script: &[u8], response: &[u8]) -> Result<(script::Script, Vec<tre
 }
 
 /// The derivation of each body, or 13 for the first function without one: "body's first word; function".
-fn derivations(script: &script::Script, bodies: &[tree::Tree]) -> Result<Vec<Vec<u16>>, Answer> {
+fn derivations(
+    script: &script::Script,
+    bodies: &[tree::Tree],
+) -> Result<Vec<grammar::Derivation>, Answer> {
     let mut derivations = Vec::new();
     for (index, (function, body)) in script.synthesized.iter().zip(bodies).enumerate() {
         match grammar::derivation(&function.grammar, &function.arguments, body) {
-            Some(numbers) => derivations.push(numbers),
+            Some(derivation) => derivations.push(derivation),
             None => {
                 return Err(Answer {
                     second: index as u64,
@@ -205,8 +214,8 @@ fn derivations(script: &script::Script, bodies: &[tree::Tree]) -> Result<Vec<Vec
     Ok(derivations)
 }
 
-/// The answer 0, 14 or 15 with "the units spent: the summed cost of evaluations done, a false one included".
-fn last_answer(outcome: Outcome, units: u64) -> Answer {
+/// The answer 0, 14 or 15 with "the units spent: the summed cost of evaluations done, a false one included", and the weights of what is shown.
+fn last_answer(outcome: Outcome, units: u64, weights: [u64; MOST_SYNTHESIZED]) -> Answer {
     let (number, text, place, second) = match outcome {
         Outcome::Accepted { held } => (0, NONE, 0, held),
         Outcome::False { point, constraint } => (14, POINTS, point, constraint),
@@ -218,6 +227,7 @@ fn last_answer(outcome: Outcome, units: u64) -> Answer {
         place: place as u64,
         second: second as u64,
         units,
+        weights,
         ..Answer::default()
     }
 }

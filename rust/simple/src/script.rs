@@ -8,12 +8,10 @@ use crate::terms::{
     unknown_sort, width_past_limit, Name,
 };
 use crate::tree::{trees, Tree};
-use crate::{words, Fault};
+use crate::{words, Fault, MOST_SYNTHESIZED};
 
 /// "Allow 65,536 bytes and 8,192 words of script", "brackets counted".
 pub const MOST_WORDS: usize = 8_192;
-/// "8 synthesized functions".
-const MOST_SYNTHESIZED: usize = 8;
 /// "32 `define-fun`s".
 const MOST_DEFINITIONS: usize = 32;
 /// "16 variables".
@@ -502,6 +500,7 @@ pub fn grammar(synth: &SynthFun) -> Grammar {
         rules.extend(group.rules.iter().map(|rule| Rule {
             nonterminal,
             form: form(rule),
+            weight: 0,
         }));
     }
     Grammar {

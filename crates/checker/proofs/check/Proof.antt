@@ -1,37 +1,15 @@
-use Rattle.checker.proofs.Sizing.{size-refused, sizes-right, texts-judged}
 use borrow.Author.Needs.{needs}
 use Rattle.checker.proofs.check.Statement.{statement}
 use Rattle.checker.proofs.check.Tie as tie
 
-size-answer-requires : tie.Need-size-answer-requires
-size-answer-requires c κs = search needs
-
-blank-area-requires : tie.Need-blank-area-requires
-blank-area-requires c κs = search needs
+weigh-requires : tie.Need-weigh-requires
+weigh-requires c κs = search needs
 
 same-length : tie.Need-same-length
 same-length c = search needs
 
 returns : tie.Need-returns
-returns c = search size-refused
-
-judge-texts-requires : tie.Need-judge-texts-requires
-judge-texts-requires c κs = search sizes-right
-
-same-length-2 : tie.Need-same-length-2
-same-length-2 c = search needs
-
-returns-2 : tie.Need-returns-2
-returns-2 c = search texts-judged
+returns c = record { weights = c .before .before .before .weigh .result .totals; checked = c .before .before .before .weigh .ensures }
 
 pub check-spec : {M : Type 1} → statement M
-check-spec =
-    tie.close
-    (tie.spec
-    size-answer-requires
-    blank-area-requires
-    same-length
-    returns
-    judge-texts-requires
-    same-length-2
-    returns-2)
+check-spec = tie.close (tie.spec weigh-requires same-length returns)

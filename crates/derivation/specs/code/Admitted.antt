@@ -8,7 +8,7 @@ use Rattle.operators.specs.Sorts.{Fit}
 use Rattle.forest.specs.Forest.{Forest, count, none, tree}
 use Rattle.terms.specs.Labels.{Label, Terms, defined, function, literal, name, operator}
 use Rattle.terms.specs.code.Nodes.{Plain}
-use Rattle.derivation.specs.Derivation.{Item, Argument, Grammar, headOf, formOf, the, nonTerminal, anyLiteral, anyArgument}
+use Rattle.derivation.specs.Derivation.{Item, Argument, Grammar, headOf, formOf, weightOf, mostWeight, the, nonTerminal, anyLiteral, anyArgument}
 
 -- Non-terminals are below k, and neither they nor `(Constant σ)` and `(Variable σ)` have operands; labels are told by their numbers.
 unfoldable pub Proper : ℕ → Forest Item → Type 0
@@ -31,9 +31,10 @@ unfoldable pub LeavesFit : (arguments : List ℕ) → Terms → Type 0
 LeavesFit arguments none = Unit {0}
 LeavesFit arguments (tree l ops rest) = LeafFits arguments l × LeavesFit arguments ops × LeavesFit arguments rest
 
--- The rules that document 01 admits: "16 non-terminals and 128 rules a grammar", each right side one term.
+-- The rules that document 01 admits: "16 non-terminals and 128 rules a grammar", each right side one term; and weights "to 65,535" (E13).
 pub record Admitted (G : Grammar) : Type 0 where
   pub few : length (G .rules) ≤ mostRules
   pub low : (r : ℕ) → r < length (G .rules) → headOf (G .rules) r < mostNonTerminals
   pub proper : (r : ℕ) → r < length (G .rules) → Proper mostNonTerminals (formOf (G .rules) r)
   pub single : (r : ℕ) → r < length (G .rules) → count (formOf (G .rules) r) ≡ 1
+  pub light : (r : ℕ) → r < length (G .rules) → weightOf (G .rules) r ≤ mostWeight

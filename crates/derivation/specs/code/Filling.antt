@@ -1,36 +1,99 @@
--- What filling the masks of the nodes asks and gives.
-use Rattle.forest.specs.Limits.{mostNonTerminals}
+-- What filling the masks and ranks of the nodes asks and gives.
+use Rattle.forest.specs.Limits.{mostNodes, mostNonTerminals, mostRules}
 use mathlib.Core.Path.{_≡_}
 use mathlib.Core.Bool.{true, false}
-use Prim.Native.Nat.{ℕ, _<_, _≤_}
+use Prim.Native.Nat.{ℕ, _+_, _*_, _/_, _<_, _≤_}
 use mathlib.Core.List.{List}
 use lib.ListN.{length, getD}
+use Rattle.forest.specs.Forest.{none, tree}
 use Rattle.forest.specs.code.Cursors.{size, from}
-use Rattle.derivation.specs.Derivation.{headOf}
+use Rattle.terms.specs.Labels.{Terms}
+use Rattle.terms.specs.code.Codes.{nonTerminalKind}
+use Rattle.terms.specs.code.Nodes.{codeAt, valueAt}
+use Rattle.derivation.specs.Derivation.{Grammar, formOf, mostWeight, nonTerminal}
 use Rattle.derivation.specs.code.Tables.{Given}
-use Rattle.derivation.specs.code.Masks.{has}
-use Rattle.derivation.specs.code.Matching.{AppliesHere}
-use Rattle.derivation.specs.code.Search.{ExactAt, Asks, Chain}
+use Rattle.derivation.specs.code.Rules.{nonTerminalAt, ruleWidth, startAt, weightAt}
+use Rattle.derivation.specs.code.Masks.{has, markWidth, maskAt, rankAt}
+use Rattle.derivation.specs.code.Ranks.{perWeight, most}
+use Rattle.derivation.specs.code.Search.{Asks, Chain, ExactAt, Fits, NoChain}
+use Rattle.derivation.specs.code.Matching.{Matched}
 
--- r is the first rule that can be used and whose non-terminal is not in s; the number of rules if there is none.
-pub record Finds (rules forms body masks : List ℕ) (i s r : ℕ) : Type 0 where
-  pub bound : (q : Asks rules forms body masks i) → r ≤ length (q .given .G .rules)
-  pub found : (q : Asks rules forms body masks i) → r < length (q .given .G .rules) → AppliesHere q s r × (has s (headOf (q .given .G .rules) r) ≡ false)
-  pub none-left : (q : Asks rules forms body masks i) → r ≡ length (q .given .G .rules)
-      → (k : ℕ) → k < length (q .given .G .rules) → AppliesHere q s k → has s (headOf (q .given .G .rules) k) ≡ true
+-- Rule r can be used at the place of F's first tree, where the set s is known to be derived.
+pub data Applies (G : Grammar) (F : Terms) (s r : ℕ) : Type 0 where
+  chain : (B : ℕ) → formOf (G .rules) r ≡ tree (nonTerminal B) none none → has s B ≡ true → Applies G F s r
+  no-chain : NoChain (formOf (G .rules) r) → Fits G (formOf (G .rules) r) F → Applies G F s r
 
--- s is the exact set at node i, and the choices lead from each of its members to a derivation.
-pub record NodeIs (rules forms body masks : List ℕ) (i : ℕ) (chosen : List ℕ) (s : ℕ) : Type 0 where
+-- Rule r starts with a non-terminal: it is a chain rule.
+abbrev pub IsChain : (rules forms : List ℕ) (r : ℕ) → Type 0
+IsChain rules forms r = codeAt forms (startAt rules r) ≡ nonTerminalKind
+
+-- The rules before the n-th that are no chain rules have their ranks at node i.
+pub record Priced (rules forms body masks : List ℕ) (i n : ℕ) (costs : List ℕ) : Type 0 where
+  pub long : length costs ≡ mostRules
+  pub each : (r : ℕ) → r < n → (IsChain rules forms r → ⊥) → Matched rules forms body masks i r (getD costs r 0)
+
+-- What a price is made of: weights are light, ranks small, and non-terminals one of so many.
+pub record Prices (rules forms row : List ℕ) : Type 0 where
+  pub heads : (r : ℕ) → r < length rules / ruleWidth → nonTerminalAt rules r < mostNonTerminals
+  pub ends : (r : ℕ) → r < length rules / ruleWidth → IsChain rules forms r → valueAt forms (startAt rules r) < mostNonTerminals
+  pub light : (r : ℕ) → r < length rules / ruleWidth → weightAt rules r ≤ mostWeight
+  pub small : (A : ℕ) → getD row A 0 ≤ most
+
+-- c is the rank of what rule r leads to where the set s is known; 0 if it adds nothing.
+pub data Price (rules forms costs row : List ℕ) (s r c : ℕ) : Type 0 where
+  known : has s (nonTerminalAt rules r) ≡ true → c ≡ 0 → Price rules forms costs row s r c
+  plain : has s (nonTerminalAt rules r) ≡ false → (IsChain rules forms r → ⊥) → c ≡ getD costs r 0 → Price rules forms costs row s r c
+  not-yet : has s (nonTerminalAt rules r) ≡ false → IsChain rules forms r → has s (valueAt forms (startAt rules r)) ≡ false → c ≡ 0
+      → Price rules forms costs row s r c
+  chained : has s (nonTerminalAt rules r) ≡ false → IsChain rules forms r → has s (valueAt forms (startAt rules r)) ≡ true
+      → c ≡ perWeight * weightAt rules r + 1 + getD row (valueAt forms (startAt rules r)) 0
+      → Price rules forms costs row s r c
+
+-- Rule k of price x is no better than rule r of price c: 0 is no price.
+pub data Worse (c r x k : ℕ) : Type 0 where
+  nothing : x ≡ 0 → Worse c r x k
+  dearer : (c ≡ 0 → ⊥) → c < x → Worse c r x k
+  later : (c ≡ 0 → ⊥) → c ≡ x → r ≤ k → Worse c r x k
+
+-- Of the rules before the n-th, r has the least price c, and is the first of that price; c is 0 if none has a price.
+pub record Chooses (rules forms costs row : List ℕ) (s n r c : ℕ) : Type 0 where
+  pub is : (c ≡ 0 → ⊥) → (r < n) × Price rules forms costs row s r c
+  pub all : (k : ℕ) → k < n → (x : ℕ) × Price rules forms costs row s k x × Worse c r x k
+
+-- s is the exact set at node i, the row has the ranks, and the choices lead from each of its members to a derivation.
+pub record NodeIs (rules forms body masks : List ℕ) (i : ℕ) (row chosen : List ℕ) (s : ℕ) : Type 0 where
   pub sixteen : length chosen ≡ mostNonTerminals
-  pub exact : (q : Asks rules forms body masks i) → ExactAt (q .given .G) (from (q .given .F) i) s
+  pub seventeen : length row ≡ markWidth
+  pub exact : (q : Asks rules forms body masks i) → ExactAt (q .given .G) (from (q .given .F) i) s (λ A. getD row A 0)
   pub chains : (q : Asks rules forms body masks i) (A : ℕ) → A < mostNonTerminals → has s A ≡ true
       → (k : ℕ) × Chain (q .given .G) (from (q .given .F) i) s chosen A k × (k ≤ mostNonTerminals)
 
--- There is a mask for each node.
+-- Room for the row of a node, which has small numbers, and for its choices.
+pub record RowPre (row chosen : List ℕ) : Type 0 where
+  pub seventeen : length row ≡ markWidth
+  pub sixteen : length chosen ≡ mostNonTerminals
+  pub small : (A : ℕ) → getD row A 0 ≤ most
+
+-- The prices of a node's rules, and room for its row and choices.
+pub record SettlePre (rules forms costs row chosen : List ℕ) : Type 0 where
+  pub body : List ℕ
+  pub masks : List ℕ
+  pub i : ℕ
+  pub asks : Asks rules forms body masks i
+  pub priced : Priced rules forms body masks i (length rules / ruleWidth) costs
+  pub room : RowPre row chosen
+
+-- What the turns give, for whatever the tables hold.
+abbrev pub Settles : (rules forms costs row chosen row' chosen' : List ℕ) (s : ℕ) → Type 0
+Settles rules forms costs row chosen row' chosen' s =
+    (p : SettlePre rules forms costs row chosen) → NodeIs rules forms (p .body) (p .masks) (p .i) row' chosen' s
+
+-- There is a row for each node.
 pub record MasksPre (rules forms body masks : List ℕ) : Type 0 where
   pub given : Given rules forms body
-  pub long : length masks ≡ size (given .F)
+  pub small : size (given .F) ≤ mostNodes
+  pub long : length masks ≡ markWidth * size (given .F)
 
--- Each mask is exact.
+-- Each mask and each rank is exact.
 pub record AllExact (rules forms body masks : List ℕ) : Type 0 where
-  pub exact : (g : Given rules forms body) (j : ℕ) → j < size (g .F) → ExactAt (g .G) (from (g .F) j) (getD masks j 0)
+  pub exact : (g : Given rules forms body) (j : ℕ) → j < size (g .F) → ExactAt (g .G) (from (g .F) j) (maskAt masks j) (rankAt masks j)

@@ -1,16 +1,18 @@
--- What the parts of the search have in common: which non-terminals derive a node, and masks that are exact.
-use Rattle.forest.specs.Limits.{mostNonTerminals}
+-- What the parts of the search have in common: which non-terminals derive a node, and masks and ranks that are exact.
+use Rattle.forest.specs.Limits.{mostNodes, mostNonTerminals}
 use mathlib.Core.Path.{_≡_}
 use mathlib.Core.Bool.{true}
-use Prim.Native.Nat.{ℕ, suc, _<_}
-use mathlib.Core.List.{List}
+use Prim.Native.Nat.{ℕ, suc, _*_, _<_, _≤_}
+use mathlib.Core.List.{List, _∷_}
 use lib.ListN.{length, getD}
 use Rattle.forest.specs.Forest.{Forest, none, tree, count}
 use Rattle.forest.specs.code.Cursors.{size, from, first}
 use Rattle.terms.specs.Labels.{Terms}
 use Rattle.derivation.specs.Derivation.{Item, nonTerminal, Grammar, headOf, formOf, Derives}
 use Rattle.derivation.specs.code.Tables.{Given}
-use Rattle.derivation.specs.code.Masks.{has}
+use Rattle.derivation.specs.Least.{Least}
+use Rattle.derivation.specs.code.Masks.{has, markWidth, maskAt, rankAt}
+use Rattle.derivation.specs.code.Ranks.{Ranked}
 
 -- A derives the first tree of F.
 unfoldable pub DerivesAt : Grammar → ℕ → Terms → Type 0
@@ -25,23 +27,30 @@ Fits G P F = (ds : List ℕ) × Derives G P (first (count P) F) ds
 abbrev pub NoChain : Forest Item → Type 0
 NoChain P = (A : ℕ) (ps qs : Forest Item) → P ≡ tree (nonTerminal A) ps qs → ⊥
 
--- The mask m is the set of the non-terminals that derive the first tree of F.
-pub record ExactAt (G : Grammar) (F : Terms) (m : ℕ) : Type 0 where
+-- The mask m is the set of the non-terminals that derive the first tree of F, and each has its rank.
+pub record ExactAt (G : Grammar) (F : Terms) (m : ℕ) (rank : ℕ → ℕ) : Type 0 where
   pub sound : (A : ℕ) → A < mostNonTerminals → has m A ≡ true → DerivesAt G A F
   pub complete : (A : ℕ) → A < mostNonTerminals → DerivesAt G A F → has m A ≡ true
+  pub ranked : (A : ℕ) → A < mostNonTerminals → has m A ≡ true
+      → Ranked G (tree (nonTerminal A) none none) (first 1 F) (mostNonTerminals * size (first 1 F)) (rank A)
 
--- The masks past node i are exact.
+-- The masks and ranks past node i are exact.
 pub record Asks (rules forms body masks : List ℕ) (i : ℕ) : Type 0 where
   pub given : Given rules forms body
   pub inside : i < size (given .F)
-  pub long : length masks ≡ size (given .F)
-  pub exact : (j : ℕ) → i < j → j < size (given .F) → ExactAt (given .G) (from (given .F) j) (getD masks j 0)
+  pub small : size (given .F) ≤ mostNodes
+  pub long : length masks ≡ markWidth * size (given .F)
+  pub exact : (j : ℕ) → i < j → j < size (given .F) → ExactAt (given .G) (from (given .F) j) (maskAt masks j) (rankAt masks j)
+
+-- Rule r begins the least list by which A derives the first tree of F.
+abbrev pub Best : (G : Grammar) (F : Terms) (A r : ℕ) → Type 0
+Best G F A r = (es : List ℕ) → Least G (formOf (G .rules) r) (first 1 F) es → Least G (tree (nonTerminal A) none none) (first 1 F) (r ∷ es)
 
 -- Following the choices from A at the place of F's first tree takes k rules to a rule that is no chain rule.
 pub data Chain (G : Grammar) (F : Terms) (s : ℕ) (chosen : List ℕ) : ℕ → ℕ → Type 0 where
   stop : {A : ℕ} → has s A ≡ true → getD chosen A 0 < length (G .rules) → headOf (G .rules) (getD chosen A 0) ≡ A
-      → NoChain (formOf (G .rules) (getD chosen A 0)) → Fits G (formOf (G .rules) (getD chosen A 0)) F
+      → NoChain (formOf (G .rules) (getD chosen A 0)) → Fits G (formOf (G .rules) (getD chosen A 0)) F → Best G F A (getD chosen A 0)
       → Chain G F s chosen A 1
   more : {A k : ℕ} (B : ℕ) → has s A ≡ true → getD chosen A 0 < length (G .rules) → headOf (G .rules) (getD chosen A 0) ≡ A
-      → formOf (G .rules) (getD chosen A 0) ≡ tree (nonTerminal B) none none → Chain G F s chosen B k
+      → formOf (G .rules) (getD chosen A 0) ≡ tree (nonTerminal B) none none → Best G F A (getD chosen A 0) → Chain G F s chosen B k
       → Chain G F s chosen A (suc k)

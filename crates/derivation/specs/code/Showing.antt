@@ -1,17 +1,20 @@
 -- What writing the rules of a derivation asks and gives.
-use Rattle.forest.specs.Limits.{mostNonTerminals}
+use Rattle.forest.specs.Limits.{mostNodes, mostNonTerminals}
 use mathlib.Core.Path.{_≡_}
-use mathlib.Core.Bool.{Bool, true, false}
 use Prim.Native.Nat.{ℕ, _+_, _*_, _<_, _≤_}
 use mathlib.Core.List.{List, [], _++_}
 use lib.ListN.{length}
 use lib.Seq.{sets}
 use Rattle.forest.specs.Forest.{none, tree, count}
 use Rattle.forest.specs.code.Cursors.{size, from, first}
-use Rattle.derivation.specs.Derivation.{nonTerminal, formOf, Derives, Simple}
+use Rattle.terms.specs.Labels.{Terms}
+use Rattle.derivation.specs.Derivation.{Grammar, nonTerminal, formOf, Derives, Simple}
+use Rattle.derivation.specs.Least.{Least}
 use Rattle.derivation.specs.code.Tables.{Given}
 use Rattle.derivation.specs.Answer.{start}
-use Rattle.derivation.specs.code.Matching.{AsksNoChain, chain, no-chain}
+use Rattle.derivation.specs.code.Masks.{markWidth}
+use Rattle.derivation.specs.code.Ranks.{rankOf}
+use Rattle.derivation.specs.code.Matching.{AsksNoChain}
 use Rattle.derivation.specs.code.Search.{DerivesAt, Fits, NoChain, Asks, Chain}
 
 -- The choices lead from the non-terminal a, at a node, to a rule that is no chain rule, within the room that the list has.
@@ -37,6 +40,8 @@ pub record FollowPost (rules forms chosen : List ℕ) (a : ℕ) (shown : List �
   pub is-rule : r < length (f .asks .given .G .rules)
   pub no-chain : NoChain (formOf (f .asks .given .G .rules) r)
   pub fits : Fits (f .asks .given .G) (formOf (f .asks .given .G .rules) r) (from (f .asks .given .F) (f .i))
+  pub least : (es : List ℕ) → Least (f .asks .given .G) (formOf (f .asks .given .G .rules) r) (first 1 (from (f .asks .given .F) (f .i))) es
+      → Least (f .asks .given .G) (tree (nonTerminal a) none none) (first 1 (from (f .asks .given .F) (f .i))) (ws ++ es)
   pub back : (es : List ℕ) → Simple (f .asks .given .G) [] (formOf (f .asks .given .G .rules) r) (first 1 (from (f .asks .given .F) (f .i))) es
       → Simple (f .asks .given .G) [] (tree (nonTerminal a) none none) (first 1 (from (f .asks .given .F) (f .i))) (ws ++ es)
 
@@ -51,11 +56,12 @@ pub record EmitPre (rules forms body masks : List ℕ) (i a : ℕ) (shown : List
   pub derives : DerivesAt (asks .given .G) a (from (asks .given .F) i)
   pub room : at + mostNonTerminals * size (first 1 (from (asks .given .F) i)) ≤ length shown
 
--- A derivation of that tree was written.
+-- The least derivation of that tree was written.
 pub record EmitPost (rules forms body masks : List ℕ) (i a : ℕ) (shown : List ℕ) (at : ℕ) (e : EmitPre rules forms body masks i a shown at)
     (shown' : List ℕ) (at' : ℕ) : Type 0 where
   pub ds : List ℕ
   pub derivation : Simple (e .asks .given .G) [] (tree (nonTerminal a) none none) (first 1 (from (e .asks .given .F) i)) ds
+  pub least : Least (e .asks .given .G) (tree (nonTerminal a) none none) (first 1 (from (e .asks .given .F) i)) ds
   pub wrote : shown' ≡ sets shown at ds
   pub next : at' ≡ at + length ds
   pub few : length ds ≤ mostNonTerminals * size (first 1 (from (e .asks .given .F) i))
@@ -71,11 +77,13 @@ pub record SpreadPre (rules forms body masks : List ℕ) (i r : ℕ) (shown : Li
   pub fits : Fits (rule-asks .asks .given .G) (formOf (rule-asks .asks .given .G .rules) r) (from (rule-asks .asks .given .F) i)
   pub room : at + mostNonTerminals * size (first 1 (from (rule-asks .asks .given .F) i)) ≤ length shown + mostNonTerminals
 
--- Derivations for the places of the rule were written.
+-- The least derivations for the places of the rule were written.
 pub record SpreadPost (rules forms body masks : List ℕ) (i r : ℕ) (shown : List ℕ) (at : ℕ) (e : SpreadPre rules forms body masks i r shown at)
     (shown' : List ℕ) (at' : ℕ) : Type 0 where
   pub ds : List ℕ
   pub derivation : Simple (e .rule-asks .asks .given .G) [] (formOf (e .rule-asks .asks .given .G .rules) r)
+      (first 1 (from (e .rule-asks .asks .given .F) i)) ds
+  pub least : Least (e .rule-asks .asks .given .G) (formOf (e .rule-asks .asks .given .G .rules) r)
       (first 1 (from (e .rule-asks .asks .given .F) i)) ds
   pub wrote : shown' ≡ sets shown at ds
   pub next : at' ≡ at + length ds
@@ -86,18 +94,28 @@ abbrev pub Spreads : (rules forms body masks : List ℕ) (i r : ℕ) (shown : Li
 Spreads rules forms body masks i r shown at shown' at' =
     (e : SpreadPre rules forms body masks i r shown at) → SpreadPost rules forms body masks i r shown at e shown' at'
 
--- There is a mask for each node, and the list is as long as it has to be.
+-- There is a row for each node, and the list is as long as it has to be.
 pub record ShowPre (rules forms body masks shown : List ℕ) : Type 0 where
   pub given : Given rules forms body
   pub one : count (given .F) ≡ 1
-  pub long : length masks ≡ size (given .F)
+  pub small : size (given .F) ≤ mostNodes
+  pub long : length masks ≡ markWidth * size (given .F)
   pub room : mostNonTerminals * size (given .F) ≤ length shown
 
--- Whether the start derives the body, and the derivation that was written.
-pub record ShowPost (rules forms body masks shown : List ℕ) (p : ShowPre rules forms body masks shown) (shown' : List ℕ) (r : Bool) : Type 0 where
-  pub yes! : r ≡ true → (ds : List ℕ) × Simple (p .given .G) [] start (p .given .F) ds × (shown' ≡ sets shown 0 ds) × (length ds ≤ mostNonTerminals * size (p .given .F))
-  pub no! : r ≡ false → ((ds : List ℕ) → Derives (p .given .G) start (p .given .F) ds → ⊥) × (shown' ≡ shown)
+-- The rules ds, by which the start derives the body, were written, and r is their rank.
+pub record Written (G : Grammar) (F : Terms) (shown shown' : List ℕ) (r : ℕ) : Type 0 where
+  pub ds : List ℕ
+  pub derivation : Simple G [] start F ds
+  pub least : Least G start F ds
+  pub wrote : shown' ≡ sets shown 0 ds
+  pub few : length ds ≤ mostNonTerminals * size F
+  pub rank : r ≡ rankOf G ds
+
+-- The rank is that of the least derivation, which was written; or it is 0, and there is none.
+pub record ShowPost (rules forms body masks shown : List ℕ) (p : ShowPre rules forms body masks shown) (shown' : List ℕ) (r : ℕ) : Type 0 where
+  pub yes! : (r ≡ 0 → ⊥) → Written (p .given .G) (p .given .F) shown shown' r
+  pub no! : r ≡ 0 → ((ds : List ℕ) → Derives (p .given .G) start (p .given .F) ds → ⊥) × (shown' ≡ shown)
 
 -- The same, for whatever the tables hold.
-abbrev pub Shows : (rules forms body masks shown shown' : List ℕ) → Bool → Type 0
+abbrev pub Shows : (rules forms body masks shown shown' : List ℕ) → ℕ → Type 0
 Shows rules forms body masks shown shown' r = (p : ShowPre rules forms body masks shown) → ShowPost rules forms body masks shown p shown' r

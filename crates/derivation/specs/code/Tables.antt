@@ -36,12 +36,12 @@ formTable F = rows itemRow (nodesOf F)
 -- The right sides of all rules, one after the other.
 unfoldable pub rightSides : List Rule → Forest Item
 rightSides [] = none
-rightSides (rule A form ∷ more) = join form (rightSides more)
+rightSides (rule A weight form ∷ more) = join form (rightSides more)
 
--- Two numbers for each rule: the node where its right side starts, and its non-terminal.
+-- Three numbers for each rule: the node where its right side starts, its non-terminal, and its weight.
 unfoldable pub ruleTable : ℕ → List Rule → List ℕ
 ruleTable start [] = []
-ruleTable start (rule A form ∷ more) = start ∷ A ∷ ruleTable (start + size form) more
+ruleTable start (rule A weight form ∷ more) = start ∷ A ∷ weight ∷ ruleTable (start + size form) more
 
 -- The three slices hold the rules of G, their right sides, and the body F, whose labels are told by their numbers, whose literals are values of their sorts and
 -- whose names are arguments of G's function.

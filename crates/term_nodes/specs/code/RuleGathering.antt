@@ -11,17 +11,17 @@ use Rattle.lexemes.specs.Lists.{Items}
 use Rattle.lexemes.specs.code.Standing.{Source, Stands}
 use Rattle.shapes.specs.Shapes.{all, groupShape, ruleShape}
 use Rattle.term_nodes.specs.code.Table.{uncountedTable, rowWidth}
-use Rattle.term_nodes.specs.Rules.{Ruled, nodesPast, rulePast, rulesIn, rulesOf, sides}
+use Rattle.term_nodes.specs.Rules.{Ruled, nodesPast, rulePast, rulesIn, rulesOf, sides, weightIn}
 use Rattle.term_nodes.specs.declared.Gathered.{Gathered}
 use Rattle.derivation.specs.code.Rules.{ruleWidth}
 use Rattle.forest.specs.Limits.{mostNodes, mostRules}
 
--- Two numbers for each rule: the node where its right side starts, and its non-terminal.
+-- Three numbers for each rule: the node where its right side starts, its non-terminal, and its weight.
 unfoldable pub startTable : (start : ℕ) → List Ruled → List ℕ
 startTable start [] = []
-startTable start (r ∷ more) = start ∷ r .head ∷ startTable (start + size (r .side)) more
+startTable start (r ∷ more) = start ∷ r .head ∷ weightIn r ∷ startTable (start + size (r .side)) more
 
--- The rules `done` are gathered: their nodes stand in the first rows of one table, where each starts and its non-terminal in another, which has room for
+-- The rules `done` are gathered: their nodes stand in the first rows of one table, where each starts, its non-terminal and its weight in another, which has room for
 -- `most`; there is a node for each rule or more; the word past a limit is found; and the tables are as long as those that were lent.
 pub record Holds (nowhere most nodes : ℕ) (rawLent rulesLent raw rules : List ℕ) (done : List Ruled) (g : Gathered) : Type 0 where
   pub rest : List ℕ

@@ -173,7 +173,7 @@ pub fn words(text: &str) -> Vec<String> {
 }
 
 /// A list of these words.
-fn list(inner: Vec<String>) -> Vec<String> {
+pub fn list(inner: Vec<String>) -> Vec<String> {
     let mut list = words("(");
     list.extend(inner);
     list.extend(words(")"));

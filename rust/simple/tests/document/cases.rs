@@ -12,7 +12,7 @@ pub struct Case {
     pub points: Vec<u64>,
     pub budget: u64,
     pub area_length: usize,
-    /// The numbers that are stored of its answer: the first five, or all eight.
+    /// The numbers that are stored of its answer: the first five, the first eight, or all sixteen.
     pub answer: Vec<u64>,
 }
 
@@ -26,8 +26,8 @@ pub fn bytes(digits: &str) -> Vec<u8> {
 }
 
 /// The numbers of an answer.
-fn numbers(answer: &Answer) -> [u64; 8] {
-    [
+fn numbers(answer: &Answer) -> Vec<u64> {
+    let first = [
         answer.number.into(),
         answer.text.into(),
         answer.place,
@@ -36,7 +36,8 @@ fn numbers(answer: &Answer) -> [u64; 8] {
         answer.end,
         answer.line,
         answer.column,
-    ]
+    ];
+    [first, answer.weights].concat()
 }
 
 impl Case {
@@ -48,7 +49,7 @@ impl Case {
         assert_located(&answer, script, response);
         assert_read(&answer, script, response);
         let stored = self.answer.len();
-        assert!(stored == 5 || stored == 8, "{}: {stored}", self.name);
+        assert!([5, 8, 16].contains(&stored), "{}: {stored}", self.name);
         if numbers(&answer)[..stored] != self.answer {
             return Err(format!("{}: {answer:?}, not {:?}", self.name, self.answer));
         }

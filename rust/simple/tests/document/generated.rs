@@ -3,7 +3,7 @@
 use crate::places::assert_located;
 use crate::texts::assert_read;
 use simple::eval::whole_points;
-use simple::generate::{crowded, mutated, noise, sized, valid, Case};
+use simple::generate::{crowded, mutated, noise, sized, tangled, valid, Case};
 use simple::operators::{operator, OPERATORS};
 use simple::script::Script;
 use simple::{check, replay, script, words, Answer, AREA_LENGTH, FIRST_ASSUMPTION};
@@ -28,7 +28,7 @@ fn number(case: &Case) -> u8 {
 
 #[test]
 fn a_seed_gives_one_case() {
-    for make in [valid, mutated, crowded, sized, noise] {
+    for make in [valid, tangled, mutated, crowded, sized, noise] {
         for seed in 0..30 {
             assert_eq!(make(seed), make(seed));
         }
@@ -255,7 +255,7 @@ fn faults_are_at_places_of_every_kind() {
 
 #[test]
 fn texts_end_with_and_without_the_end_of_a_line() {
-    for make in [valid, mutated, crowded, sized, noise] {
+    for make in [valid, tangled, mutated, crowded, sized, noise] {
         let cases: Vec<Case> = (0..100).map(make).collect();
         let texts: [fn(&Case) -> &Vec<u8>; 2] = [|case| &case.script, |case| &case.response];
         for text in texts {

@@ -1,5 +1,5 @@
 //! Document 01 run: the readings, the vectors, the bench, constants, signed operators, assumptions, ends, lines and columns, names that are taken, non-terminals that
-//! derive no term, the texts' own answers, every limit and every row of the table of answers.
+//! derive no term, the least of several derivations, the texts' own answers, every limit and every row of the table of answers.
 
 mod answers;
 mod assumptions;
@@ -9,6 +9,7 @@ mod constants;
 mod dead;
 mod generated;
 mod judge;
+mod least;
 mod limits;
 mod names;
 mod places;

@@ -8,10 +8,10 @@ check-requires : tie.Need-check-requires
 check-requires c κs = search needs
 
 cast-text : tie.Need-cast-text
-cast-text c = omega (arith, numbers-small (c .before .before .before .check .ensures))
+cast-text c = omega (arith, numbers-small (c .before .before .before .check .ensures .checked))
 
 cast-result : tie.Need-cast-result
-cast-result c = omega (arith, numbers-small (c .before .before .before .before .check .ensures))
+cast-result c = omega (arith, numbers-small (c .before .before .before .before .check .ensures .checked))
 
 same-length : tie.Need-same-length
 same-length c = search needs

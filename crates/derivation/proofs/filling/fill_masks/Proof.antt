@@ -1,7 +1,9 @@
 use native.Mathlib.Omega.{arith}
 use borrow.Author.Needs.{needs}
-use mathlib.Core.Path.{refl}
-use Rattle.derivation.proofs.Sweep.{Inv, inv-start, inv-end, asks-here, inv-step}
+use mathlib.Core.Path.{sym}
+use lib.ListN.{length-set}
+use Rattle.derivation.proofs.Members.{blank-row}
+use Rattle.derivation.proofs.Sweep.{Inv, inv-start, inv-end, asks-here, inv-step, row-fits}
 use Rattle.derivation.proofs.filling.fill_masks.Statement.{statement}
 use Rattle.derivation.proofs.filling.fill_masks.Tie as tie
 
@@ -18,19 +20,25 @@ sub-node : tie.Need-sub-node Inv-loop μ-loop
 sub-node c = omega arith
 
 derivers-requires : tie.Need-derivers-requires Inv-loop μ-loop
-derivers-requires c κs = (search asks-here, refl)
+derivers-requires c κs = (search asks-here, blank-row)
 
-mul-masks : tie.Need-mul-masks Inv-loop μ-loop
-mul-masks c = omega arith
+array-write-row : tie.Need-array-write-row Inv-loop μ-loop
+array-write-row c = omega (arith, c .derivers .ensures .seventeen)
 
-slice-write-masks : tie.Need-slice-write-masks Inv-loop μ-loop
-slice-write-masks c = omega arith
+slice-aggregate-put-row : tie.Need-slice-aggregate-put-row Inv-loop μ-loop
+slice-aggregate-put-row c = simp length-set (sym (c .before .derivers .ensures .seventeen))
+
+mul-put-row : tie.Need-mul-put-row Inv-loop μ-loop
+mul-put-row c = omega arith
+
+put-row-requires : tie.Need-put-row-requires Inv-loop μ-loop
+put-row-requires c κs = row-fits (c .before .before .before .before .before .before .before .loop .inv) (c .before .before .before .before .before .before .loop-test .taken) (c .before .before .derivers .ensures)
 
 loop-less : tie.Need-loop-less Inv-loop μ-loop
 loop-less c = omega arith
 
 loop-again : tie.Need-loop-again Inv-loop μ-loop
-loop-again c = search inv-step
+loop-again c = inv-step (c .before .before .before .before .before .before .before .before .before .before .loop .inv) (c .before .before .before .before .before .before .before .before .before .loop-test .taken) (c .before .before .before .before .before .derivers .ensures) (c .before .before .put-row .ensures)
 
 same-length : tie.Need-same-length Inv-loop μ-loop
 same-length c = search needs
@@ -47,8 +55,10 @@ fill-masks-spec =
     loop-holds
     sub-node
     derivers-requires
-    mul-masks
-    slice-write-masks
+    array-write-row
+    slice-aggregate-put-row
+    mul-put-row
+    put-row-requires
     loop-less
     loop-again
     same-length

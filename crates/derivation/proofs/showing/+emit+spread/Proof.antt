@@ -1,14 +1,16 @@
 use Prim.Native.Nat.{ℕ, _<_, _+_, _-_, _*_}
 use native.Mathlib.Omega.{arith}
 use borrow.Author.Needs.{needs}
-use mathlib.Core.Path.{refl, sym, _∙_, subst}
+use mathlib.Core.Path.{sym, _∙_, subst}
 use lib.ListN.{length}
 use Rattle.derivation.proofs.RuleWalk.{end-small}
+use Rattle.derivation.proofs.Members.{blank-row}
 use Rattle.derivation.proofs.Whole.{follow-pre, spread-pre, emit-post}
-use Rattle.derivation.proofs.Track.{Inv, spread-start, spread-end, spread-place, spread-here, spread-over, spread-node, spread-after, spread-asks}
-use Rattle.derivation.proofs.Track.{spread-hole}
+use Rattle.derivation.proofs.Track.{Inv, spread-start, spread-end, spread-place, spread-here, spread-over, spread-node, spread-after, spread-asks, spread-hole}
 use borrow.Fn.Kinds.{In}
 use borrow.Fn.PlainCycle.{Measures, is, falls, and}
+use Rattle.derivation.proofs.showing.+emit+spread.{statement}
+use Rattle.derivation.proofs.showing.+emit+spread.Tie.{close}
 use Rattle.derivation.proofs.showing.emit.Reads as emit
 use Rattle.derivation.proofs.showing.emit.Kinds as emit-kinds
 use Rattle.derivation.proofs.showing.+emit+spread.Lts-emit as emit-lts
@@ -21,8 +23,6 @@ use Rattle.terms.proofs.value_at.Reads as value-at-reads
 use Rattle.derivation.proofs.filling.derivers.Reads as derivers-reads
 use Rattle.derivation.proofs.showing.follow.Reads as follow-reads
 use Rattle.derivation.proofs.rules.start_at.Reads as start-at-reads
-use Rattle.derivation.proofs.showing.+emit+spread.{statement}
-use Rattle.derivation.proofs.showing.+emit+spread.Tie.{close}
 
 abbrev μ-emit : Measures 5 emit-kinds.ps ℕ
 μ-emit κs a = 2 * (length (a .1 .1 .0 .now) - a .1 .1 .1 .1 .0) + 1
@@ -62,18 +62,18 @@ spread-calls t = (
 )
 
 emit-derivers-requires : (t : ℕ) → emit-lts.Need-derivers-requires (emit-calls t) (emit-at t) emit.Post
-emit-derivers-requires t c κs = (c .before .before .before .before .before .before .pre .1 .asks, refl)
+emit-derivers-requires t c κs = (c .before .before .before .before .before .before .before .pre .1 .asks, blank-row)
 
 emit-slice-aggregate-follow : (t : ℕ) → emit-lts.Need-slice-aggregate-follow (emit-calls t) (emit-at t) emit.Post
 emit-slice-aggregate-follow t c = sym (c .before .derivers .ensures .sixteen)
 
 emit-follow-requires : (t : ℕ) → emit-lts.Need-follow-requires (emit-calls t) (emit-at t) emit.Post
 emit-follow-requires t c κs =
-    follow-pre (c .before .before .before .before .before .before .before .before .before .pre .1) (c .before .before .derivers .ensures)
+    follow-pre (c .before .before .before .before .before .before .before .before .before .before .pre .1) (c .before .before .derivers .ensures)
 
 emit-spread-requires : (t : ℕ) → emit-lts.Need-spread-requires (emit-calls t) (emit-at t) emit.Post
 emit-spread-requires t c κs =
-    let entry = c .before .before .before .before .before .before .before .before .before .before .before .before .before in
+    let entry = c .before .before .before .before .before .before .before .before .before .before .before .before .before .before in
     let n = c .before .before .before .before .before .before .derivers .ensures in
     let followed = c .before .before .before .follow .ensures (follow-pre (entry .pre .1) n) in
     let less = subst (λ (x : ℕ). 2 * (length (entry .args .body .now) - entry .args .node) < x) (entry .pre .0) (omega arith) in

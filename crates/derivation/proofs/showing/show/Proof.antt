@@ -17,16 +17,14 @@ same-length c = search needs
 
 returns : tie.Need-returns
 returns c =
-    show-no (c .before .before .before .before .before .before .fill-masks .kept .1 .1 .1 .0)
-    (c .before .before .before .before .before .before .fill-masks .ensures) (c .before .before .mask-at .ensures) (c .before .has .ensures)
-    (c .if1 .taken)
+    show-no (c .before .before .before .before .before .before .fill-masks .kept .1 .1 .1 .0) (c .before .before .before .before .before .before .fill-masks .ensures) (c .before .before .mask-at .ensures) (c .before .has .ensures) (c .if1 .taken)
 
 emit-requires : tie.Need-emit-requires
 emit-requires c κs =
-    emit-pre (c .before .before .before .before .before .before .before .before .fill-masks .kept .1 .1 .1 .0)
-    (c .before .before .before .before .before .before .before .before .fill-masks .ensures) (c .before .before .before .before .mask-at .ensures)
-    (c .before .before .before .has .ensures) (c .before .before .if1 .left)
-    (c .before .before .before .before .before .before .before .before .before .before .before .before .before .before .before .pre)
+    emit-pre (c .before .before .before .before .before .before .before .before .fill-masks .kept .1 .1 .1 .0) (c .before .before .before .before .before .before .before .before .fill-masks .ensures) (c .before .before .before .before .mask-at .ensures) (c .before .before .before .has .ensures) (c .before .before .if1 .left) (c .before .before .before .before .before .before .before .before .before .before .before .before .before .before .before .pre)
+
+rank-at-requires : tie.Need-rank-at-requires
+rank-at-requires c κs = search needs
 
 same-length-2 : tie.Need-same-length-2
 same-length-2 c = search needs
@@ -36,10 +34,8 @@ same-length-3 c = search needs
 
 returns-2 : tie.Need-returns-2
 returns-2 c =
-    show-yes (c .before .before .before .before .before .before .before .before .before .before .before .fill-masks .kept .1 .1 .1 .0)
-    (c .before .before .before .before .before .before .before .before .before .before .before .fill-masks .ensures)
-    (c .before .before .before .before .before .before .before .mask-at .ensures) (c .before .before .before .before .before .before .has .ensures)
-    (c .before .before .before .before .before .if1 .left) (c .before .before .emit .ensures)
+    show-yes (c .before .before .before .before .before .before .before .before .before .before .before .before .before .fill-masks .kept .1 .1 .1 .0) (c .before .before .before .before .before .before .before .before .before .before .before .before .before .fill-masks .ensures) (c .before .before .before .before .before .before .before .before .before .mask-at .ensures) (c .before .before .before .before .before .before .before .before .has .ensures) (c .before .before .before .before .before .before .before .if1 .left) (c .before .before .before .before .emit .ensures)
+    (c .rank-at .ensures)
 
 pub show-spec : {M : Type 1} → statement M
 show-spec =
@@ -51,6 +47,7 @@ show-spec =
     same-length
     returns
     emit-requires
+    rank-at-requires
     same-length-2
     same-length-3
     returns-2)

@@ -8,29 +8,37 @@ use Rattle.verdicts.proofs.derive.derive_all.Statement.{statement}
 use Rattle.verdicts.proofs.derive.derive_all.Tie as tie
 
 abbrev Inv-loop : tie.InvT-loop
-Inv-loop places nodes forms progress shown₀ function₀ shown function = (q : Derivable places nodes forms progress shown₀) → Going q shown function
+Inv-loop places nodes forms progress shown₀ totals₀ function₀ shown totals function =
+    (q : Derivable places nodes forms progress shown₀ totals₀) → Going q shown totals function
 
 abbrev μ-loop : tie.MeasureT-loop
-μ-loop places nodes forms progress shown₀ function₀ shown function = progress .functions - function
+μ-loop places nodes forms progress shown₀ totals₀ function₀ shown totals function = progress .functions - function
 
 loop-holds : tie.Need-loop-holds Inv-loop μ-loop
 loop-holds c q = going-start q
 
 derive-one-requires : tie.Need-derive-one-requires Inv-loop μ-loop
 derive-one-requires c κs =
-    let q = c .before .before .before .before .before .before .before .before .pre in
+    let q = c .before .before .before .before .before .before .before .before .before .pre in
     next-derivable q (c .before .if1 .taken) (c .before .before .before .loop .inv q)
 
 same-length : tie.Need-same-length Inv-loop μ-loop
 same-length c =
-    let q = c .before .before .before .before .before .before .before .before .before .before .before .before .pre in
-    let g = c .before .before .before .before .before .before .before .loop .inv q in
+    let q = c .before .before .before .before .before .before .before .before .before .before .before .before .before .before .pre in
+    let g = c .before .before .before .before .before .before .before .before .loop .inv q in
+    search needs
+
+same-length-2 : tie.Need-same-length-2 Inv-loop μ-loop
+same-length-2 c =
+    let q = c .before .before .before .before .before .before .before .before .before .before .before .before .before .before .pre in
+    let g = c .before .before .before .before .before .before .before .before .loop .inv q in
     search needs
 
 returns : tie.Need-returns Inv-loop μ-loop
-returns c q =
-    going-fails q (c .before .before .before .before .before .if1 .taken) (c .before .before .before .before .before .before .before .loop .inv q)
-    (c .before .before .before .derive-one .ensures) (not-true _ (c .if2 .taken))
+returns c q = going-fails q (c .before .before .before .before .before .before .if1 .taken) (c .before .before .before .before .before .before .before .before .loop .inv q) (c .before .before .before .before .derive-one .ensures) (not-true _ (c .if2 .taken))
+
+put-entry-requires : tie.Need-put-entry-requires Inv-loop μ-loop
+put-entry-requires c κs = search needs
 
 add-function : tie.Need-add-function Inv-loop μ-loop
 add-function c = omega arith
@@ -40,12 +48,17 @@ loop-less c = omega arith
 
 loop-again : tie.Need-loop-again Inv-loop μ-loop
 loop-again c q =
-    going-turn q (c .before .before .before .before .before .if1 .taken) (c .before .before .before .before .before .before .before .loop .inv q)
-    (c .before .before .before .derive-one .ensures) (not-false _ (c .if2 .left))
+    going-turn q (c .before .before .before .before .before .before .before .before .before .before .if1 .taken) (c .before .before .before .before .before .before .before .before .before .before .before .before .loop .inv q) (c .before .before .before .before .before .before .before .before .derive-one .ensures) (not-false _ (c .before .before .before .before .if2 .left)) (c .before .before .put-entry .ensures)
 
-same-length-2 : tie.Need-same-length-2 Inv-loop μ-loop
-same-length-2 c =
-    let q = c .before .before .before .before .before .before .before .pre in
+same-length-3 : tie.Need-same-length-3 Inv-loop μ-loop
+same-length-3 c =
+    let q = c .before .before .before .before .before .before .before .before .pre in
+    let g = c .before .before .loop .inv q in
+    search needs
+
+same-length-4 : tie.Need-same-length-4 Inv-loop μ-loop
+same-length-4 c =
+    let q = c .before .before .before .before .before .before .before .before .pre in
     let g = c .before .before .loop .inv q in
     search needs
 
@@ -61,9 +74,12 @@ derive-all-spec =
     loop-holds
     derive-one-requires
     same-length
+    same-length-2
     returns
+    put-entry-requires
     add-function
     loop-less
     loop-again
-    same-length-2
+    same-length-3
+    same-length-4
     returns-2)
