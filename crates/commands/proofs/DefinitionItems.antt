@@ -11,7 +11,7 @@ use Rattle.forest.specs.Forest.{count}
 use Rattle.forest.specs.Lists.{sameBytes}
 use Rattle.forest.proofs.Bools.{and-left, and-right, apart}
 use Rattle.lexemes.specs.Reserved.{isWord}
-use Rattle.words.specs.Trees.{Lexeme, list, literal, numeral, symbol, wordOf}
+use Rattle.words.specs.Trees.{Lexeme, keyword, list, literal, numeral, symbol, wordOf}
 use Rattle.lexemes.specs.Lists.{Items, after, inside, isSymbol, item, nameOf}
 use Rattle.lexemes.specs.code.Standing.{Stands}
 use Rattle.lexemes.specs.code.Table.{nextAt}
@@ -59,6 +59,7 @@ named-symbol : (test : List ℕ → Bool) → test [] ≡ false → (l : Lexeme)
 named-symbol test unnamed (symbol at name) e = refl
 named-symbol test unnamed (list at close) e = apart (sym unnamed ∙ e)
 named-symbol test unnamed (numeral at v) e = apart (sym unnamed ∙ e)
+named-symbol test unnamed (keyword at name) e = apart (sym unnamed ∙ e)
 named-symbol test unnamed (literal at width v written) e = apart (sym unnamed ∙ e)
 
 -- The tests of a `define-fun`.

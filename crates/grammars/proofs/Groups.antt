@@ -9,7 +9,7 @@ use borrow.Author.Tests.{eq-eqb, eqb-false, eqb-true, ne-eqb}
 use Rattle.forest.specs.Forest.{count}
 use Rattle.forest.specs.Lists.{sameBytes}
 use Rattle.forest.proofs.Bools.{and-left, and-right}
-use Rattle.words.specs.Trees.{Lexeme, list, literal, numeral, symbol}
+use Rattle.words.specs.Trees.{Lexeme, keyword, list, literal, numeral, symbol}
 use Rattle.lexemes.specs.Lists.{Items, closeOf, inside, isList, isSymbol, item, nameOf}
 use Rattle.lexemes.specs.code.Table.{nextAt}
 use Rattle.lexemes.specs.code.Standing.{ListAt, Source, WordIs, spelt}
@@ -55,6 +55,7 @@ symbol-spelt : {s : Source} {i : ℕ} (l : Lexeme) → isSymbol l ≡ true → W
 symbol-spelt (symbol at name) t w = w .written refl
 symbol-spelt (list at close) t w = let z : _≡_ {A = Bool} false true = t in cc
 symbol-spelt (numeral at v) t w = let z : _≡_ {A = Bool} false true = t in cc
+symbol-spelt (keyword at name) t w = let z : _≡_ {A = Bool} false true = t in cc
 symbol-spelt (literal at width v written) t w = let z : _≡_ {A = Bool} false true = t in cc
 
 -- the name of a group is a symbol

@@ -7,7 +7,7 @@ use mathlib.Core.Bool.{true}
 use mathlib.Core.List.{List, [], _∷_, _++_, append-assoc}
 use Rattle.forest.specs.Forest.{none, tree}
 use Rattle.forest.proofs.Bools.{and-left, and-right, apart}
-use Rattle.words.specs.Trees.{Lexeme, list, literal, numeral, symbol, wordOf}
+use Rattle.words.specs.Trees.{Lexeme, keyword, list, literal, numeral, symbol, wordOf}
 use Rattle.lexemes.specs.Lists.{Items, isList}
 use Rattle.lexemes.specs.code.Standing.{Between, ItemAt, Source, Stands}
 use Rattle.lexemes.specs.code.Table.{nextAt}
@@ -53,6 +53,7 @@ unfolding wordsIn
 pair-for-bracket (list at close) e h ops more us ts = other refl h
 pair-for-bracket (symbol at name) e h ops more us ts = apart e
 pair-for-bracket (numeral at v) e h ops more us ts = apart e
+pair-for-bracket (keyword at name) e h ops more us ts = apart e
 pair-for-bracket (literal at width v written) e h ops more us ts = apart e
 
 -- the bracket where an argument is declared

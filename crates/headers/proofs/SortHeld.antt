@@ -9,7 +9,7 @@ use borrow.Author.Tests.{eq-eqb, eqb-true, ne-eqb}
 use Rattle.forest.specs.Forest.{count, none, tree}
 use Rattle.forest.specs.Lists.{sameBytes, spelling}
 use Rattle.forest.proofs.Bools.{and-left, and-right, apart}
-use Rattle.words.specs.Trees.{Lexeme, list, literal, numeral, symbol, wordOf}
+use Rattle.words.specs.Trees.{Lexeme, keyword, list, literal, numeral, symbol, wordOf}
 use Rattle.lexemes.specs.Lists.{Items, after, allNumerals, inside, is, isList, isNumeral, item}
 use Rattle.lexemes.specs.code.Table.{codeAt, openCode, valueAt}
 use Rattle.lexemes.specs.code.Codes.{boolCode}
@@ -31,6 +31,7 @@ unfolding wordsIn
 other-than-bool (symbol at name) ops shape e h = other (same-turned name (spelling "Bool") ∙ e) h
 other-than-bool (list at close) ops shape e h = other refl h
 other-than-bool (numeral at v) ops shape e h = apart shape
+other-than-bool (keyword at name) ops shape e h = apart shape
 other-than-bool (literal at width v written) ops shape e h = apart shape
 
 -- a symbol where a list is declared
@@ -40,6 +41,7 @@ unfolding wordsIn
 symbol-for-list (symbol at name) ops shape e h ts = other refl h
 symbol-for-list (list at close) ops shape e h ts = apart (sym e)
 symbol-for-list (numeral at v) ops shape e h ts = apart shape
+symbol-for-list (keyword at name) ops shape e h ts = apart shape
 symbol-for-list (literal at width v written) ops shape e h ts = apart shape
 
 -- What `(_ BitVec n)` holds.
@@ -74,6 +76,7 @@ width (list at close) F e shape =
     }
 width (symbol at name) F e shape = apart e
 width (numeral at v) F e shape = apart e
+width (keyword at name) F e shape = apart e
 width (literal at w v written) F e shape = apart e
 
 -- `(_ BitVec n)`, by its n

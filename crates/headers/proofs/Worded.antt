@@ -9,7 +9,7 @@ use borrow.Author.Tests.{eq-eqb, ne-eqb}
 use Rattle.forest.specs.Forest.{count, none, tree}
 use Rattle.forest.specs.Lists.{sameBytes, spelling}
 use Rattle.forest.proofs.Bools.{apart}
-use Rattle.words.specs.Trees.{Lexeme, list, literal, numeral, symbol, wordOf}
+use Rattle.words.specs.Trees.{Lexeme, keyword, list, literal, numeral, symbol, wordOf}
 use Rattle.lexemes.specs.Reserved.{isWord}
 use Rattle.lexemes.specs.Lists.{Items, after, inside, is, isNumeral, isSymbol, item, nameOf, numeralOf}
 use Rattle.lexemes.specs.code.Standing.{Source, WordIs, spelt}
@@ -44,6 +44,7 @@ words-first (list at close) ops more =
     (sym (append-assoc (wordsIn ops) (record { at = close; token = closing } ∷ []) (wordsIn more)))
 words-first (symbol at name) ops more = refl
 words-first (numeral at v) ops more = refl
+words-first (keyword at name) ops more = refl
 words-first (literal at width v written) ops more = refl
 
 -- an item, and the items behind it where the item is the same
@@ -63,6 +64,7 @@ pub symbol-spelt : {s : Source} {j : ℕ} (l : Lexeme) → isSymbol l ≡ true �
 symbol-spelt (symbol at name) e w = w .written refl
 symbol-spelt (list at close) e w = apart e
 symbol-spelt (numeral at v) e w = apart e
+symbol-spelt (keyword at name) e w = apart e
 symbol-spelt (literal at width v written) e w = apart e
 
 -- a symbol that is the declared name
@@ -72,6 +74,7 @@ unfolding wordsIn
 name-same (symbol at bytes) name e t ops more h = same (same-turned bytes name ∙ t) h
 name-same (list at close) name e t ops more h = apart e
 name-same (numeral at v) name e t ops more h = apart e
+name-same (keyword at bytes) name e t ops more h = apart e
 name-same (literal at width v written) name e t ops more h = apart e
 
 -- a symbol that is another
@@ -81,6 +84,7 @@ unfolding wordsIn
 name-other (symbol at bytes) name e t h ops more ts = other (same-turned bytes name ∙ t) h
 name-other (list at close) name e t h ops more ts = apart e
 name-other (numeral at v) name e t h ops more ts = apart e
+name-other (keyword at bytes) name e t h ops more ts = apart e
 name-other (literal at width v written) name e t h ops more ts = apart e
 
 -- a numeral that is the declared number
@@ -89,6 +93,7 @@ unfolding wordsIn
 number-same (numeral at v) n e t ops = same (eq-eqb v n t) ended
 number-same (symbol at name) n e t ops = apart e
 number-same (list at close) n e t ops = apart e
+number-same (keyword at name) n e t ops = apart e
 number-same (literal at width v written) n e t ops = apart e
 
 -- a numeral that is another
@@ -98,6 +103,7 @@ unfolding wordsIn
 number-other (numeral at v) n e t h ops = other (ne-eqb v n t) h
 number-other (symbol at name) n e t h ops = apart e
 number-other (list at close) n e t h ops = apart e
+number-other (keyword at name) n e t h ops = apart e
 number-other (literal at width v written) n e t h ops = apart e
 
 -- a known word is a symbol
@@ -105,6 +111,7 @@ word-symbol : (word : String) → isWord word [] ≡ false → (l : Lexeme) → 
 word-symbol word nothing (symbol at name) e = refl
 word-symbol word nothing (list at close) e = apart (sym nothing ∙ e)
 word-symbol word nothing (numeral at v) e = apart (sym nothing ∙ e)
+word-symbol word nothing (keyword at name) e = apart (sym nothing ∙ e)
 word-symbol word nothing (literal at width v written) e = apart (sym nothing ∙ e)
 
 -- it is held to itself

@@ -5,7 +5,7 @@ use mathlib.Core.List.{List, [], _∷_, _++_}
 use lib.Dec.{eqb}
 use Rattle.forest.specs.Forest.{none, tree}
 use Rattle.forest.specs.Lists.{sameBytes, spelling}
-use Rattle.words.specs.Trees.{list, literal, numeral, symbol}
+use Rattle.words.specs.Trees.{keyword, list, literal, numeral, symbol}
 use Rattle.lexemes.specs.Lists.{Items, inside, item}
 use Rattle.names.specs.Scopes.{Function, Named}
 
@@ -27,6 +27,7 @@ wordsIn none = []
 wordsIn (tree (list at close) ops more) = record { at = at; token = opening } ∷ (wordsIn ops ++ record { at = close; token = closing } ∷ wordsIn more)
 wordsIn (tree (symbol at name) ops more) = record { at = at; token = named name } ∷ wordsIn more
 wordsIn (tree (numeral at v) ops more) = record { at = at; token = numbered v } ∷ wordsIn more
+wordsIn (tree (keyword at name) ops more) = record { at = at; token = named name } ∷ wordsIn more
 wordsIn (tree (literal at width v bytes) ops more) = record { at = at; token = named bytes } ∷ wordsIn more
 
 -- The words of a sort.

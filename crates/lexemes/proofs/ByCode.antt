@@ -1,5 +1,5 @@
 -- What an item is, by the code of the word at which it stands.
-use Prim.Native.Nat.{ℕ, zero, suc, _+_, _<_}
+use Prim.Native.Nat.{ℕ, zero, suc, _+_, _≤_, _<_}
 use Prim.Native.String.{String}
 use native.Mathlib.Omega.{arith}
 use mathlib.Core.Path.{_≡_, refl, sym, ap, ap₂, _∙_}
@@ -8,19 +8,20 @@ use mathlib.Core.List.{List, [], _∷_, map}
 use lib.Dec.{eqb, leb, ltb}
 use borrow.Author.Tests.{eq-eqb, eqb-false, eqb-true, le-leb, le-ltb, leb-false, leb-true, lt-leb, lt-ltb, ltb-true, ne-eqb}
 use Rattle.forest.specs.Forest.{none, tree}
-use Rattle.forest.specs.Lists.{among, sameBytes}
-use Rattle.forest.proofs.Bools.{and-left, and-right}
+use Rattle.forest.specs.Lists.{among, sameBytes, spelling}
+use Rattle.forest.proofs.Bools.{and-left, and-right, apart}
 use Rattle.forest.proofs.Lists.{amongAfter, one-by-one}
-use Rattle.words.specs.Trees.{Lexeme, list, literal, numeral, symbol}
+use Rattle.forest.proofs.Searching.{same-bytes}
+use Rattle.words.specs.Trees.{Lexeme, keyword, list, literal, numeral, symbol}
 use Rattle.word_kinds.specs.Decimals.{isDecimal, isLong}
 use Rattle.word_kinds.specs.Kinds.{allIn}
 use Rattle.operators.specs.Operators.{operators}
 use Rattle.lexemes.specs.Reserved.{isOneOf, isWord}
-use Rattle.lexemes.specs.code.Codes.{firstCode, knownCount, longDecimalCode, otherCode}
+use Rattle.lexemes.specs.code.Codes.{firstCode, knownCount, longDecimalCode, otherCode, otherKeywordCode, weightCode, weightsCode}
 use Rattle.lexemes.specs.code.Reserved.{knownWords, placeAmong, wordNumber}
 use Rattle.lexemes.proofs.Numbers.{by-number, isKnown, numberOf, place-low}
-use Rattle.lexemes.specs.Lists.{Items, after, is, isAmong, isConstantWord, isList, isNumeral, isSymbol, item, nameOf}
-use Rattle.lexemes.specs.code.Table.{closeCode, codeOf, literalCode, numeralCode, openCode, symbolCode}
+use Rattle.lexemes.specs.Lists.{Items, after, is, isAmong, isConstantWord, isKey, isKeyword, isList, isNumeral, isSymbol, item, nameOf}
+use Rattle.lexemes.specs.code.Table.{closeCode, codeOf, keywordCode, literalCode, numeralCode, openCode, symbolCode}
 
 -- the code of a known word; where this unfolds it computes
 unfoldable pub codeFor : String → ℕ
@@ -47,6 +48,26 @@ same-codes m n = go (eqb m n) refl
     go true e = sym (eq-eqb (firstCode + m) (firstCode + n) (omega (arith, eqb-true m n e)))
     go false e = let ne = eqb-false m n e in sym (ne-eqb (firstCode + m) (firstCode + n) (λ h. ne (omega arith)))
 
+-- the codes of keywords stand before those of symbols
+pub keyword-low : (name : List ℕ) → keywordCode name < firstCode
+unfolding keywordCode
+keyword-low name = go (isWord ":weights" name) (isWord ":weight" name)
+  where
+    go : (a b : Bool) → cond a weightsCode (cond b weightCode otherKeywordCode) < firstCode
+    go true b = omega arith
+    go false true = omega arith
+    go false false = omega arith
+
+-- and behind those of other words
+pub keyword-high : (name : List ℕ) → weightsCode ≤ keywordCode name
+unfolding keywordCode
+keyword-high name = go (isWord ":weights" name) (isWord ":weight" name)
+  where
+    go : (a b : Bool) → weightsCode ≤ cond a weightsCode (cond b weightCode otherKeywordCode)
+    go true b = omega arith
+    go false true = omega arith
+    go false false = omega arith
+
 -- what is no symbol is no known word
 no-word : (word : String) → isKnown word ≡ true → (c : ℕ) → c < firstCode → isWord word [] ≡ eqb c (codeFor word)
 no-word word k c h =
@@ -60,6 +81,7 @@ word-code word k (symbol at name) =
     by-number word k name ∙ same-codes (wordNumber name) (numberOf word) ∙ ap (eqb (firstCode + wordNumber name)) (sym (code-for word))
 word-code word k (list at close) = no-word word k openCode (omega arith)
 word-code word k (numeral at v) = no-word word k numeralCode (omega arith)
+word-code word k (keyword at name) = no-word word k (keywordCode name) (keyword-low name)
 word-code word k (literal at width v written) = no-word word k literalCode (omega arith)
 
 -- each item has a code
@@ -67,6 +89,7 @@ pub code-pos : (l : Lexeme) → 0 < codeOf l
 code-pos (symbol at name) = omega arith
 code-pos (list at close) = omega arith
 code-pos (numeral at v) = omega arith
+code-pos (keyword at name) = omega (arith, keyword-high name)
 code-pos (literal at width v written) = omega arith
 
 -- no item has the code of a closing bracket
@@ -74,25 +97,84 @@ pub not-close : (l : Lexeme) → eqb (codeOf l) closeCode ≡ false
 not-close (symbol at name) = ne-eqb (firstCode + wordNumber name) closeCode (λ e. omega arith)
 not-close (list at close) = refl
 not-close (numeral at v) = refl
+not-close (keyword at name) = ne-eqb (keywordCode name) closeCode (λ e. omega (arith, keyword-high name))
 not-close (literal at width v written) = refl
 
 pub symbol-code : (l : Lexeme) → isSymbol l ≡ leb firstCode (codeOf l)
 symbol-code (symbol at name) = sym (le-leb firstCode (firstCode + wordNumber name) (omega arith))
 symbol-code (list at close) = refl
 symbol-code (numeral at v) = refl
+symbol-code (keyword at name) = sym (lt-leb firstCode (keywordCode name) (keyword-low name))
 symbol-code (literal at width v written) = refl
 
 pub list-code : (l : Lexeme) → isList l ≡ eqb (codeOf l) openCode
 list-code (symbol at name) = sym (ne-eqb (firstCode + wordNumber name) openCode (λ e. omega arith))
 list-code (list at close) = refl
 list-code (numeral at v) = refl
+list-code (keyword at name) = sym (ne-eqb (keywordCode name) openCode (λ e. omega (arith, keyword-high name)))
 list-code (literal at width v written) = refl
 
 pub numeral-code : (l : Lexeme) → isNumeral l ≡ eqb (codeOf l) numeralCode
 numeral-code (symbol at name) = sym (ne-eqb (firstCode + wordNumber name) numeralCode (λ e. omega arith))
 numeral-code (list at close) = refl
 numeral-code (numeral at v) = refl
+numeral-code (keyword at name) = sym (ne-eqb (keywordCode name) numeralCode (λ e. omega (arith, keyword-high name)))
 numeral-code (literal at width v written) = refl
+
+-- an item is a keyword just when its code is that of one
+pub keyword-code : (l : Lexeme) → isKeyword l ≡ leb weightsCode (codeOf l) && ltb (codeOf l) firstCode
+keyword-code (keyword at name) =
+    sym (ap₂ _&&_ (le-leb weightsCode (keywordCode name) (keyword-high name)) (lt-ltb (keywordCode name) firstCode (keyword-low name)))
+keyword-code (symbol at name) =
+    let low : leb weightsCode (firstCode + wordNumber name) ≡ true = le-leb weightsCode (firstCode + wordNumber name) (omega arith) in
+    sym (ap₂ _&&_ low (le-ltb (firstCode + wordNumber name) firstCode (omega arith)))
+keyword-code (list at close) = refl
+keyword-code (numeral at v) = refl
+keyword-code (literal at width v written) = refl
+
+-- no symbol has the code of a keyword
+no-key : (name : List ℕ) (c : ℕ) → c < firstCode → false ≡ eqb (firstCode + wordNumber name) c
+no-key name c h = sym (ne-eqb (firstCode + wordNumber name) c (λ e. omega arith))
+
+-- an item is `:weights` just when it has its code
+pub weights-code : (l : Lexeme) → isKey ":weights" l ≡ eqb (codeOf l) weightsCode
+unfolding keywordCode sameBytes
+weights-code (keyword at name) = go (isWord ":weights" name) (isWord ":weight" name)
+  where
+    go : (a b : Bool) → a ≡ eqb (cond a weightsCode (cond b weightCode otherKeywordCode)) weightsCode
+    go true b = refl
+    go false true = refl
+    go false false = refl
+weights-code (symbol at name) = no-key name weightsCode (omega arith)
+weights-code (list at close) = refl
+weights-code (numeral at v) = refl
+weights-code (literal at width v written) = refl
+
+-- no keyword is both
+not-both : (name : List ℕ) → isWord ":weights" name ≡ true → isWord ":weight" name ≡ false
+unfolding sameBytes
+not-both name e = rw (← same-bytes (spelling ":weights") name e)
+
+-- no bytes are no keyword
+no-weight : isWord ":weight" [] ≡ false
+unfolding sameBytes
+no-weight = refl
+
+-- an item is `:weight` just when it has its code
+pub weight-code : (l : Lexeme) → isKey ":weight" l ≡ eqb (codeOf l) weightCode
+unfolding keywordCode sameBytes
+weight-code (keyword at name) = go (isWord ":weights" name) refl (isWord ":weight" name) refl
+  where
+    go : (a : Bool) → isWord ":weights" name ≡ a → (b : Bool) → isWord ":weight" name ≡ b
+        → b ≡ eqb (cond a weightsCode (cond b weightCode otherKeywordCode)) weightCode
+    go true e true f = apart (sym (not-both name e) ∙ f)
+    go true e false f = refl
+    go false e true f = refl
+    go false e false f = refl
+weight-code (symbol at name) = no-key name weightCode (omega arith)
+weight-code (list at close) = no-weight
+weight-code (numeral at v) = no-weight
+weight-code (literal at width v written) = no-weight
 
 -- the code of the word at which items stand that a bracket closes: that of the first of them, else of the bracket
 abbrev pub frontCode : Items → ℕ
@@ -111,6 +193,17 @@ by-front p q same past (suc n) (tree l ops more) = by-front p q same past n more
 pub front-word : (word : String) → isKnown word ≡ true → (n : ℕ) (F : Items) → is word (item n F) ≡ eqb (frontCode (after n F)) (codeFor word)
 front-word word k = by-front (is word) (λ (c : ℕ). eqb c (codeFor word)) (word-code word k) (no-word word k closeCode (omega arith))
 
+-- keywords among items, by the code of the word at which they stand
+pub front-keyword : (n : ℕ) (F : Items) → isKeyword (item n F) ≡ leb weightsCode (frontCode (after n F)) && ltb (frontCode (after n F)) firstCode
+front-keyword = by-front isKeyword (λ (c : ℕ). leb weightsCode c && ltb c firstCode) keyword-code refl
+
+pub front-weights : (n : ℕ) (F : Items) → isKey ":weights" (item n F) ≡ eqb (frontCode (after n F)) weightsCode
+unfolding sameBytes
+front-weights = by-front (isKey ":weights") (λ (c : ℕ). eqb c weightsCode) weights-code refl
+
+pub front-weight : (n : ℕ) (F : Items) → isKey ":weight" (item n F) ≡ eqb (frontCode (after n F)) weightCode
+front-weight = by-front (isKey ":weight") (λ (c : ℕ). eqb c weightCode) weight-code no-weight
+
 -- no bytes are no constant's word
 no-constant : isDecimal [] ≡ false
 unfolding isDecimal
@@ -128,6 +221,7 @@ constant-code (symbol at name) = go (isDecimal name) refl (isLong name)
     go false e long = sym (le-ltb otherCode (firstCode + placeAmong knownWords 0 name) (omega (arith, place-low name)))
 constant-code (list at close) = no-constant
 constant-code (numeral at v) = no-constant
+constant-code (keyword at name) = no-constant ∙ sym (le-ltb otherCode (keywordCode name) (omega (arith, keyword-low name)))
 constant-code (literal at width v written) = no-constant
 
 pub front-constant : (n : ℕ) (F : Items) → isConstantWord (item n F) ≡ ltb otherCode (frontCode (after n F))

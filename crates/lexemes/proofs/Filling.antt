@@ -3,25 +3,27 @@ use Prim.Native.Nat.{ℕ, suc, _+_, _-_, _*_, _≤_, _<_}
 use native.Mathlib.Nat.{add-zero}
 use native.Mathlib.Omega.{arith}
 use mathlib.Core.Path.{_≡_, refl, sym, ap, _∙_}
+use mathlib.Core.Bool.{Bool, true, false}
 use mathlib.Core.List.{List, [], _∷_, _++_}
 use lib.ListN.{drop, getD, length, set, take, length-append, length-map, List·getD-append}
 use lib.Seq.{getD-drop, length-sets, length-take-le, take-all}
-use borrow.Author.Tests.{le-ltb, lt-ltb}
+use borrow.Author.Tests.{eq-eqb, le-ltb, lt-ltb, ne-eqb}
+use Rattle.forest.specs.Lists.{sameBytes, spelling}
 use Rattle.forest.specs.code.Rows.{numberAt}
 use Rattle.forest.specs.Tables.{over, rows}
 use Rattle.forest.proofs.Lists.{drop-map, stands, take-more}
 use Rattle.forest.proofs.Rows.{length-rows, over-more, rows-append}
 use Rattle.lexemes.specs.code.Reserved.{wordNumber}
 use Rattle.word_kinds.specs.declared.Kind.{Kind}
-use Rattle.word_kinds.specs.declared.Kind.the-variants.{Open, Close, Numeral, Literal, Symbol, Faulty}
+use Rattle.word_kinds.specs.declared.Kind.the-variants.{Open, Close, Numeral, Literal, Symbol, Keyword, Faulty}
 use Rattle.words.specs.Table.{Entry, entries, kindNumber, row, rowWidth as wordWidth, valueOf, wordTable, wordValues}
 use Rattle.words.specs.code.Table.{endAt, kindAt, nextAt, startAt, widthAt}
 use Rattle.words.specs.Trees.{bytesOf}
 use Rattle.words.specs.Words.{Word, wordsOf}
 use Rattle.words.proofs.Chains.{entries-long}
-use Rattle.lexemes.specs.code.Codes.{firstCode}
+use Rattle.lexemes.specs.code.Codes.{firstCode, otherKeywordCode, weightCode, weightsCode}
 use Rattle.lexemes.specs.code.Numbering.{Numbering, RowPut, RowRoom, codeBy}
-use Rattle.lexemes.specs.code.Table.{kindCode, lexemeRow, lexemeTable, rowWidth}
+use Rattle.lexemes.specs.code.Table.{keywordCode, kindCode, lexemeRow, lexemeTable, rowWidth}
 use Rattle.lexemes.proofs.Said.{entryOf, entry-here, part-fits, word-says}
 
 -- ---- the code of a word
@@ -41,15 +43,35 @@ code-by Close bytes = refl
 code-by (Numeral v) bytes = refl
 code-by (Literal width v) bytes = refl
 code-by Symbol bytes = refl
+code-by Keyword bytes = refl
 code-by (Faulty fault) bytes = refl
 
--- a number below those of symbols is the code
-pub code-low : (bytes : List ℕ) {kind : ℕ} → kind < firstCode → kind ≡ codeBy kind bytes
-code-low bytes {kind} h = rw (lt-ltb kind firstCode h)
+-- a number below those of keywords is the code
+pub code-low : (bytes : List ℕ) {kind : ℕ} → kind < weightsCode → kind ≡ codeBy kind bytes
+code-low bytes {kind} h = rw (lt-ltb kind weightsCode h)
 
--- the code of a symbol is by its bytes
-pub code-symbol : (bytes : List ℕ) {kind number : ℕ} → firstCode ≤ kind → number ≡ wordNumber bytes → firstCode + number ≡ codeBy kind bytes
-code-symbol bytes {kind} h e = rw (le-ltb kind firstCode h, e)
+-- the codes of a keyword and of a symbol are by their bytes
+module _ (bytes : List ℕ) {kind : ℕ} (h : weightsCode ≤ kind) where
+  pub code-keyword : {code : ℕ} → kind ≡ kindNumber Keyword → code ≡ keywordCode bytes → code ≡ codeBy kind bytes
+  code-keyword k e = rw (le-ltb kind weightsCode h, eq-eqb kind (kindNumber Keyword) k, e)
+
+  pub code-symbol : {number : ℕ} → (kind ≡ kindNumber Keyword → ⊥) → number ≡ wordNumber bytes → firstCode + number ≡ codeBy kind bytes
+  code-symbol other e = rw (le-ltb kind weightsCode h, ne-eqb kind (kindNumber Keyword) other, e)
+
+-- the code of a keyword, byte by byte
+module _ (bytes : List ℕ) {feature : Bool} (ef : feature ≡ sameBytes (spelling ":weights") bytes) where
+  pub code-feature : feature ≡ true → weightsCode ≡ keywordCode bytes
+  unfolding keywordCode
+  code-feature t = rw (sym ef ∙ t)
+
+  module _ (tf : feature ≡ false) {weight : Bool} (ew : weight ≡ sameBytes (spelling ":weight") bytes) where
+    pub code-weight : weight ≡ true → weightCode ≡ keywordCode bytes
+    unfolding keywordCode
+    code-weight t = rw (sym ef ∙ tf, sym ew ∙ t)
+
+    pub code-other : weight ≡ false → otherKeywordCode ≡ keywordCode bytes
+    unfolding keywordCode
+    code-other t = rw (sym ef ∙ tf, sym ew ∙ t)
 
 module _ {text words : List ℕ} {i : ℕ} (given : WordsOf text words i) where
   -- the word with the index past it

@@ -72,6 +72,14 @@ pub record Inside {lexemes : List ℕ} {first end : ℕ} (b : Between lexemes fi
   pub pending : Pending (b .source) at items outer end
   pub known : holds items outer
 
+-- What is known where a word that is no bracket stands there.
+pub record AtWord {lexemes : List ℕ} {first end : ℕ} (b : Between lexemes first end) (at : ℕ) (holds : (items : Items) → (outer : List Items) → Type 0)
+    : Type 0 where
+  pub word-here : ItemAt lexemes at
+  pub no-list : isList (word-here .label) ≡ false
+  pub outer : List Items
+  pub known : holds (tree (word-here .label) none (word-here .more)) outer
+
 -- What is known where a list stands at that word.
 pub record AtList {lexemes : List ℕ} {first end : ℕ} (b : Between lexemes first end) (at : ℕ) (holds : (items : Items) → (outer : List Items) → Type 0)
     : Type 0 where
@@ -126,6 +134,23 @@ module _ {lexemes : List ℕ} {first end : ℕ} {G : Type 0} where
           go g (at-list stands p q) k = absurd (other (ec ∙ here (items-of g .same) stands .code))
           go g (at-close {next = next} {outer = outer} closes p) k =
               record { items = next; outer = outer; pending = p; known = by-close g next outer k }
+
+      -- a word that is no bracket
+      pub at-a-word : (code ≡ openCode → ⊥) → (code ≡ closeCode → ⊥) → (g : G) → AtWord (items-of g) at (holds g)
+      at-a-word no-open no-close g = go (turn-of g) (d .inside g .known)
+        where
+          b : Between lexemes first end
+          b = items-of g
+
+          go : {items : Items} {outer : List Items} → Turn (b .source) lexemes at items outer end → holds g items outer → AtWord b at (holds g)
+          go (at-word {l = l} {last = last} {more = more} {outer = outer} stands no-list p) k = record {
+            word-here = record { source = b .source; same = b .same; label = l; operands = none; more = more; end = last; stands = stands };
+            no-list = no-list;
+            outer = outer;
+            known = k;
+          }
+          go (at-list stands p q) k = absurd (no-open (ec ∙ here (b .same) stands .code))
+          go (at-close closes p) k = absurd (no-close (ec ∙ closes))
 
       module _ (opens : code ≡ openCode) where
         -- a list

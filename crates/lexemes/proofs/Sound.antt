@@ -9,12 +9,12 @@ use borrow.Author.Tests.{eqb-false, not-true}
 use lib.Dec.{eqb}
 use lib.ListN.{drop}
 use Rattle.word_kinds.specs.Bytes.{digit, uncarried}
-use Rattle.word_kinds.specs.Kinds.{formed, hashed, kindOf, literal as literalOf, numeral as numeralOf, symbol as symbolOf}
+use Rattle.word_kinds.specs.Kinds.{formed, hashed, keywordForm, kindOf, literal as literalOf, marked, numeral as numeralOf, symbol as symbolOf}
 use Rattle.word_kinds.specs.declared.Class.{Class}
 use Rattle.word_kinds.specs.declared.Class.the-variants.{BinaryDigits, HexDigits}
 use Rattle.word_kinds.specs.declared.Fault.{Fault}
 use Rattle.word_kinds.specs.declared.Kind.{Kind}
-use Rattle.word_kinds.specs.declared.Kind.the-variants.{Open, Close, Numeral, Literal, Symbol, Faulty}
+use Rattle.word_kinds.specs.declared.Kind.the-variants.{Open, Close, Numeral, Literal, Symbol, Keyword, Faulty}
 use Rattle.words.specs.Answers.{faultNumber}
 use Rattle.words.specs.Reading.{closeFault, faultAt, lesser, limitFault, ownFault}
 use Rattle.words.specs.Words.{Word, wordAt, wordsOf}
@@ -32,6 +32,7 @@ faultIsReal Close = true
 faultIsReal (Numeral v) = true
 faultIsReal (Literal width v) = true
 faultIsReal Symbol = true
+faultIsReal Keyword = true
 
 -- a kind that is not faulty, or has a fault
 pub record Sound (kind : Kind) : Type 0 where
@@ -61,12 +62,12 @@ hashed-sound [] = plain _ refl
 hashed-sound (b ∷ w) = either (eqb b (code "x")) (literal-sound HexDigits 4 w) (either (eqb b (code "b")) (literal-sound BinaryDigits 1 w) (plain _ refl))
 
 kind-sound : (bytes : List ℕ) → Sound (kindOf bytes)
-unfolding kindOf numeralOf symbolOf
+unfolding kindOf marked numeralOf symbolOf
 kind-sound [] = plain _ refl
 kind-sound (b ∷ w) =
     either (eqb b (code "(")) (plain _ refl)
     (either (eqb b (code ")")) (plain _ refl)
-    (either (uncarried b) (plain _ refl)
+    (either (uncarried b) (either (keywordForm (b ∷ w)) (plain _ refl) (plain _ refl))
     (either (digit b) (formed-sound _ _ (plain _ refl))
     (either (eqb b (code "#")) (hashed-sound w)
     (formed-sound _ _ (plain _ refl))))))

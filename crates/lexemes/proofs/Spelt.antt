@@ -87,7 +87,7 @@ reads {s} {lexemes} same passed at n c (k ∷ more) F p stands closed =
         ∙ and-assoc passed true (spelled more (after 1 F))
     go false e later = rw (and-false passed) (failed lexemes at (suc n) more)
 
-after-two : (F : Items) → after 2 F ≡ after 1 (after 1 F)
+pub after-two : (F : Items) → after 2 F ≡ after 1 (after 1 F)
 unfolding after
 after-two none = refl
 after-two (tree l ops more) = refl

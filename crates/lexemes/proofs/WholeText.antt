@@ -15,10 +15,10 @@ use Rattle.forest.proofs.Lists.{drop-more}
 use Rattle.words.specs.Table.{closes, opens, pastClose, nextOf, valueOf, widthOf}
 use Rattle.word_kinds.specs.declared.Fault.the-variants.{Bracket, TooLong}
 use Rattle.word_kinds.specs.declared.Kind.{Kind}
-use Rattle.word_kinds.specs.declared.Kind.the-variants.{Open, Close, Numeral, Literal, Symbol, Faulty}
+use Rattle.word_kinds.specs.declared.Kind.the-variants.{Open, Close, Numeral, Literal, Symbol, Keyword, Faulty}
 use Rattle.words.specs.Answers.{faultNumber}
 use Rattle.words.specs.Reading.{depthAfter, foundAtEnd, faultAt, foundFrom, readingOf, wordsRead}
-use Rattle.words.specs.Trees.{Level, Lexeme, bytesOf, inner, levelsAt, levelsBefore, list, literal, numeral, outer, symbol, treesFrom, withItem, wordOf}
+use Rattle.words.specs.Trees.{Level, Lexeme, bytesOf, inner, keyword, levelsAt, levelsBefore, list, literal, numeral, outer, symbol, treesFrom, withItem, wordOf}
 use Rattle.words.specs.Words.{Word, wordsOf}
 use Rattle.words.specs.declared.Limits.{Limits}
 use Rattle.words.specs.declared.Reading.{Reading}
@@ -123,6 +123,8 @@ module _ (text : List ℕ) (i : ℕ) (w : Word) (later : List Word) (here : drop
       word-stands (word-is (literal i width v _) refl refl (rw e) (rw e) (rw e) (rw e) (λ z. refl)) (ap closes e) (ap opens e) st
   step limits depth levels Symbol e sound well st =
       word-stands (word-is (symbol i _) refl refl (rw e) (rw e) (rw e) (rw e) (λ z. refl)) (ap closes e) (ap opens e) st
+  step limits depth levels Keyword e sound well st =
+      word-stands (word-is (keyword i _) refl refl (rw e) (rw e) (rw e) (rw e) (λ z. refl)) (ap closes e) (ap opens e) st
   step limits depth levels (Faulty fault) e sound well st = absurd (not-faulty limits i depth sound well)
 
 -- ---- the whole text

@@ -6,7 +6,7 @@ use mathlib.Core.List.{List, []}
 use lib.Dec.{eqb}
 use Rattle.forest.specs.Forest.{Forest, count, none, tree}
 use Rattle.word_kinds.specs.Decimals.{isDecimal}
-use Rattle.words.specs.Trees.{Lexeme, list, literal, numeral, symbol, treesFrom}
+use Rattle.words.specs.Trees.{Lexeme, keyword, list, literal, numeral, symbol, treesFrom}
 use Rattle.lexemes.specs.Reserved.{isOneOf, isWord}
 use lib.ListN.{length}
 use Rattle.words.specs.Words.{wordsOf}
@@ -38,6 +38,7 @@ abbrev pub isSymbol : Lexeme → Bool
 isSymbol (symbol at name) = true
 isSymbol (list at close) = false
 isSymbol (numeral at v) = false
+isSymbol (keyword at name) = false
 isSymbol (literal at width v written) = false
 
 -- Whether an item is a numeral.
@@ -45,6 +46,7 @@ abbrev pub isNumeral : Lexeme → Bool
 isNumeral (numeral at v) = true
 isNumeral (list at close) = false
 isNumeral (symbol at name) = false
+isNumeral (keyword at name) = false
 isNumeral (literal at width v written) = false
 
 -- Whether an item is a list.
@@ -52,20 +54,39 @@ abbrev pub isList : Lexeme → Bool
 isList (list at close) = true
 isList (symbol at name) = false
 isList (numeral at v) = false
+isList (keyword at name) = false
 isList (literal at width v written) = false
+
+-- Whether an item is a keyword.
+abbrev pub isKeyword : Lexeme → Bool
+isKeyword (keyword at name) = true
+isKeyword (list at close) = false
+isKeyword (symbol at name) = false
+isKeyword (numeral at v) = false
+isKeyword (literal at width v written) = false
 
 -- The bytes of a symbol, none of another item.
 abbrev pub nameOf : Lexeme → List ℕ
 nameOf (symbol at name) = name
 nameOf (list at close) = []
 nameOf (numeral at v) = []
+nameOf (keyword at name) = []
 nameOf (literal at width v written) = []
+
+-- The bytes of a keyword, none of another item.
+abbrev pub keywordOf : Lexeme → List ℕ
+keywordOf (keyword at name) = name
+keywordOf (list at close) = []
+keywordOf (symbol at name) = []
+keywordOf (numeral at v) = []
+keywordOf (literal at width v written) = []
 
 -- The value of a numeral, 0 of another item.
 abbrev pub numeralOf : Lexeme → ℕ
 numeralOf (numeral at v) = v
 numeralOf (list at close) = 0
 numeralOf (symbol at name) = 0
+numeralOf (keyword at name) = 0
 numeralOf (literal at width v written) = 0
 
 -- The bracket that closes a list; another item is closed by itself.
@@ -73,11 +94,16 @@ abbrev pub closeOf : Lexeme → ℕ
 closeOf (list at close) = close
 closeOf (symbol at name) = at
 closeOf (numeral at v) = at
+closeOf (keyword at name) = at
 closeOf (literal at width v written) = at
 
 -- Whether an item is the word.
 abbrev pub is : String → Lexeme → Bool
 is word l = isWord word (nameOf l)
+
+-- Whether an item is the keyword.
+abbrev pub isKey : String → Lexeme → Bool
+isKey word l = isWord word (keywordOf l)
 
 -- Whether an item is one of the words.
 abbrev pub isAmong : List String → Lexeme → Bool

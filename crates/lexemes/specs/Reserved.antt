@@ -7,9 +7,9 @@ use Rattle.forest.specs.Lists.{sameBytes, spelling}
 use Rattle.operators.specs.Operators.{Operator, operators}
 
 -- The commands that are carried: "`(set-logic BV)` first and once; then `declare-var`, `define-fun`, `synth-fun` with grammar, `constraint`; `(check-synth)`
--- last"; "`assume`. Carry it" (E1).
+-- last"; "`assume`. Carry it" (E1); "Carry `(set-feature :weights true)`" (E13).
 abbrev pub carriedCommands : List String
-carriedCommands = "set-logic" ∷ "declare-var" ∷ "define-fun" ∷ "synth-fun" ∷ "constraint" ∷ "check-synth" ∷ "assume" ∷ []
+carriedCommands = "set-logic" ∷ "declare-var" ∷ "define-fun" ∷ "synth-fun" ∷ "constraint" ∷ "check-synth" ∷ "assume" ∷ "set-feature" ∷ []
 
 -- "Other 2.1 commands": the rest of document 000's section 2.9.
 abbrev pub otherCommands : List String
@@ -18,7 +18,6 @@ otherCommands =
     ∷ "declare-weight"
     ∷ "inv-constraint"
     ∷ "optimize-synth"
-    ∷ "set-feature"
     ∷ "oracle-assume"
     ∷ "oracle-constraint"
     ∷ "declare-oracle-fun"

@@ -8,7 +8,7 @@ pub const FAIL: u64 = BV + 1;
 
 pub const INFEASIBLE: u64 = FAIL + 1;
 
-// The commands that are carried stand from SET_LOGIC to ASSUME.
+// The commands that are carried stand from SET_LOGIC to SET_FEATURE.
 pub const SET_LOGIC: u64 = INFEASIBLE + 1;
 
 pub const DECLARE_VAR: u64 = SET_LOGIC + 1;
@@ -23,10 +23,12 @@ pub const CHECK_SYNTH: u64 = CONSTRAINT + 1;
 
 pub const ASSUME: u64 = CHECK_SYNTH + 1;
 
-// How many other commands there are; they stand behind ASSUME and before TRUE.
-const OTHER_COMMANDS: u64 = 21;
+pub const SET_FEATURE: u64 = ASSUME + 1;
 
-pub const TRUE: u64 = ASSUME + 1 + OTHER_COMMANDS;
+// How many other commands there are; they stand behind SET_FEATURE and before TRUE.
+const OTHER_COMMANDS: u64 = 20;
+
+pub const TRUE: u64 = SET_FEATURE + 1 + OTHER_COMMANDS;
 
 pub const FALSE: u64 = TRUE + 1;
 

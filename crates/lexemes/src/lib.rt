@@ -12,7 +12,7 @@ ghost use Rattle.lexemes.specs.code.Table.{codeAt, endAt, nextAt, startA
 // How many numbers a row has.
 pub const ROW: usize = 6;
 
-// The codes of words; a symbol's is SYMBOL and its number among the words that the reader tells apart.
+// The codes of words; those of keywords stand before SYMBOL, and a symbol's is SYMBOL and its number among the words that the reader tells apart.
 pub const OPEN: u64 = 1;
 
 pub const CLOSE: u64 = 2;
@@ -21,7 +21,13 @@ pub const NUMERAL: u64 = 3;
 
 pub const LITERAL: u64 = 4;
 
-pub const SYMBOL: u64 = 5;
+pub const WEIGHTS: u64 = 5;
+
+pub const WEIGHT: u64 = 6;
+
+pub const OTHER_KEYWORD: u64 = 7;
+
+pub const SYMBOL: u64 = 8;
 
 // The code of a word.
 pub fn code_at(lexemes: &[u64], word: usize) -> u64

@@ -1,13 +1,18 @@
 //! The table of lexemes of a text, filled from its word table.
+use crate::OTHER_KEYWORD;
 use crate::ROW;
 use crate::SYMBOL;
+use crate::WEIGHT;
+use crate::WEIGHTS;
 use crate::reserved::first_names;
 use crate::reserved::first_slots;
 use crate::reserved::first_starts;
 use crate::reserved::word_number;
+use forest::search::same_bytes;
 use operators::operators::operator_names;
 use operators::operators::operator_slots;
 use operators::operators::operator_starts;
+use words::table::KEYWORD;
 use words::table::end_at;
 use words::table::kind_at;
 use words::table::next_at;
@@ -17,8 +22,28 @@ ghost use mathlib.Core.Path.{_≡_};
 ghost use Rattle.forest.specs.Tables.{over};
 ghost use Rattle.lexemes.specs.code.Numbering.{Numbering, RowPut, RowRoom, codeBy};
 ghost use Rattle.lexemes.specs.code.Reserved.{KnownTables};
-ghost use Rattle.lexemes.specs.code.Table.{lexemeTable};
+ghost use Rattle.lexemes.specs.code.Table.{keywordCode, lexemeTable};
 ghost use Rattle.words.specs.Words.{wordsOf};
+
+// The number of a keyword's kind.
+const KEYWORD_KIND: u64 = KEYWORD as u64;
+
+// The keyword of the feature; that of a rule's weight is all of it but its last byte.
+const FEATURE: [u8; 8] = *b":weights";
+
+// The code of a keyword.
+fn keyword_code(word: &[u8]) -> u64
+    ensures { λ r. ⌜ r ≡ keywordCode (now (word .entry)) ⌝ }
+{
+    let name = FEATURE;
+    if same_bytes(&name, word) {
+        return WEIGHTS;
+    }
+    if same_bytes(&name[..7], word) {
+        return WEIGHT;
+    }
+    OTHER_KEYWORD
+}
 
 // The code of a word by the number of its kind and its bytes.
 fn code_of(
@@ -34,8 +59,11 @@ fn code_of(
     requires { ⌜ KnownTables (now names) (now starts) (now slots) (now «operator_names») (now «operator_starts») (now «operator_slots») ⌝ }
     ensures { λ r. ⌜ r ≡ codeBy kind (now (word .entry)) ⌝ }
 {
-    if kind < SYMBOL {
+    if kind < WEIGHTS {
         return kind;
+    }
+    if kind == KEYWORD_KIND {
+        return keyword_code(word);
     }
     let number = word_number(
         word,

@@ -22,8 +22,8 @@ const LONG_CONSTANT: usize = (LONG_DECIMAL - SYMBOL) as usize;
 
 // The words before the operators, one after the other.
 const NAMES: [u8; 504] =
-    *b"BVfailinfeasibleset-logicdeclare-vardefine-funsynth-funconstraintcheck-synthassumechc-constraintdeclare-weightinv-constraintoptimize-synth\
-      set-featureoracle-assumeoracle-constraintdeclare-oracle-funoracle-constraint-iooracle-constraint-cexoracle-constraint-membership\
+    *b"BVfailinfeasibleset-logicdeclare-vardefine-funsynth-funconstraintcheck-synthassumeset-featurechc-constraintdeclare-weightinv-constraint\
+      optimize-synthoracle-assumeoracle-constraintdeclare-oracle-funoracle-constraint-iooracle-constraint-cexoracle-constraint-membership\
       oracle-constraint-poswitnessoracle-constraint-negwitnessdeclare-correctness-oracledeclare-correctness-cex-oracledeclare-datatype\
       declare-datatypesdeclare-sortdefine-sortset-infoset-optiontruefalseBoolBitVec_!letexistsforallConstantVariable";
 
@@ -39,11 +39,11 @@ const STARTS: [usize; BEFORE_OPERATORS + 1] = [
     55, // constraint
     65, // check-synth
     76, // assume
-    82, // chc-constraint
-    96, // declare-weight
-    110, // inv-constraint
-    124, // optimize-synth
-    138, // set-feature
+    82, // set-feature
+    93, // chc-constraint
+    107, // declare-weight
+    121, // inv-constraint
+    135, // optimize-synth
     149, // oracle-assume
     162, // oracle-constraint
     179, // declare-oracle-fun
@@ -76,10 +76,10 @@ const STARTS: [usize; BEFORE_OPERATORS + 1] = [
 
 // In the slot of each of them its number; `~` in the others. `tools/slots` writes it.
 const SLOTS_OF: [u8; SLOTS] =
-    *b"~~~~~~~~~~~~~~~~~~~~~~~~~\x28~~~~~~~~~~~~~~~~~~~~~~~\x18~~~~~~~~~~~~~\x16~~~~~~~~~~~~~~\x20~~~~~~~~~~~~~~~~~~~~~~~~~~\x0a~~~~~~~~~\x01~~~~~~~~\x24~~~\
-      ~~~~~\x1e~~~~~~~~~~~~~~~~~~~~~~~~~~~\x00~~~\x27~~~~\x08~~~~~~~~~~~~~~~\x23~~~~~~~~\x1f~~~~~~~~~~~~\x0b~~~~~~~~~~~\x12~~~~\x06~~~~~~~~~~~~~~~~~~~~~\x10~~~~~~~~\
+    *b"~~~~~~~~~~~~~~~~~~~~~~~~~\x28~~~~~~~~~~~~~~~~~~~~~~~\x18~~~~~~~~~~~~~\x16~~~~~~~~~~~~~~\x20~~~~~~~~~~~~~~~~~~~~~~~~~~\x0b~~~~~~~~~\x01~~~~~~~~\x24~~~\
+      ~~~~~\x1e~~~~~~~~~~~~~~~~~~~~~~~~~~~\x00~~~\x27~~~~\x08~~~~~~~~~~~~~~~\x23~~~~~~~~\x1f~~~~~~~~~~~~\x0c~~~~~~~~~~~\x12~~~~\x06~~~~~~~~~~~~~~~~~~~~~\x10~~~~~~~~\
       ~~~~~~~~~\x26\x07~~~~\x21\x13\x09~~~~~~~~~~~~\x0f~~~~~~~~~~~~\x1c~~~~~~~~~~~\x04~~~~\x22~~~~~~~~~~~~~~~~~\x25~~~~~~~~~~~~~~~~~~~~~~~~~~~~~~~\x03~~~~~~~~~~~\x05~\x14~~~\
-      ~~~~~~~~~~~~~\x02\x0e~~~~~~~~~~~~~\x19~\x1b~~~~~~~\x1d~~~~~~~~~~~~~~~~\x1a~~~~~~~~~~~~~~~~\x11~~~~~\x0c~~~\x17~~~~~~~~~~~~~~~~~~~~~~~~\x15~~~~~\x29~~~~~~~\x0d~~~~~~";
+      ~~~~~~~~~~~~~\x02\x0a~~~~~~~~~~~~~\x19~\x1b~~~~~~~\x1d~~~~~~~~~~~~~~~~\x1a~~~~~~~~~~~~~~~~\x11~~~~~\x0d~~~\x17~~~~~~~~~~~~~~~~~~~~~~~~\x15~~~~~\x29~~~~~~~\x0e~~~~~~";
 
 // The table of the words before the operators.
 pub(crate) fn first_names() -> [u8; 504]

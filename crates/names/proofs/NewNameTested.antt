@@ -16,7 +16,7 @@ use Rattle.word_kinds.specs.Decimals.{isDecimal}
 use Rattle.word_kinds.specs.Kinds.{allIn}
 use Rattle.lexemes.specs.Reserved.{carriedCommands, isOneOf, isReserved, isWord, otherCommands, otherWords, reservedWords}
 use Rattle.lexemes.specs.code.Reserved.{knownWords, placeAmong, wordNumber}
-use Rattle.words.specs.Trees.{Lexeme, list, literal, numeral, symbol, wordOf}
+use Rattle.words.specs.Trees.{Lexeme, keyword, list, literal, numeral, symbol, wordOf}
 use Rattle.lexemes.specs.Lists.{Items, isSymbol, item, nameOf}
 use Rattle.lexemes.specs.code.Standing.{Stands, WordIs}
 use Rattle.lexemes.specs.code.Codes.{firstOperatorCode, otherCode, setLogicCode}
@@ -78,6 +78,7 @@ symbol-at {text} {lexemes} {i} {l = l} stands s = go l s (word-is stands (symbol
     go (symbol at name) s w = record { coded = w .coded; spelled = w .written refl; is-placed = w .placed }
     go (list at close) s w = apart s
     go (numeral at v) s w = apart s
+    go (keyword at name) s w = apart s
     go (literal at width v written) s w = apart s
 
 -- Whether a name is in rows of the table, by the place at which it is found.

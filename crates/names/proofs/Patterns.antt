@@ -12,7 +12,7 @@ use Rattle.forest.specs.Forest.{count, none, tree}
 use Rattle.forest.specs.Lists.{sameBytes, spelling}
 use Rattle.forest.proofs.Bools.{and-left, and-right, apart}
 use Rattle.operators.specs.Operators.{operators}
-use Rattle.words.specs.Trees.{Lexeme, list, literal, numeral, symbol}
+use Rattle.words.specs.Trees.{Lexeme, keyword, list, literal, numeral, symbol}
 use Rattle.word_kinds.specs.Decimals.{isDecimal}
 use Rattle.word_kinds.specs.Kinds.{allIn}
 use Rattle.lexemes.specs.Reserved.{isWord}
@@ -58,6 +58,7 @@ module _ {s : Source} where
   numeral-here ends some all = absurd (omega arith)
   numeral-here (word {l = numeral at v} x rest) some all = (x .coded, x .valued)
   numeral-here (word {l = symbol at name} x rest) some all = apart all
+  numeral-here (word {l = keyword at name} x rest) some all = apart all
   numeral-here (word {l = literal at width v written} x rest) some all = apart all
   numeral-here (word {l = list at close} x rest) some all = apart all
   numeral-here (bracketed b inner rest) some all = apart all
@@ -89,6 +90,7 @@ sort-is : {s : Source} {i e : ℕ} {l : Lexeme} {held : Items} → Stands s i (t
     → SortIs s i l held
 sort-is (word {l = symbol at name} x rest) shape = named (x .placed) (x .coded)
 sort-is (word {l = numeral at v} x rest) shape = apart shape
+sort-is (word {l = keyword at name} x rest) shape = apart shape
 sort-is (word {l = literal at width v written} x rest) shape = apart shape
 sort-is (word {l = list at close} x rest) shape = apart (sym (x .no-list))
 sort-is {i = i} (bracketed b inner rest) shape =

@@ -33,7 +33,7 @@ module _ {nowhere : ℕ} (k : Known) (c : Items) (some-word : 0 < nowhere) (belo
       let same = map-map (λ (d : Definition). d .signature) (λ (d : Defined). d .definition) (k .defined) in
       let sort = sortOf (item 3 c) (inside 3 c) in
       let body = body-sorted (bodyView k (argumentsOf c)) sort (item 4 c) (inside 4 c) (item-below some-word 4 c below) refl (omega (arith, fits)) in
-      rw (t .declares, t .defines, t .synthesizes, t .constrains, t .assumes) (with-definition k _ _ sound _ (rw same body))
+      rw (t .declares, t .defines, t .synthesizes, t .constrains, t .assumes) (with-definition k _ _ _ sound _ (rw same body))
 
   -- After a `synth-fun`.
   after-function : Tests c false false true false false → Sound (knownAfter k c)
@@ -46,7 +46,7 @@ module _ {nowhere : ℕ} (k : Known) (c : Items) (some-word : 0 < nowhere) (belo
       let many = listed (item-below some-word 5 c below .last) (namedBy pairs) groups in-groups (omega (arith, fits)) in
       let placed = groups-placed {most = length (namedBy pairs)} 0 groups (omega arith) in-groups in
       rw (t .declares, t .defines, t .synthesizes, t .constrains, t .assumes)
-      (with-function k _ _ sound _ (omega arith) (record {
+      (with-function k _ _ _ sound _ (omega arith) (record {
         start = starts _ (item-below some-word 4 c below .last) pairs (inside-below nowhere 4 c below) (omega (arith, fits));
         heads = heads-below (viewOf k c) placed;
         rules = λ r h. rw (sub-self (length (k .defined))) (rules-sorted (viewOf k c) placed (omega (arith, fits)) r h);
@@ -66,7 +66,7 @@ module _ {nowhere : ℕ} (k : Known) (c : Items) (some-word : 0 < nowhere) (belo
   after-constraint t =
       let fits = rw (t .declares, t .defines, t .synthesizes, t .constrains) at sorts in
       rw (t .declares, t .defines, t .synthesizes, t .constrains, t .assumes)
-      (with-stated k _ _ sound _ _ (stated-bool fits (k .constraints) (sound .sorted .constraints)) (sound .sorted .assumptions))
+      (with-stated k _ _ _ sound _ _ (stated-bool fits (k .constraints) (sound .sorted .constraints)) (sound .sorted .assumptions))
 
   -- After an `assume`.
   after-assumption : Tests c false false false false true → Sound (knownAfter k c)
@@ -74,16 +74,16 @@ module _ {nowhere : ℕ} (k : Known) (c : Items) (some-word : 0 < nowhere) (belo
   after-assumption t =
       let fits = rw (t .declares, t .defines, t .synthesizes, t .constrains, t .assumes) at sorts in
       rw (t .declares, t .defines, t .synthesizes, t .constrains, t .assumes)
-      (with-stated k _ _ sound _ _ (sound .sorted .constraints) (stated-bool fits (k .assumptions) (sound .sorted .assumptions)))
+      (with-stated k _ _ _ sound _ _ (sound .sorted .constraints) (stated-bool fits (k .assumptions) (sound .sorted .assumptions)))
 
   -- After any command.
   pub after-command : Command c → Sound (knownAfter k c)
   unfolding knownAfter
-  after-command (declaring t) = rw (t .declares, t .defines, t .synthesizes, t .constrains, t .assumes) (with-variable k _ _ sound _)
+  after-command (declaring t) = rw (t .declares, t .defines, t .synthesizes, t .constrains, t .assumes) (with-variable k _ _ _ sound _)
   after-command (defining t) = after-definition t
   after-command (synthesizing t) = after-function t
   after-command (constraining t) = after-constraint t
   after-command (assuming t) = after-assumption t
   after-command (another t) =
       rw (t .declares, t .defines, t .synthesizes, t .constrains, t .assumes)
-      (with-stated k _ _ sound _ _ (sound .sorted .constraints) (sound .sorted .assumptions))
+      (with-stated k _ _ _ sound _ _ (sound .sorted .constraints) (sound .sorted .assumptions))

@@ -70,7 +70,7 @@ module _ {nowhere : ℕ} (k : Known) (at : ℕ) (c : Items) (some-word : 0 < now
       let rules = past-neither (rulePast nowhere mostRules (rulesIn 0 groups)) _ (parts .2) in
       let few = rules-few mostRules (groups-placed {most = count groups} 0 groups (omega arith) in-groups) (rules .0) in
       let few-listed = items-few nowhere mostNonTerminals pairs some-word (inside-below nowhere 4 c below) (parts .0) in
-      let admitted = grammar-admitted view c some-word below fits few (omega (arith, named-long pairs)) in
+      let admitted = grammar-admitted view c some-word below fits few (rules .1) (omega (arith, named-long pairs)) in
       let narrow = head-narrow nowhere some-word c below (past .1) .arguments in
       exact G (count pairs) mostNonTerminals (λ r h. omega (arith, named-long pairs, heads-declared view c some-word below fits r h)) (admitted .proper)
       (admitted .single) (said-fit view (λ j. narrow-sort (inside 2 c) j narrow) (rulesIn 0 groups) (rules-narrow nowhere some-word 0 groups in-groups (sorts .1)))

@@ -1,4 +1,5 @@
--- Derivations of the bodies of all functions: those that are shown are derivations, and the only ones that are; and where there is a first body without one there are none.
+-- Derivations of the bodies of all functions: those that are shown are derivations, and no others may be; where there is a
+-- first body without one there are none.
 use Prim.Native.Nat.{ℕ, suc, _<_}
 use native.Mathlib.Omega.{arith}
 use mathlib.Core.List.{List, _∷_}

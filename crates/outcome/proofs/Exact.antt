@@ -106,7 +106,8 @@ shown-derives {script} {response} {points} {area = area} (judged p (underived u)
 shown-derives {script} {response} {points} {area = area} (judged p (points-refused s e)) =
     shows-none (not-showing (omega arith)) (sym (sized-area script response points area (p .sized))) refl
 shown-derives {points = points} {budget} (judged {k = k} {bs = bs} p (evaluated {lists = lists} {n = n} s e)) =
-    shows (run-showing budget (ranWith k (termsOf bs) points n budget)) (record { k = k; bs = bs; lists = lists; passing = p; shown = s; is = refl; weigh = refl })
+    shows (run-showing budget (ranWith k (termsOf bs) points n budget))
+    (record { k = k; bs = bs; lists = lists; passing = p; shown = s; is = refl; weigh = refl })
 
 -- Of derived bodies and points that pass the answer is 0, 14 or 15.
 pub verdict-showing : {response : List ℕ} {k : Known} {bs : List Body} {points : List ℕ} {budget n : ℕ} {o : Outcome} {a w : List ℕ}

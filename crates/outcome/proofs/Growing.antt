@@ -55,11 +55,12 @@ unfolding AllBool
 bool-more scope [] t all h = (h, tt)
 bool-more scope (u ∷ more) t all h = (all .0, bool-more scope more t (all .1) h)
 
-module _ (k : Known) (logic ended : Bool) (sound : Sound k) where
+module _ (k : Known) (logic weights ended : Bool) (sound : Sound k) where
   -- Constraints and assumptions are said, which are Bool.
   pub with-stated : (constraints assumptions : List Terms) → AllBool (scopeOf (constraintView k) .terms) constraints
       → AllBool (scopeOf (constraintView k) .terms) assumptions → Sound (record {
         logic = logic;
+        weights = weights;
         ended = ended;
         variables = k .variables;
         defined = k .defined;
@@ -77,6 +78,7 @@ module _ (k : Known) (logic ended : Bool) (sound : Sound k) where
   -- A variable more is declared.
   pub with-variable : (v : Named) → Sound (record {
     logic = logic;
+    weights = weights;
     ended = ended;
     variables = k .variables ++ v ∷ [];
     defined = k .defined;
@@ -101,6 +103,7 @@ module _ (k : Known) (logic ended : Bool) (sound : Sound k) where
   -- A `define-fun` more is read, whose body has its sort.
   pub with-definition : (d : Defined) → BodySorted (map (λ (e : Defined). e .definition) (k .defined)) (d .definition) → Sound (record {
     logic = logic;
+    weights = weights;
     ended = ended;
     variables = k .variables;
     defined = d ∷ k .defined;
@@ -125,6 +128,7 @@ module _ (k : Known) (logic ended : Bool) (sound : Sound k) where
   -- A function more is to be synthesized, whose rules have their sorts.
   pub with-function : (f : Function) → f .before ≤ length (k .defined) → RulesSorted (k .defined) f → Sound (record {
     logic = logic;
+    weights = weights;
     ended = ended;
     variables = k .variables;
     defined = k .defined;

@@ -13,7 +13,8 @@ use Rattle.outcome.proofs.Stages.{missized-one, sized-texts}
 use Rattle.outcome.proofs.Texts.{long-number, short-texts}
 
 -- Answer 1 carries nothing, and every other comes after all sizes were right.
-pub carrying-sized : {script response points : List ℕ} {budget : ℕ} {area : List ℕ} {o : Outcome} {a w : List ℕ} → Checked script response points budget area o a w
+pub carrying-sized : {script response points : List ℕ} {budget : ℕ} {area : List ℕ} {o : Outcome} {a w : List ℕ}
+    → Checked script response points budget area o a w
     → carries (o .number) ≡ true → (length script ≤ scriptBytes) × (length response ≤ responseBytes)
 carrying-sized {script} {response} {points} {area = area} (missized e) t = apart (ap carries (sym (missized-one script response points area e .number)) ∙ t)
 carrying-sized {script} {response} {points} {area = area} (texts-refused z u) t = sized-texts script response points area z

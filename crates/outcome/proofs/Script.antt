@@ -14,7 +14,7 @@ use Rattle.written_sorts.specs.Written.{grammarSorts}
 use Rattle.written_sorts.specs.declared.Fault.the-variants.{TooWide}
 use Rattle.names.specs.Scopes.{Defined, Function, Named}
 use Rattle.headers.specs.Heads.{headerPast}
-use Rattle.forest.specs.Limits.{allowed, mostNonTerminals, mostRules}
+use Rattle.forest.specs.Limits.{allowed, mostNodes, mostNonTerminals, mostRules}
 use Rattle.grammars.specs.Grammars.{grammarPast}
 use Rattle.script.specs.Script.{Known, knownAfter, limitPlace, viewOf}
 use Rattle.script.proofs.WordsBelow.{Below, inside-below}
@@ -33,6 +33,7 @@ use Rattle.outcome.specs.code.Assured.{AllAdmitted, Assured}
 use Rattle.script.proofs.Admitted.{sorted-admitted}
 use Rattle.script.proofs.Proper.{AllBounded}
 use Rattle.script.proofs.Limited.{rules-few, said-bounded, said-light}
+use Rattle.script.proofs.RuleWeights.{rules-light}
 
 -- The grammar of a function is within its limits.
 record Limited (f : Function) : Type 0 where
@@ -86,7 +87,7 @@ module _ {nowhere : ℕ} (k : Known) (at : ℕ) (c : Items) (some-word : 0 < now
             rules = rw length-map (rules-few mostRules placed (listed .0));
             nonTerminals = omega (arith, named-long pairs);
             sides = said-bounded (viewOf k c) (rulesIn 0 groups);
-            weights = said-light (viewOf k c) (rulesIn 0 groups);
+            weights = said-light (viewOf k c) (rules-light mostNodes placed (listed .1));
           },
           within .functions,
         );

@@ -247,7 +247,7 @@ either false p q = q refl
 judged-met : (counts : Counts) (nowhere : ℕ) (k : Known) (at : ℕ) (c : Items) (after : Known) → Met nowhere k c (judged counts nowhere k at c after)
 unfolding judged tested
 judged-met counts nowhere k at c after =
-    either (notCarried c) (speaks-of-none (λ e. omega arith))
+    either (notCarried (k .weights) c) (speaks-of-none (λ e. omega arith))
     (λ carried. either (not (commandShape c) || outOfPlace k c) (speaks-of-none (λ e. omega arith))
     (λ shaped. either (ltb (limitPlace counts nowhere k at c) nowhere) (speaks-of-none (λ e. omega arith))
     (λ limited. either (ltb (namePlace nowhere k c) nowhere) (a-name (not-false (commandShape c) (or-left (not (commandShape c)) (outOfPlace k c) shaped)))

@@ -66,7 +66,7 @@ pub no-faults : (counts : Counts) (nowhere : ℕ) (k : Known) (at : ℕ) (c : It
     → judged counts nowhere k at c said ≡ passed later → NoFault nowhere k c said later
 unfolding judged tested
 no-faults counts nowhere k at c said h =
-    let carried = not-refused (notCarried c) _ _ _ h in
+    let carried = not-refused (notCarried (k .weights) c) _ _ _ h in
     let shaped = not-refused (not (commandShape c) || outOfPlace k c) _ _ _ (carried .1) in
     let limited = not-refused (ltb (limitPlace counts nowhere k at c) nowhere) _ _ _ (shaped .1) in
     let named = not-refused (ltb (namePlace nowhere k c) nowhere) _ _ _ (limited .1) in

@@ -19,8 +19,8 @@ use Rattle.script.specs.Outcome.{ResponseOutcome, ScriptOutcome, given, offsetO
 use Rattle.script.specs.Rows.{AtWord, ResponseRow, ScriptRow}
 use Rattle.words.specs.Limits.{responseLimits}
 use Rattle.script.proofs.Rows.{FirstWords, ResponseKept, ScriptKept, response-kept, script-kept}
-use Rattle.outcome.specs.Checked.{Checked, Judgement, Passing, TextsRefused, evaluated, judged, missized, points-refused, response-refused, script-refused}
-use Rattle.outcome.specs.Checked.{texts-refused, underived}
+use Rattle.outcome.specs.Checked.{Checked, Judgement, Passing, TextsRefused, evaluated, judged, missized, points-refused, response-refused}
+use Rattle.outcome.specs.Checked.{script-refused, texts-refused, underived}
 use Rattle.outcome.specs.Demands.{AllDone, InOrder, assumedAt}
 use Rattle.outcome.specs.Derived.{FirstUnderived, termsOf}
 use Rattle.outcome.specs.Evaluated.{ranOutcome, ranWith}

@@ -20,8 +20,8 @@ pub data Derived : List Function → List Terms → Type 0 where
   also : {f : Function} {t : Terms} {fs : List Function} {ts : List Terms} {ds : List ℕ} → Derives (f .grammar) start t ds → Derived fs ts
       → Derived (f ∷ fs) (t ∷ ts)
 
--- The same by the lists that are shown: "No non-terminal is used twice at the same place of the body, so 256 × 16 entries suffice." "The derivation shown must now
--- be of least total weight among all of any length, then with fewest rules, then with the least rule numbers at the first difference." (E13)
+-- The same by the lists that are shown: "No non-terminal is used twice at the same place of the body, so 256 × 16 entries suffice." "The derivation shown must
+-- now be of least total weight among all of any length, then with fewest rules, then with the least rule numbers at the first difference." (E13)
 pub data ListsShown : List Function → List Terms → (lists : List (List ℕ)) → Type 0 where
   no-more : ListsShown [] [] []
   also : {f : Function} {t : Terms} {fs : List Function} {ts : List Terms} {ds : List ℕ} {lists : List (List ℕ)} → Simple (f .grammar) [] start t ds

@@ -9,7 +9,7 @@ use Rattle.forest.specs.Forest.{count, none, tree}
 use Rattle.forest.specs.code.Cursors.{size}
 use Rattle.forest.specs.Lists.{sameBytes}
 use Rattle.forest.proofs.Bools.{and-right, apart}
-use Rattle.words.specs.Trees.{Lexeme, list, literal, numeral, symbol, wordOf}
+use Rattle.words.specs.Trees.{Lexeme, keyword, list, literal, numeral, symbol, wordOf}
 use Rattle.lexemes.specs.Lists.{Items, inside, is, isList, isSymbol, item}
 use Rattle.lexemes.specs.code.Standing.{ItemAt, ListAt}
 use Rattle.lexemes.specs.code.Table.{codeAt, nextAt}
@@ -30,6 +30,7 @@ unfolding sameBytes
 command-symbol (symbol at name) e = refl
 command-symbol (list at close) e = apart e
 command-symbol (numeral at v) e = apart e
+command-symbol (keyword at name) e = apart e
 command-symbol (literal at width v written) e = apart e
 
 -- One of several terms has no more nodes than all.

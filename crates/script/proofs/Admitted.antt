@@ -6,7 +6,7 @@ use mathlib.Core.Option.{some}
 use mathlib.Core.Path.{_≡_}
 use lib.ListN.{getD, length, length-map}
 use Rattle.forest.specs.Forest.{Forest, count, join, none, tree}
-use Rattle.forest.specs.Limits.{mostNonTerminals, mostRules}
+use Rattle.forest.specs.Limits.{mostNodes, mostNonTerminals, mostRules}
 use Rattle.derivation.specs.Derivation.{Grammar, Item, anyArgument, anyLiteral, formOf, headOf, mostWeight, nonTerminal, the, weightOf}
 use Rattle.derivation.specs.Sorts.{FormScope, formSorts}
 use Rattle.derivation.specs.code.Admitted.{Admitted}
@@ -15,13 +15,14 @@ use Rattle.term_sorts.specs.code.Signatures.{Every, Narrow}
 use Rattle.lexemes.specs.Lists.{Items, inside}
 use Rattle.names.specs.Scopes.{Named, View, formsOf, namedSorts}
 use Rattle.operators.specs.Sorts.{maxWidth}
-use Rattle.term_nodes.specs.Rules.{Ruled, rulesIn, sides}
+use Rattle.term_nodes.specs.Rules.{Ruled, nodesPast, rulesIn, sides}
 use Rattle.term_faults.specs.Faults.{scopeOf}
 use Rattle.term_faults.specs.code.Bodies.{NarrowNode}
 use Rattle.term_faults.proofs.Narrow.{forms-narrow}
 use Rattle.grammars.specs.Grammars.{grammarIn, listedMisfit}
 use Rattle.script.proofs.Limited.{said-bounded, said-light}
 use Rattle.script.proofs.Proper.{AllBounded, sorted-proper, sorts-counted}
+use Rattle.script.proofs.RuleWeights.{rules-light}
 use Rattle.script.proofs.Rules.{AllPlaced, groups-placed, heads-below, listed, rules-sorted, said}
 use Rattle.script.proofs.WordsBelow.{Below, inside-below, item-below}
 
@@ -53,12 +54,13 @@ module _ {nowhere : ℕ} (view : View) (c : Items) (some-word : 0 < nowhere) (be
   heads-declared = heads-below view rules-placed
 
   -- It is admitted where it is within its limits.
-  pub grammar-admitted : length (rulesIn 0 (inside 5 c)) ≤ mostRules → length (view .nonTerminals) ≤ mostNonTerminals → Admitted (grammarIn view c)
-  grammar-admitted rules few =
+  pub grammar-admitted : length (rulesIn 0 (inside 5 c)) ≤ mostRules → nowhere ≤ nodesPast nowhere mostNodes (rulesIn 0 (inside 5 c))
+      → length (view .nonTerminals) ≤ mostNonTerminals → Admitted (grammarIn view c)
+  grammar-admitted rules light few =
       let long = length-map (view .nonTerminals) (λ (n : Named). n .sort) in
       sorted-admitted (scopeOf view) (grammarIn view c) (rw length-map rules) (omega arith) (λ r h. omega (arith, heads-declared r h))
       (said-bounded view (rulesIn 0 (inside 5 c))) (rules-sorted view rules-placed (omega (arith, fits)))
-      (said-light view (rulesIn 0 (inside 5 c)))
+      (said-light view (rules-light mostNodes rules-placed light))
 
 -- `(Constant σ)` of sorts at most 64 wide are of sorts that there are.
 constants-fit : (F : Forest Item) → Every Narrow F → ConstantsFit F

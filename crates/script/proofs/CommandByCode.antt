@@ -8,7 +8,7 @@ use borrow.Author.Tests.{eqb-true}
 use Rattle.lexemes.proofs.Numbers.{isKnown}
 use Rattle.lexemes.specs.Lists.{Items, is, item}
 use Rattle.lexemes.specs.code.Table.{codeOf}
-use Rattle.lexemes.specs.code.Codes.{assumeCode, checkSynthCode, constraintCode, declareVarCode, defineFunCode, setLogicCode, synthFunCode}
+use Rattle.lexemes.specs.code.Codes.{assumeCode, checkSynthCode, constraintCode, declareVarCode, defineFunCode, setFeatureCode, setLogicCode, synthFunCode}
 use Rattle.lexemes.proofs.ByCode.{codeFor, word-code}
 
 -- The tests of a command's word, by its code.
@@ -19,6 +19,7 @@ pub record Chosen (c : Items) (code : ℕ) : Type 0 where
   pub synthesizes : is "synth-fun" (item 0 c) ≡ eqb code synthFunCode
   pub constrains : is "constraint" (item 0 c) ≡ eqb code constraintCode
   pub ends : is "check-synth" (item 0 c) ≡ eqb code checkSynthCode
+  pub features : is "set-feature" (item 0 c) ≡ eqb code setFeatureCode
   pub assumes : is "assume" (item 0 c) ≡ eqb code assumeCode
 
 -- A command whose word is known.
@@ -31,6 +32,7 @@ chosen word known c h = record {
   synthesizes = told "synth-fun" refl;
   constrains = told "constraint" refl;
   ends = told "check-synth" refl;
+  features = told "set-feature" refl;
   assumes = told "assume" refl;
 }
   where

@@ -47,7 +47,7 @@ module _ (P : Known → Type 0)
       → Keeps (judged allowed nowhere k at c after)
   unfolding judged tested
   judged-keeps nowhere k at c after p =
-      either-keeps (notCarried c) (λ e. ends)
+      either-keeps (notCarried (k .weights) c) (λ e. ends)
       (λ e. either-keeps (not (commandShape c) || outOfPlace k c) (λ e. ends)
       (λ e. either-keeps (ltb (limitPlace allowed nowhere k at c) nowhere) (λ e. ends)
       (λ limited. either-keeps (ltb (namePlace nowhere k c) nowhere) (λ e. ends)

@@ -18,6 +18,7 @@ pub mod Rows
 pub mod Numbers
 pub mod Keeping
 pub mod Rules
+pub mod RuleWeights
 pub mod Proper
 pub mod Limited
 pub mod RulesNarrow

@@ -12,6 +12,7 @@ use Rattle.derivation.specs.Derivation.{formOf, mostWeight, weightOf}
 use Rattle.names.specs.Scopes.{View}
 use Rattle.script.proofs.Rules.{AllPlaced, also, no-rule, said}
 use Rattle.script.proofs.Proper.{AllBounded, terms-bounded}
+use Rattle.script.proofs.RuleWeights.{AllLight, also-light, none-heavy}
 
 -- Rules none of which is past the limit are no more than that.
 pub rules-few : {nowhere heads : ℕ} (most : ℕ) {rs : List Ruled} → AllPlaced nowhere heads rs → nowhere ≤ rulePast nowhere most rs → length rs ≤ most
@@ -31,9 +32,9 @@ said-bounded view [] r h = absurd (omega arith)
 said-bounded view (x ∷ more) zero h = terms-bounded view (x .side)
 said-bounded view (x ∷ more) (suc r) h = said-bounded view more r (omega arith)
 
--- The weight of every rule that is said is at most the most that one may weigh.
-pub said-light : (view : View) (rs : List Ruled) (r : ℕ) → r < length (said view rs) → weightOf (said view rs) r ≤ mostWeight
+-- The weight of every rule that is said is at most the most that one may weigh, where no rule is heavier.
+pub said-light : (view : View) {rs : List Ruled} → AllLight rs → (r : ℕ) → r < length (said view rs) → weightOf (said view rs) r ≤ mostWeight
 unfolding weightOf
-said-light view [] r h = absurd (omega arith)
-said-light view (x ∷ more) zero h = omega arith
-said-light view (x ∷ more) (suc r) h = said-light view more r (omega arith)
+said-light view none-heavy r h = absurd (omega arith)
+said-light view (also-light light others) zero h = light
+said-light view (also-light light others) (suc r) h = said-light view others r (omega arith)

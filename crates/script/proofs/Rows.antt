@@ -43,7 +43,7 @@ use Rattle.script.specs.Outcome.{ResponseOutcome, ScriptOutcome, byAnswe
 use Rattle.script.specs.Outcome.{scriptOutcome, secondOf, startOf}
 use Rattle.script.specs.Rows.{AtWord, ResponseRow, ScriptRow, TextRow, bad-name, bad-word, closed-too-often, ends-early, fail, grammar-fault}
 use Rattle.script.specs.Rows.{header-differs, infeasible, name-taken, never-closed, not-carried, past-limit, shape-unknown, sort-fault, too-long}
-use Rattle.script.proofs.WordFaults.{OwnFault, OwnKind, a-literal, a-numeral, a-symbol, closes, faulty, kind-own, opens}
+use Rattle.script.proofs.WordFaults.{OwnFault, OwnKind, a-keyword, a-literal, a-numeral, a-symbol, closes, faulty, kind-own, opens}
 use Rattle.script.proofs.WordsBelow.{Below, item-below, stands-below}
 use Rattle.script.specs.code.Answers.{failAnswer, infeasibleAnswer, nameAnswer, shapeAnswer}
 
@@ -150,6 +150,7 @@ own-of closes = none-there
 own-of a-numeral = none-there
 own-of a-literal = none-there
 own-of a-symbol = none-there
+own-of a-keyword = none-there
 own-of (faulty o) = own-fault o
 
 -- the lesser of two
@@ -246,7 +247,7 @@ module _ (text : List ℕ) (nowhere : ℕ) (all : nowhere ≡ length (wordsOf te
   command-row : (counts : Counts) (k : Known) (at : ℕ) (c : Items) (after : Known) → at < nowhere → ReadRow text (judged counts nowhere k at c after)
   unfolding judged tested
   command-row counts k at c after h =
-      either (ReadRow text) (notCarried c) (λ t. refuses (ScriptRow.of-text (not-carried (there at h))))
+      either (ReadRow text) (notCarried (k .weights) c) (λ t. refuses (ScriptRow.of-text (not-carried (there at h))))
       (either (ReadRow text) (not (commandShape c) || outOfPlace k c) (λ t. refuses (ScriptRow.of-text (shape-unknown (there at h))))
       (either (ReadRow text) (ltb (limitPlace counts nowhere k at c) nowhere) (λ t. refuses (ScriptRow.of-text (past-limit (tested-there _ t))))
       (either (ReadRow text) (ltb (namePlace nowhere k c) nowhere) (λ t. name-row k c _ t)

@@ -1,7 +1,7 @@
 -- Rules of a grammar that passes: each has the sort of its non-terminal, of which there is one for each group that is listed.
 use Prim.Native.Nat.{ℕ, zero, suc, _+_, _≤_, _<_}
 use native.Mathlib.Omega.{arith}
-use mathlib.Core.Bool.{cond, true}
+use mathlib.Core.Bool.{Bool, cond, false, true}
 use mathlib.Core.List.{List, [], _∷_, _++_, map}
 use mathlib.Core.Option.{Option, none as nothing, some}
 use mathlib.Core.Path.{_≡_, refl}
@@ -14,13 +14,14 @@ use Rattle.derivation.specs.Derivation.{Rule, formOf, headOf, rule}
 use Rattle.derivation.specs.Sorts.{formSorts}
 use Rattle.words.specs.Trees.{wordOf}
 use Rattle.lexemes.specs.Lists.{Items, inside, item}
+use Rattle.shapes.specs.Shapes.{attributesOf, isAnnotated}
 use Rattle.names.specs.New.{namedBy}
 use Rattle.names.specs.Scopes.{Named, View, formsOf as formIn, namedSorts}
 use Rattle.term_nodes.specs.Rules.{Ruled, rulesIn, rulesOf, weightIn}
 use Rattle.term_faults.specs.Faults.{oneSort, rawSorts, ruleMisfit, scopeOf}
 use Rattle.written_sorts.specs.Written.{sortOf}
 use Rattle.grammars.specs.Listing.{listingMisfit}
-use Rattle.script.proofs.WordsBelow.{Below, inside-below, item-below, no-fault}
+use Rattle.script.proofs.WordsBelow.{Below, after-below, inside-below, item-below, no-fault}
 
 -- A term of one sort has that sort.
 pub one-sort : (sorts : Option (List ℕ)) (s : ℕ) → oneSort sorts s ≡ true → sorts ≡ some (s ∷ [])
@@ -29,9 +30,10 @@ one-sort (some []) s h = apart h
 one-sort (some (t ∷ [])) s h = rw (eqb-true t s h)
 one-sort (some (t ∷ u ∷ more)) s h = apart h
 
--- A rule's first word is below nowhere, and its non-terminal is one of the first `most`.
+-- A rule's first word and its attributes are below nowhere, and its non-terminal is one of the first `most`.
 pub record Placed (nowhere most : ℕ) (r : Ruled) : Type 0 where
   pub first : r .first < nowhere
+  pub attributes : Below nowhere (r .attributes)
   pub head : r .head < most
 
 -- The same of all rules.
@@ -49,7 +51,12 @@ module _ {nowhere most : ℕ} where
   rules-placed : (A : ℕ) → A < most → (F : Items) → Below nowhere F → AllPlaced nowhere most (rulesOf A F)
   unfolding Below rulesOf
   rules-placed A h none b = no-rule
-  rules-placed A h (tree l ops more) b = also (record { first = b .0 .first; head = h }) (rules-placed A h more (b .2))
+  rules-placed A h (tree l ops more) b =
+      also (record { first = b .0 .first; attributes = attributes (isAnnotated l ops); head = h }) (rules-placed A h more (b .2))
+    where
+      attributes : (t : Bool) → Below nowhere (cond t (attributesOf ops) none)
+      attributes true = after-below nowhere 2 ops (b .1)
+      attributes false = tt
 
   -- The rules of the groups are so, where there are no more groups than non-terminals.
   pub groups-placed : (A : ℕ) (groups : Items) → A + count groups ≤ most → Below nowhere groups → AllPlaced nowhere most (rulesIn A groups)

@@ -6,7 +6,7 @@ use mathlib.Core.List.{List, _++_}
 use Rattle.forest.specs.Forest.{none, tree}
 use Rattle.words.specs.Trees.{Lexeme, wordOf}
 use Rattle.lexemes.specs.Lists.{Items, inside, is, item}
-use Rattle.shapes.specs.Shapes.{isPattern}
+use Rattle.shapes.specs.Shapes.{isAnnotated, isPattern}
 use Rattle.written_sorts.specs.Written.{groupPlace, leastIn, rulePlace, sortPlace}
 use Rattle.written_sorts.specs.declared.Fault.the-variants.{TooWide}
 use Rattle.term_sorts.specs.code.Signatures.{Every}
@@ -21,14 +21,16 @@ module _ (nowhere : ℕ) (some : 0 < nowhere) where
   -- The sort of a rule.
   rule-narrow : (l : Lexeme) (ops : Items) → Below nowhere ops → nowhere ≤ rulePlace TooWide nowhere l ops → Every NarrowNode (rawRule l ops)
   unfolding Every
-  rule-narrow l ops below h = go (isPattern l ops) h
+  rule-narrow l ops below h = go (isPattern l ops) (isAnnotated l ops) h
     where
-      go : (b : Bool) → nowhere ≤ cond b (sortPlace TooWide nowhere (item 1 ops) (inside 1 ops)) nowhere
-          → Every NarrowNode (cond b (tree (pattern (wordOf l) (is "Constant" (item 0 ops)) (item 1 ops) (inside 1 ops)) none none) (rawTerm l ops))
-      go true h =
+      go : (b t : Bool) → nowhere ≤ cond b (sortPlace TooWide nowhere (item 1 ops) (inside 1 ops)) nowhere
+          → Every NarrowNode (cond b (tree (pattern (wordOf l) (is "Constant" (item 0 ops)) (item 1 ops) (inside 1 ops)) none none)
+          (cond t (rawTerm (item 1 ops) (inside 1 ops)) (rawTerm l ops)))
+      go true t h =
           let held = inside-below nowhere 1 ops below in
           (sort-narrow nowhere (item 1 ops) (inside 1 ops) (item-below some 2 (inside 1 ops) held .first) h, tt, tt)
-      go false h = term-narrow l ops
+      go false true h = term-narrow (item 1 ops) (inside 1 ops)
+      go false false h = term-narrow l ops
 
   -- The sorts of the rules of a non-terminal, and of the rules behind them.
   group-narrow : (A : ℕ) (rules : Items) → Below nowhere rules → nowhere ≤ leastIn nowhere (rulePlace TooWide nowhere) rules

@@ -20,7 +20,7 @@ use Rattle.derivation.specs.code.Tables.{formTable, itemCode, itemRow, itemValu
 use Rattle.lexemes.specs.Reserved.{isWord}
 use Rattle.term_sorts.specs.Forms.{FormScope}
 use Rattle.term_sorts.specs.code.Signatures.{AllReal, Every, Real}
-use Rattle.words.specs.Trees.{Lexeme, list, literal as literal-word, numeral, symbol, wordOf}
+use Rattle.words.specs.Trees.{Lexeme, keyword, list, literal as literal-word, numeral, symbol, wordOf}
 use Rattle.lexemes.specs.Lists.{Items, inside, is, isConstantWord, item, nameOf, numeralOf}
 use Rattle.lexemes.specs.code.Standing.{Source}
 use Rattle.term_nodes.specs.code.Says.{AllSay}
@@ -57,12 +57,14 @@ headed-written at (symbol head name) held ops = go (is "_" (symbol head name)) (
     go false c = tt
 headed-written at (list head close) held ops = tt
 headed-written at (numeral head v) held ops = tt
+headed-written at (keyword head name) held ops = tt
 headed-written at (literal-word head width v written) held ops = tt
 
 -- The node of an item is none.
 node-written : (l : Lexeme) (ops : Items) → Written (rawOf l ops)
 node-written (symbol at name) ops = tt
 node-written (numeral at v) ops = tt
+node-written (keyword at name) ops = tt
 node-written (literal-word at width v bytes) ops = tt
 node-written (list at close) ops = headed-written at (item 0 ops) (inside 0 ops) ops
 

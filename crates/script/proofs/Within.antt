@@ -13,7 +13,9 @@ use Rattle.lexemes.specs.code.Standing.{Source, Stands, bracketed, ends, word}
 use Rattle.lexemes.proofs.Standing.{forward}
 use Rattle.term_faults.specs.code.Bodies.{Rising}
 use Rattle.term_faults.specs.code.Grammars.{AllSingle}
+use Rattle.term_faults.proofs.Rooted.{first-low}
 use Rattle.term_nodes.specs.Rules.{Ruled, itemPast, rulePast, sides}
+use Rattle.term_nodes.specs.Terms.{firstWord}
 use Rattle.script.proofs.WordsBelow.{Below, item-below, no-fault}
 
 -- Items stand somewhere between word i and word e.
@@ -50,15 +52,15 @@ pub items-few : (nowhere most : ℕ) (F : Items) → 0 < nowhere → Below nowhe
 items-few nowhere most F some below h = leb-true (count F) most (no-fault (leb (count F) most) (item-below some most F below .first) h)
 
 -- Rules of which none is past the limit are no more than that.
-pub rules-few : (nowhere most : ℕ) (rules : List Ruled) (low high : ℕ) → AllSingle rules → Rising low high (sides rules) → high ≤ nowhere
+pub rules-few : (lexemes : List ℕ) (nowhere most : ℕ) (rules : List Ruled) (low high : ℕ) → AllSingle lexemes rules → Rising low high (sides rules) → high ≤ nowhere
     → nowhere ≤ rulePast nowhere most rules → length rules ≤ most
 unfolding AllSingle Rising join rulePast sides
-rules-few nowhere most [] low high single rising h past = omega arith
-rules-few nowhere most (r ∷ more) low high ((root, operands, is, begins), others) rising h past =
-    go (leb 1 most) refl past (rw is at rising) (λ mid later f. rules-few nowhere (most - 1) more mid high others later h f)
+rules-few lexemes nowhere most [] low high single rising h past = omega arith
+rules-few lexemes nowhere most (r ∷ more) low high ((root, operands, is, begins), others) rising h past =
+    go (leb 1 most) refl past (rw is at rising) (λ mid later f. rules-few lexemes nowhere (most - 1) more mid high others later h f)
   where
     go : (some : Bool) → leb 1 most ≡ some → nowhere ≤ cond some (rulePast nowhere (most - 1) more) (r .first)
         → Rising low high (tree root operands (sides more))
         → ((mid : ℕ) → Rising mid high (sides more) → nowhere ≤ rulePast nowhere (most - 1) more → length more ≤ most - 1) → suc (length more) ≤ most
     go true e f (mid, above, below, by, inner, later) fewer = omega (arith, leb-true 1 most e, fewer mid later f)
-    go false e f (mid, above, below, by, inner, later) fewer = absurd (omega arith)
+    go false e f (mid, above, below, by, inner, later) fewer = absurd (omega (arith, first-low lexemes (firstWord root), begins))

@@ -5,13 +5,13 @@ use mathlib.Core.Bool.{Bool, true, false, cond}
 use mathlib.Core.List.{List, [], _∷_}
 use lib.Dec.{eqb}
 use Rattle.word_kinds.specs.Bytes.{digit, uncarried}
-use Rattle.word_kinds.specs.Kinds.{formed, hashed, kindOf, literal, numeral, symbol}
+use Rattle.word_kinds.specs.Kinds.{formed, hashed, keywordForm, kindOf, literal, marked, numeral, symbol}
 use Rattle.word_kinds.specs.declared.Class.{Class}
 use Rattle.word_kinds.specs.declared.Class.the-variants.{BinaryDigits, HexDigits}
 use Rattle.word_kinds.specs.declared.Fault.{Fault}
 use Rattle.word_kinds.specs.declared.Fault.the-variants.{BadWord, PastLimit, NotCarried}
 use Rattle.word_kinds.specs.declared.Kind.{Kind}
-use Rattle.word_kinds.specs.declared.Kind.the-variants.{Open, Close, Numeral, Literal, Symbol, Faulty}
+use Rattle.word_kinds.specs.declared.Kind.the-variants.{Open, Close, Numeral, Literal, Symbol, Keyword, Faulty}
 
 -- A fault that a word has by its own bytes.
 pub data OwnFault : Fault → Type 0 where
@@ -26,6 +26,7 @@ pub data OwnKind : Kind → Type 0 where
   a-numeral : {v : ℕ} → OwnKind (Numeral v)
   a-literal : {width v : ℕ} → OwnKind (Literal width v)
   a-symbol : OwnKind Symbol
+  a-keyword : OwnKind Keyword
   faulty : {fault : Fault} → OwnFault fault → OwnKind (Faulty fault)
 
 -- By the one or the other.
@@ -51,12 +52,12 @@ hashed-own (b ∷ w) = either (eqb b (code "x")) (literal-own HexDigits 4 w) (ei
 
 -- Every word.
 pub kind-own : (bytes : List ℕ) → OwnKind (kindOf bytes)
-unfolding kindOf numeral symbol
+unfolding kindOf marked numeral symbol
 kind-own [] = faulty bad-word
 kind-own (b ∷ w) =
     either (eqb b (code "(")) opens
     (either (eqb b (code ")")) closes
-    (either (uncarried b) (faulty not-carried)
+    (either (uncarried b) (either (keywordForm (b ∷ w)) a-keyword (faulty not-carried))
     (either (digit b) (formed-own _ _ a-numeral)
     (either (eqb b (code "#")) (hashed-own w)
     (formed-own _ _ a-symbol)))))

@@ -8,8 +8,8 @@ use lib.Dec.{ltb}
 use borrow.Author.Tests.{ltb-false}
 use Rattle.forest.specs.Forest.{none, tree}
 use Rattle.forest.proofs.Bools.{apart}
-use Rattle.words.specs.Trees.{Lexeme, list, literal, numeral, symbol, wordOf}
-use Rattle.lexemes.specs.Lists.{Items, closeOf, inside, isList, item, numeralOf}
+use Rattle.words.specs.Trees.{Lexeme, keyword, list, literal, numeral, symbol, wordOf}
+use Rattle.lexemes.specs.Lists.{Items, after, closeOf, inside, isList, item, numeralOf}
 use Rattle.lexemes.specs.code.Standing.{Source, Stands, bracketed, ends, word}
 use Rattle.lexemes.proofs.Standing.{forward, here}
 use Rattle.written_sorts.specs.Written.{sortOf, sortPlace}
@@ -31,6 +31,7 @@ closed-by-itself : (l : Lexeme) → isList l ≡ false → closeOf l ≡ wordOf 
 closed-by-itself (list at close) h = apart (sym h)
 closed-by-itself (symbol at name) h = refl
 closed-by-itself (numeral at v) h = refl
+closed-by-itself (keyword at name) h = refl
 closed-by-itself (literal at width v written) h = refl
 
 -- The words of items are below the word that they stand before.
@@ -51,6 +52,13 @@ unfolding Below item
 item-below h k none b = record { first = h; last = h }
 item-below h zero (tree l ops more) b = b .0
 item-below h (suc k) (tree l ops more) b = item-below h k more (b .2)
+
+-- The words of the items from one of them on are below n.
+pub after-below : (n k : ℕ) (F : Items) → Below n F → Below n (after k F)
+unfolding Below after
+after-below n zero F b = b
+after-below n (suc k) none b = tt
+after-below n (suc k) (tree l ops more) b = after-below n k more (b .2)
 
 -- The words of what an item holds are below n.
 pub inside-below : (n k : ℕ) (F : Items) → Below n F → Below n (inside k F)

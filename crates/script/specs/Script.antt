@@ -26,10 +26,11 @@ use Rattle.term_nodes.specs.Terms.{rawTerm}
 use Rattle.written_sorts.specs.Written.{headerPlace, sortOf, sortPlace}
 use Rattle.written_sorts.specs.declared.Fault.the-variants.{TooWide, Unknown, Empty}
 
--- What the commands before have said: whether the logic was set and `check-synth` was met; variables, constraints and assumptions in script order;
+-- What the commands before have said: whether the logic and the feature were set and `check-synth` was met; variables, constraints and assumptions in script order;
 -- `define-fun`s and functions, the last first.
 pub record Known : Type 0 where
   pub logic : Bool
+  pub weights : Bool
   pub ended : Bool
   pub variables : List Named
   pub defined : List Defined
@@ -39,7 +40,8 @@ pub record Known : Type 0 where
 
 -- Nothing is said before the first command.
 abbrev pub nothingKnown : Known
-nothingKnown = record { logic = false; ended = false; variables = []; defined = []; functions = []; constraints = []; assumptions = [] }
+nothingKnown =
+    record { logic = false; weights = false; ended = false; variables = []; defined = []; functions = []; constraints = []; assumptions = [] }
 
 -- All names in scope.
 abbrev pub scope : Known → List (List ℕ)
@@ -69,14 +71,25 @@ argumentsOf c = namedBy (inside 2 c)
 abbrev pub viewOf : Known → Items → View
 viewOf k c = ruleView k (argumentsOf c) (namedBy (inside 4 c))
 
--- "those two out of place (the first command if it isn't `set-logic`; whatever follows `check-synth`)", a second `set-logic`, and `check-synth` before any
--- `synth-fun`.
+-- Whether the logic line, and no other command, has been read: where it is, each other command that passes is known.
+abbrev pub afterLogic : Known → Bool
+afterLogic k =
+    not (k .weights)
+    && eqb (length (k .variables)) 0
+    && eqb (length (k .defined)) 0
+    && eqb (length (k .functions)) 0
+    && eqb (length (k .constraints)) 0
+    && eqb (length (k .assumptions)) 0
+
+-- "those two out of place (the first command if it isn't `set-logic`; whatever follows `check-synth`)", a second `set-logic`, `check-synth` before any
+-- `synth-fun`, and `set-feature` but "once and straight after the logic line (elsewhere 5 ..)" (E13).
 abbrev pub outOfPlace : Known → Items → Bool
 outOfPlace k c =
     k .ended
     || not (k .logic) && not (is "set-logic" (item 0 c))
     || k .logic && is "set-logic" (item 0 c)
     || is "check-synth" (item 0 c) && eqb (length (k .functions)) 0
+    || is "set-feature" (item 0 c) && not (afterLogic k)
 
 -- By the command's word: what declares a variable, defines a function, synthesizes one, constrains, assumes; nowhere for the others.
 abbrev pub byCommand : Items → (nowhere declared defined synthesized constrained assumed : ℕ) → ℕ
@@ -155,7 +168,7 @@ tested counts nowhere k at c said =
 -- says `said` where it passes.
 unfoldable pub judged : Counts → (nowhere : ℕ) → Known → (at : ℕ) → Items → (said : Known) → Read
 judged counts nowhere k at c said =
-    cond (notCarried c) (refused 6 at 0) (cond (not (commandShape c) || outOfPlace k c) (refused 5 at 0) (tested counts nowhere k at c said))
+    cond (notCarried (k .weights) c) (refused 6 at 0) (cond (not (commandShape c) || outOfPlace k c) (refused 5 at 0) (tested counts nowhere k at c said))
 
 -- The label that a form's node is; in a body, a constraint or an assumption there are no others.
 abbrev pub labelOf : Item → Label
@@ -173,7 +186,7 @@ termsIn (tree i ops more) = tree (labelOf i) (termsIn ops) (termsIn more)
 abbrev pub termOf : View → Lexeme → Items → Terms
 termOf view l ops = termsIn (formsOf view (rawTerm l ops))
 
--- What is known after a command that passes, which is one of the seven that are carried.
+-- What is known after a command that passes, which is one of the eight that are carried.
 unfoldable pub knownAfter : Known → Items → Known
 knownAfter k c =
     let header : Signature = record { arguments = namedSorts (argumentsOf c); result = sortOf (item 3 c) (inside 3 c) } in
@@ -191,6 +204,7 @@ knownAfter k c =
     } in
     record {
       logic = k .logic || is "set-logic" (item 0 c);
+      weights = k .weights || is "set-feature" (item 0 c);
       ended = k .ended || is "check-synth" (item 0 c);
       variables = cond (is "declare-var" (item 0 c)) (k .variables ++ variable ∷ []) (k .variables);
       defined = cond (is "define-fun" (item 0 c)) (record { name = nameOf (item 1 c); at = wordOf (item 1 c); definition = definition } ∷ k .defined) (k .defined);

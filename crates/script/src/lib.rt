@@ -9,6 +9,7 @@ pub mod signatures;
 // forms are taken.
 pub struct Progress {
     pub logic: bool,
+    pub weights: bool,
     pub ended: bool,
     pub variables: usize,
     pub defined: usize,

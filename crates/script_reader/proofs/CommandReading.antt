@@ -44,19 +44,23 @@ module _ {text lexemes names raw places nodes forms : List ℕ} {p : Progress} {
         forms-within = λ z. absurd (omega arith);
       }
 
-  module _ {uncarried : Bool} (found : (x : ListAt lexemes i) → uncarried ≡ notCarried (x .operands)) where
+  module _ {uncarried : Bool} (found : (x : ListAt lexemes i) → uncarried ≡ notCarried (p .weights) (x .operands)) where
+    -- By what is known.
+    known-uncarried : (c : Commanded text lexemes names raw places nodes forms p i nowhere) → uncarried ≡ notCarried (c .known .weights) (c .here .command)
+    known-uncarried c = found (listed (c .here)) ∙ ap (λ (w : Bool). notCarried w (c .here .command)) (c .tables .counted .weights-is)
+
     -- 6.
     pub read-uncarried : uncarried ≡ true → {s : Step} → s ≡ record { number = uncarriedAnswer; place = i; second = 0; progress = p }
         → (c : Commanded text lexemes names raw places nodes forms p i nowhere) → CommandRead c names places nodes forms s
     read-uncarried taken e c =
         refusal c uncarriedAnswer (omega arith) e
-        (judged-uncarried allowed nowhere (c .known) i (c .here .command) _ (sym (found (listed (c .here))) ∙ taken))
+        (judged-uncarried allowed nowhere (c .known) i (c .here .command) _ (sym (known-uncarried c) ∙ taken))
 
     module _ (left : uncarried ≡ false) {code : ℕ} (coded : code ≡ codeAt lexemes (i + 1)) {shape : Bool}
         (shapes : (x : ListAt lexemes i) → shape ≡ commandShape (x .operands)) {out : Bool} (placed : out ≡ outOfPlaceBy p code) where
       -- The command is carried.
-      carried : (c : Commanded text lexemes names raw places nodes forms p i nowhere) → notCarried (c .here .command) ≡ false
-      carried c = sym (found (listed (c .here))) ∙ left
+      carried : (c : Commanded text lexemes names raw places nodes forms p i nowhere) → notCarried (c .known .weights) (c .here .command) ≡ false
+      carried c = sym (known-uncarried c) ∙ left
 
       -- The second test is that of its shape and its place.
       test-is : (c : Commanded text lexemes names raw places nodes forms p i nowhere)

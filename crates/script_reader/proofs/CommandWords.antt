@@ -8,7 +8,7 @@ use Rattle.forest.specs.Limits.{scriptWords}
 use Rattle.lexemes.specs.Lists.{after, closeOf, is}
 use Rattle.lexemes.specs.code.Table.{codeAt, nextAt}
 use Rattle.lexemes.specs.code.Standing.{ListAt}
-use Rattle.lexemes.specs.code.Codes.{assumeCode, checkSynthCode, constraintCode, declareVarCode, defineFunCode, setLogicCode, synthFunCode}
+use Rattle.lexemes.specs.code.Codes.{assumeCode, checkSynthCode, constraintCode, declareVarCode, defineFunCode, setFeatureCode, setLogicCode, synthFunCode}
 use Rattle.lexemes.proofs.ByCode.{codeFor, front-word, frontCode}
 use Rattle.lexemes.proofs.Listed.{first-code, held}
 use Rattle.lexemes.proofs.Standing.{forward}
@@ -47,6 +47,7 @@ module _ {text lexemes : List ℕ} {i nowhere : ℕ} where
         synthesizes = front-word "synth-fun" refl 0 (h .command) ∙ ap (λ (n : ℕ). eqb n synthFunCode) front;
         constrains = front-word "constraint" refl 0 (h .command) ∙ ap (λ (n : ℕ). eqb n constraintCode) front;
         ends = front-word "check-synth" refl 0 (h .command) ∙ ap (λ (n : ℕ). eqb n checkSynthCode) front;
+        features = front-word "set-feature" refl 0 (h .command) ∙ ap (λ (n : ℕ). eqb n setFeatureCode) front;
         assumes = front-word "assume" refl 0 (h .command) ∙ ap (λ (n : ℕ). eqb n assumeCode) front;
       }
 

@@ -28,11 +28,11 @@ Numbered (passed k) = Unit {0}
 
 module _ (counts : Counts) (nowhere : ℕ) (k : Known) (at : ℕ) (c : Items) (said : Known) where
   -- 6.
-  pub judged-uncarried : notCarried c ≡ true → judged counts nowhere k at c said ≡ refused uncarriedAnswer at 0
+  pub judged-uncarried : notCarried (k .weights) c ≡ true → judged counts nowhere k at c said ≡ refused uncarriedAnswer at 0
   unfolding judged
   judged-uncarried e = rw e
 
-  module _ (carried : notCarried c ≡ false) where
+  module _ (carried : notCarried (k .weights) c ≡ false) where
     -- 5, where it is carried.
     pub judged-misplaced : not (commandShape c) || outOfPlace k c ≡ true → judged counts nowhere k at c said ≡ refused shapeAnswer at 0
     unfolding judged
@@ -48,7 +48,7 @@ module _ (counts : Counts) (nowhere : ℕ) (k : Known) (at : ℕ) (c : Items) (s
   unfolding judged tested
   judged-numbered =
       go
-      (notCarried c)
+      (notCarried (k .weights) c)
       (not (commandShape c) || outOfPlace k c)
       (ltb (limitPlace counts nowhere k at c) nowhere)
       (ltb (namePlace nowhere k c) nowhere)

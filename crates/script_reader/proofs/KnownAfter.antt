@@ -29,7 +29,20 @@ behind few a = simp length-append
 
 -- Whether a command is out of place, by its code.
 pub out-by : {p : Progress} {k : Known} {c : Items} {code : ℕ} → Counted p k → Chosen c code → outOfPlaceBy p code ≡ outOfPlace k c
-out-by n t = rw (n .logic-is, n .ended-is, n .functions-are, t .sets, t .ends)
+out-by n t =
+    rw (
+      n .logic-is,
+      n .weights-is,
+      n .ended-is,
+      n .variables-are,
+      n .defined-are,
+      n .functions-are,
+      n .constraints-are,
+      n .assumptions-are,
+      t .sets,
+      t .ends,
+      t .features,
+    )
 
 module _ (k : Known) {c : Items} {code : ℕ} (t : Chosen c code) where
   -- Only `declare-var` adds a variable.
@@ -65,6 +78,7 @@ module _ (k : Known) {c : Items} {code : ℕ} (t : Chosen c code) where
   unfolding knownAfter
   counted-after rows n variables defined functions constraints assumptions = record {
     logic-is = ap₂ _||_ (n .logic-is) (sym (t .sets));
+    weights-is = ap₂ _||_ (n .weights-is) (sym (t .features));
     ended-is = ap₂ _||_ (n .ended-is) (sym (t .ends));
     variables-are = ap (λ (m : ℕ). cond (eqb code declareVarCode) (m + 1) m) (n .variables-are) ∙ sym (longer _ _ _ (k .variables) (t .declares) (behind (k .variables) _));
     defined-are = ap (λ (m : ℕ). cond (eqb code defineFunCode) (m + 1) m) (n .defined-are) ∙ sym (longer _ _ _ (k .defined) (t .defines) (omega arith));

@@ -41,6 +41,7 @@ unfolding namesFrom sortsFrom declaredFrom inOrder declaredInOrder ArgumentsHold
 nothing-held nodes forms table long = record {
   counted = record {
     logic-is = refl;
+    weights-is = refl;
     ended-is = refl;
     variables-are = refl;
     defined-are = refl;

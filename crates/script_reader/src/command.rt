@@ -69,7 +69,7 @@ pub fn read_command(
 {
     let progress = command.progress;
     let at = command.at;
-    if not_carried(lexemes, at) {
+    if not_carried(lexemes, at, progress.weights) {
         return answer(NOT_CARRIED, at, 0, progress);
     }
     let code = code_at(lexemes, at + 1);

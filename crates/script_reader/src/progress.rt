@@ -5,6 +5,7 @@ use lexemes::codes::CHECK_SYNTH;
 use lexemes::codes::CONSTRAINT;
 use lexemes::codes::DECLARE_VAR;
 use lexemes::codes::DEFINE_FUN;
+use lexemes::codes::SET_FEATURE;
 use lexemes::codes::SET_LOGIC;
 use lexemes::codes::SYNTH_FUN;
 use script::Progress;
@@ -15,7 +16,19 @@ ghost use mathlib.Core.Path.{_≡_};
 ghost use Prim.Native.Nat.{_+_, _≤_};
 ghost use Rattle.forest.specs.Limits.{scriptWords};
 ghost use Rattle.script_reader.specs.code.Commands.{saidBy};
-ghost use Rattle.script_reader.specs.code.Progress.{Few, Stepped, outOfPlaceBy};
+ghost use Rattle.script_reader.specs.code.Progress.{Few, Stepped, afterLogicBy, outOfPlaceBy};
+
+// Whether the logic line, and no other command, has been read.
+fn after_logic(progress: Progress) -> bool
+    ensures { λ r. ⌜ r ≡ afterLogicBy progress ⌝ }
+{
+    !progress.weights
+        & (progress.variables == 0)
+        & (progress.defined == 0)
+        & (progress.functions == 0)
+        & (progress.constraints == 0)
+        & (progress.assumptions == 0)
+}
 
 // Whether a command of the code is out of place.
 pub fn out_of_place(progress: Progress, code: u64) -> bool
@@ -25,6 +38,7 @@ pub fn out_of_place(progress: Progress, code: u64) -> bool
         | (!progress.logic & (code != SET_LOGIC))
         | (progress.logic & (code == SET_LOGIC))
         | ((code == CHECK_SYNTH) & (progress.functions == 0))
+        | ((code == SET_FEATURE) & !after_logic(progress))
 }
 
 // A number that grows by some where the test says so.
@@ -46,6 +60,7 @@ fn said(progress: Progress, code: u64, rows: usize) -> Progress
     let term = (code == DEFINE_FUN) | (code == CONSTRAINT) | (code == ASSUME);
     Progress {
         logic: progress.logic | (code == SET_LOGIC),
+        weights: progress.weights | (code == SET_FEATURE),
         ended: progress.ended | (code == CHECK_SYNTH),
         variables: grown(progress.variables, code == DECLARE_VAR, 1),
         defined: grown(progress.defined, code == DEFINE_FUN, 1),

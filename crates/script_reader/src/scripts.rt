@@ -18,6 +18,7 @@ pub fn nothing_said() -> Progress
 {
     Progress {
         logic: false,
+        weights: false,
         ended: false,
         variables: 0,
         defined: 0,

@@ -15,17 +15,26 @@ use Rattle.lexemes.specs.code.Standing.{ListAt}
 use Rattle.lexemes.proofs.ByCode.{codeFor, front-constant, front-word, front-words, frontCode}
 use Rattle.lexemes.proofs.Standing.{front}
 use Rattle.lexemes.proofs.Listed.{first-code, held}
-use Rattle.lexemes.proofs.Spelt.{behind-word}
+use Rattle.lexemes.proofs.Spelt.{after-two, behind-word}
 use Rattle.shapes.specs.Shapes.{setLogicShape}
 use Rattle.shapes.specs.Carried.{noGrammar, otherLogic, uncarriedStart}
 
 module _ {lexemes : List ℕ} {at : ℕ} where
   -- the second word of a list whose first is no bracket
-  second-code : (x : ListAt lexemes at) → numeralCode ≤ frontCode (x .operands) → codeAt lexemes (at + 2) ≡ frontCode (after 1 (x .operands))
+  pub second-code : (x : ListAt lexemes at) → numeralCode ≤ frontCode (x .operands) → codeAt lexemes (at + 2) ≡ frontCode (after 1 (x .operands))
   second-code x h =
       let l = held x in
       let e : at + 1 + 1 ≡ at + 2 = omega arith in
       rw (← e) (front (x .same) (behind-word (x .same) (x .operands) (l .stands) h) (l .closes))
+
+  -- the third word of a list whose first two are no brackets
+  pub third-code : (x : ListAt lexemes at) → numeralCode ≤ frontCode (x .operands) → numeralCode ≤ frontCode (after 1 (x .operands))
+      → codeAt lexemes (at + 3) ≡ frontCode (after 2 (x .operands))
+  third-code x h k =
+      let l = held x in
+      let e : at + 1 + 1 + 1 ≡ at + 3 = omega arith in
+      let behind = behind-word (x .same) (after 1 (x .operands)) (behind-word (x .same) (x .operands) (l .stands) h) k in
+      rw (← e, after-two (x .operands)) (front (x .same) behind (l .closes))
 
   module _ {first : ℕ} (ef : first ≡ codeAt lexemes (at + 1)) {second : ℕ} (es : second ≡ codeAt lexemes (at + 2)) where
     pub start-test : (x : ListAt lexemes at)

@@ -5,13 +5,13 @@ use mathlib.Core.Bool.{Bool, false, cond}
 use mathlib.Core.List.{List}
 use lib.Dec.{eqb}
 use borrow.Author.Tests.{ne-eqb}
-use Rattle.lexemes.specs.code.Codes.{assumeCode, checkSynthCode, constraintCode, declareVarCode, defineFunCode, setLogicCode, synthFunCode}
+use Rattle.lexemes.specs.code.Codes.{assumeCode, checkSynthCode, constraintCode, declareVarCode, defineFunCode, setFeatureCode, setLogicCode, synthFunCode}
 use Rattle.lexemes.specs.Lists.{Items, after}
 use Rattle.lexemes.specs.code.Table.{codeAt}
 use Rattle.lexemes.specs.code.Standing.{ListAt}
 use Rattle.lexemes.proofs.ByCode.{codeFor, front-word, frontCode}
 use Rattle.lexemes.proofs.Listed.{first-code}
-use Rattle.shapes.specs.Shapes.{checkSynthShape, commandShape, constraintShape, declareVarShape, defineFunShape, setLogicShape, synthFunShape}
+use Rattle.shapes.specs.Shapes.{checkSynthShape, commandShape, constraintShape, declareVarShape, defineFunShape, setFeatureShape, setLogicShape, synthFunShape}
 
 -- the shape of the command that a code names
 abbrev pub shapeBy : (code : ℕ) → Items → Bool
@@ -23,7 +23,8 @@ shapeBy code F =
     (cond (eqb code constraintCode) (constraintShape F)
     (cond (eqb code checkSynthCode) (checkSynthShape F)
     (cond (eqb code assumeCode) (constraintShape F)
-    false))))))
+    (cond (eqb code setFeatureCode) (setFeatureShape F)
+    false)))))))
 
 by-word : (F : Items) → commandShape F ≡ shapeBy (frontCode F) F
 unfolding after codeFor commandShape
@@ -36,6 +37,7 @@ by-word F =
       front-word "constraint" refl 0 F,
       front-word "check-synth" refl 0 F,
       front-word "assume" refl 0 F,
+      front-word "set-feature" refl 0 F,
     )
 
 module _ {lexemes : List ℕ} {at : ℕ} {command : ℕ} (ec : command ≡ codeAt lexemes (at + 1)) where
@@ -47,9 +49,9 @@ module _ {lexemes : List ℕ} {at : ℕ} {command : ℕ} (ec : command ≡ codeA
   named-command e x = sym (by-word (x .operands) ∙ ap (λ (k : ℕ). shapeBy k (x .operands)) (front-is x ∙ e))
 
   pub no-command : (command ≡ setLogicCode → ⊥) → (command ≡ declareVarCode → ⊥) → (command ≡ defineFunCode → ⊥)
-      → (command ≡ synthFunCode → ⊥) → (command ≡ constraintCode → ⊥) → (command ≡ checkSynthCode → ⊥) → (command ≡ assumeCode → ⊥)
+      → (command ≡ synthFunCode → ⊥) → (command ≡ constraintCode → ⊥) → (command ≡ checkSynthCode → ⊥) → (command ≡ assumeCode → ⊥) → (command ≡ setFeatureCode → ⊥)
       → (x : ListAt lexemes at) → false ≡ commandShape (x .operands)
-  no-command n8 n9 n10 n11 n12 n13 n14 x =
+  no-command n8 n9 n10 n11 n12 n13 n14 n15 x =
       let e8 = ne-eqb command setLogicCode n8 in
       let e9 = ne-eqb command declareVarCode n9 in
       let e10 = ne-eqb command defineFunCode n10 in
@@ -57,4 +59,5 @@ module _ {lexemes : List ℕ} {at : ℕ} {command : ℕ} (ec : command ≡ codeA
       let e12 = ne-eqb command constraintCode n12 in
       let e13 = ne-eqb command checkSynthCode n13 in
       let e14 = ne-eqb command assumeCode n14 in
-      rw (e8, e9, e10, e11, e12, e13, e14) at (named-command refl x)
+      let e15 = ne-eqb command setFeatureCode n15 in
+      rw (e8, e9, e10, e11, e12, e13, e14, e15) at (named-command refl x)

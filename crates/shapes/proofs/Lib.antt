@@ -3,7 +3,11 @@ pub mod TestsByCode
 pub mod Shaped
 pub mod Every
 pub mod TermWalk
+pub mod Annotated
 pub mod Choosing
 pub mod CarriedWalks
 pub mod CarriedTests
+pub mod AnyOf
+pub mod WholeRules
+pub mod FeatureTests
 pub mod CarriedChoosing

@@ -13,7 +13,7 @@ use Rattle.lexemes.specs.code.Table.{codeAt, nextAt, openCode}
 use Rattle.lexemes.specs.code.Standing.{Between, ItemAt, ListAt}
 use Rattle.lexemes.proofs.Listed.{as-list, between, is-list, list-from}
 use Rattle.shapes.specs.Shapes.{all, constraintShape, declareVarShape, defineFunShape, groupShape, headerShape, isPattern, isListOf, pairShape, ruleShape}
-use Rattle.shapes.specs.Shapes.{setLogicShape, sortShape, synthFunShape, termShape}
+use Rattle.shapes.specs.Shapes.{setLogicShape, sortShape, synthFunShape, termRuleShape, termShape}
 use Rattle.shapes.specs.code.Lists.{ItemOf}
 use Rattle.shapes.proofs.ListItems.{not-so-many, part, so-many}
 
@@ -94,7 +94,7 @@ module _ {lexemes : List ℕ} {at : ℕ} where
 
   -- a rule that is one of the two that are no terms, and another
   module _ {r : Bool} (pattern : Tells lexemes at isPattern r) where
-    pub term-made : not r ≡ true → {t : Bool} → Tells lexemes at termShape t → Tells lexemes at ruleShape t
+    pub term-made : not r ≡ true → {t : Bool} → Tells lexemes at termRuleShape t → Tells lexemes at ruleShape t
     term-made other term y = rw (sym (pattern y) ∙ not-true r other) (term y)
 
     module _ (t : not r ≡ false) where

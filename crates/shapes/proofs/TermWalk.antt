@@ -4,15 +4,18 @@ use native.Mathlib.Omega.{arith}
 use mathlib.Core.Path.{_≡_, refl, sym, ap, _∙_}
 use mathlib.Core.Bool.{Bool, true, false, _&&_, _||_, cond, not, and-assoc, and-true}
 use mathlib.Core.List.{List, [], _∷_}
-use lib.Dec.{leb}
+use lib.Dec.{leb, ltb}
 use borrow.Author.Tests.{leb-true}
-use Rattle.forest.specs.Forest.{count}
+use Rattle.forest.specs.Forest.{count, none}
+use Rattle.forest.specs.Lists.{sameBytes}
 use Rattle.forest.proofs.Bools.{and-left, and-right, apart}
-use Rattle.lexemes.specs.Lists.{Items, indexed, inside, is, isConstant, isList, item}
+use Rattle.lexemes.specs.Lists.{Items, indexed, inside, is, isConstant, isKeyword, isList, item}
+use Rattle.lexemes.specs.code.Codes.{firstCode, weightsCode}
 use Rattle.lexemes.specs.code.Table.{codeAt, nextAt, openCode}
 use Rattle.lexemes.specs.code.Standing.{Between, ItemAt, ListAt}
-use Rattle.lexemes.proofs.Listed.{as-item}
-use Rattle.lexemes.proofs.Pending.{DownAny, at-a-list, behind-less, down-behind, down-end, down-skip, down-start, down-word}
+use Rattle.lexemes.proofs.ByCode.{keyword-code}
+use Rattle.lexemes.proofs.Listed.{as-item, at-item}
+use Rattle.lexemes.proofs.Pending.{DownAny, at-a-list, at-a-word, behind-less, down-behind, down-end, down-skip, down-start, down-word}
 use Rattle.shapes.specs.Shapes.{applicationShape, headShape, indexedShape, termShapes}
 
 -- whether a list is a term
@@ -50,6 +53,11 @@ module _ (F : Items) where
       go true a t = e
       go false a t = rw t
 
+-- no items are no term
+nothing-headed : listTerm none ≡ false
+unfolding count inside item sameBytes
+nothing-headed = refl
+
 -- whether all of the items that are pending further out are terms
 abbrev pub outerTerms : List Items → Bool
 outerTerms [] = true
@@ -69,9 +77,24 @@ module _ {lexemes : List ℕ} {first end : ℕ} where
     terms-end h b = down-end d h b
 
     module _ (h : at < end) {code : ℕ} (ec : code ≡ codeAt lexemes at) where
-      pub terms-word : (code ≡ openCode → ⊥) → DownAny lexemes first end (at + 1) Terms
+      -- a keyword is no term
+      pub terms-keyword : leb weightsCode code && ltb code firstCode ≡ true → (b : Between lexemes first end) → false ≡ termShapes false (b .items)
       unfolding termShapes
-      terms-word other = down-word d h ec other (λ b x source no-list outer known. rw no-list at known) (λ b next outer known. known)
+      terms-keyword t b =
+          let low = leb-true weightsCode code (and-left (leb weightsCode code) (ltb code firstCode) t) in
+          let v = at-a-word d h ec (λ e. omega arith) (λ e. omega arith) b in
+          let x = v .word-here in
+          let key : isKeyword (x .label) ≡ true =
+          keyword-code (x .label) ∙ ap (λ (c : ℕ). leb weightsCode c && ltb c firstCode) (sym (at-item x .code) ∙ sym ec) ∙ t in
+          rw (v .no-list, key, nothing-headed) at (v .known)
+
+      pub terms-word : leb weightsCode code && ltb code firstCode ≡ false → (code ≡ openCode → ⊥) → DownAny lexemes first end (at + 1) Terms
+      unfolding termShapes
+      terms-word plain other =
+          down-word d h ec other (λ b x source no-list outer known. rw (no-list, no-keyword x) at known) (λ b next outer known. known)
+        where
+          no-keyword : (x : ItemAt lexemes at) → isKeyword (x .label) ≡ false
+          no-keyword x = keyword-code (x .label) ∙ ap (λ (c : ℕ). leb weightsCode c && ltb c firstCode) (sym (at-item x .code) ∙ sym ec) ∙ plain
 
       module _ (opens : code ≡ openCode) {r : Bool} (by : (x : ItemAt lexemes at) → r ≡ (isList (x .label) && indexedShape (x .operands))) where
         pub terms-skip : r ≡ true → {next : ℕ} → next ≡ nextAt lexemes at → DownAny lexemes first end next Terms

@@ -4,7 +4,7 @@ use mathlib.Core.List.{[], _∷_}
 use lib.Dec.{eqb, leb}
 use Rattle.forest.specs.Forest.{count, none, tree}
 use Rattle.words.specs.Trees.{Lexeme}
-use Rattle.lexemes.specs.Lists.{Items, indexed, inside, is, isAmong, isConstant, isList, isSymbol, item}
+use Rattle.lexemes.specs.Lists.{Items, after, indexed, inside, is, isAmong, isConstant, isKey, isKeyword, isList, isNumeral, isSymbol, item}
 
 -- A sort is a symbol or `(_ BitVec n)`.
 abbrev pub sortShape : Lexeme → Items → Bool
@@ -23,12 +23,12 @@ applicationShape ops = headShape (item 0 ops) (inside 0 ops) && leb 2 (count ops
 abbrev pub indexedShape : Items → Bool
 indexedShape ops = indexed "extract" 2 ops || isConstant ops
 
--- Terms, one after the other, behind a head or not: words that are no brackets; lists begun by `_`; or lists of a head and terms.
+-- Terms, one after the other, behind a head or not: words that are no brackets and no keywords; lists begun by `_`; or lists of a head and terms.
 unfoldable pub termShapes : (headed : Bool) → Items → Bool
 termShapes headed none = true
 termShapes headed (tree l ops more) =
     (headed
-    || not (isList l)
+    || not (isList l || isKeyword l)
     || cond (is "_" (item 0 ops)) (indexedShape ops) (applicationShape ops && termShapes true ops))
     && termShapes false more
 
@@ -44,9 +44,31 @@ pairShape l ops = isList l && eqb (count ops) 2 && isSymbol (item 0 ops) && sort
 abbrev pub isPattern : Lexeme → Items → Bool
 isPattern l ops = isList l && isAmong ("Constant" ∷ "Variable" ∷ []) (item 0 ops)
 
--- "A rule is `(Constant σ)`, `(Variable σ)` or a binder-free term".
+-- Whether a rule is one that has attributes: a list begun by `!`.
+abbrev pub isAnnotated : Lexeme → Items → Bool
+isAnnotated l ops = isList l && is "!" (item 0 ops)
+
+-- The attributes of such a rule, which follow its term.
+abbrev pub attributesOf : Items → Items
+attributesOf ops = after 2 ops
+
+-- Attributes, one after the other, behind an attribute's keyword or not: each is `:weight` and a numeral.
+unfoldable pub attributesShape : (named : Bool) → Items → Bool
+attributesShape named none = not named
+attributesShape true (tree l ops more) = isNumeral l && attributesShape false more
+attributesShape false (tree l ops more) = isKey ":weight" l && attributesShape true more
+
+-- "rules written `(! t :weight k)`" (E13); document 000: "(! t A+)", where t is a term and each attribute of the rule is a weight.
+abbrev pub annotatedShape : Items → Bool
+annotatedShape ops = leb 4 (count ops) && termShape (item 1 ops) (inside 1 ops) && attributesShape false (attributesOf ops)
+
+-- A rule that is a term, with attributes or without.
+abbrev pub termRuleShape : Lexeme → Items → Bool
+termRuleShape l ops = cond (isAnnotated l ops) (annotatedShape ops) (termShape l ops)
+
+-- "A rule is `(Constant σ)`, `(Variable σ)` or a binder-free term", or such a term with weights (E13).
 abbrev pub ruleShape : Lexeme → Items → Bool
-ruleShape l ops = cond (isPattern l ops) (eqb (count ops) 2 && sortShape (item 1 ops) (inside 1 ops)) (termShape l ops)
+ruleShape l ops = cond (isPattern l ops) (eqb (count ops) 2 && sortShape (item 1 ops) (inside 1 ops)) (termRuleShape l ops)
 
 -- Whether all of the items are of a shape.
 unfoldable pub all : (Lexeme → Items → Bool) → Items → Bool
@@ -90,6 +112,10 @@ constraintShape c = eqb (count c) 2 && termShape (item 1 c) (inside 1 c)
 abbrev pub checkSynthShape : Items → Bool
 checkSynthShape c = eqb (count c) 1
 
+-- "(set-feature <Feature> <BoolConst>)"
+abbrev pub setFeatureShape : Items → Bool
+setFeatureShape c = eqb (count c) 3 && isKeyword (item 1 c) && isAmong ("true" ∷ "false" ∷ []) (item 2 c)
+
 -- Whether a command, by its word, has its shape; an unknown command has none.
 unfoldable pub commandShape : Items → Bool
 commandShape c =
@@ -100,4 +126,5 @@ commandShape c =
     (cond (is "constraint" (item 0 c)) (constraintShape c)
     (cond (is "check-synth" (item 0 c)) (checkSynthShape c)
     (cond (is "assume" (item 0 c)) (constraintShape c)
-    false))))))
+    (cond (is "set-feature" (item 0 c)) (setFeatureShape c)
+    false)))))))

@@ -1,9 +1,10 @@
 //! What is not carried: answer 6 of a command.
+use crate::features::other_feature;
 use crate::forms::set_logic_shape;
 use crate::lists::count_in;
+use crate::whole_rules::command_uncarried;
 use lexemes::OPEN;
 use lexemes::code_at;
-use lexemes::codes::ASSUME;
 use lexemes::codes::BANG;
 use lexemes::codes::BIT_VEC;
 use lexemes::codes::BV;
@@ -12,17 +13,17 @@ use lexemes::codes::EXTRACT;
 use lexemes::codes::FORALL;
 use lexemes::codes::LET;
 use lexemes::codes::OTHER;
+use lexemes::codes::SET_FEATURE;
 use lexemes::codes::SET_LOGIC;
 use lexemes::codes::SYNTH_FUN;
 use lexemes::codes::TRUE;
 use lexemes::codes::UNDERSCORE;
-use lexemes::next_at;
 ghost use mathlib.Core.Path.{_≡_};
 ghost use Rattle.lexemes.specs.code.Standing.{Between, ListAt};
 ghost use Rattle.shapes.specs.Carried.{anyUncarried, noGrammar, notCarried, otherLogic, uncarriedStart};
 
 // Whether a list begins with a word that is not carried there.
-fn uncarried_start(lexemes: &[u64], at: usize) -> bool
+pub(crate) fn uncarried_start(lexemes: &[u64], at: usize) -> bool
     requires { ⌜ ListAt (now lexemes) at ⌝ }
     ensures { λ r. ⌜ ((here : ListAt (now (lexemes .entry)) at) → r ≡ uncarriedStart (here .operands)) ⌝ }
 {
@@ -70,17 +71,18 @@ fn no_grammar(lexemes: &[u64], at: usize) -> bool
     (code_at(lexemes, at + 1) == SYNTH_FUN) & (count_in(lexemes, at) == 4)
 }
 
-// Whether a list is a command that is not carried, or one in which something is not.
-pub fn not_carried(lexemes: &[u64], at: usize) -> bool
+// Whether a list is a command that is not carried, or one in which something is not, with the feature or without.
+pub fn not_carried(lexemes: &[u64], at: usize, weights: bool) -> bool
     requires { ⌜ ListAt (now lexemes) at ⌝ }
-    ensures { λ r. ⌜ ((here : ListAt (now (lexemes .entry)) at) → r ≡ notCarried (here .operands)) ⌝ }
+    ensures { λ r. ⌜ ((here : ListAt (now (lexemes .entry)) at) → r ≡ notCarried weights (here .operands)) ⌝ }
 {
     let command = code_at(lexemes, at + 1);
     if (command < SET_LOGIC) | (command >= TRUE) {
         return false;
     }
-    if (command > ASSUME) | other_logic(lexemes, at) | no_grammar(lexemes, at) {
+    let other = (command > SET_FEATURE) | other_feature(lexemes, at);
+    if other | other_logic(lexemes, at) | no_grammar(lexemes, at) {
         return true;
     }
-    any_uncarried(lexemes, at + 1, next_at(lexemes, at) - 1)
+    command_uncarried(lexemes, at, weights)
 }

@@ -1,4 +1,5 @@
 //! Shapes of commands.
+use crate::features::set_feature_shape;
 use crate::forms::constraint_shape;
 use crate::forms::declare_var_shape;
 use crate::forms::header_shape;
@@ -13,6 +14,7 @@ use lexemes::codes::CHECK_SYNTH;
 use lexemes::codes::CONSTRAINT;
 use lexemes::codes::DECLARE_VAR;
 use lexemes::codes::DEFINE_FUN;
+use lexemes::codes::SET_FEATURE;
 use lexemes::codes::SET_LOGIC;
 use lexemes::codes::SYNTH_FUN;
 ghost use mathlib.Core.Path.{_≡_};
@@ -44,6 +46,7 @@ pub fn command_shape(lexemes: &[u64], at: usize) -> bool
         CONSTRAINT => constraint_shape(lexemes, at),
         CHECK_SYNTH => count_in(lexemes, at) == 1,
         ASSUME => constraint_shape(lexemes, at),
+        SET_FEATURE => set_feature_shape(lexemes, at),
         _ => false,
     }
 }

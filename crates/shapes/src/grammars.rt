@@ -1,10 +1,10 @@
 //! Shapes of rules and of what a grammar lists of a non-terminal.
+use crate::annotations::term_rule_shape;
 use crate::lists::count_in;
 use crate::lists::item_in;
 use crate::lists::symbol_in;
 use crate::rules::is_pattern;
 use crate::sorts::sort_shape;
-use crate::terms::term_shape;
 use lexemes::OPEN;
 use lexemes::code_at;
 use lexemes::next_at;
@@ -18,7 +18,7 @@ fn rule_shape(lexemes: &[u64], at: usize) -> bool
     ensures { λ r. ⌜ ((here : ItemAt (now (lexemes .entry)) at) → r ≡ ruleShape (here .label) (here .operands)) ⌝ }
 {
     if !is_pattern(lexemes, at) {
-        return term_shape(lexemes, at);
+        return term_rule_shape(lexemes, at);
     }
     if count_in(lexemes, at) != 2 {
         return false;

@@ -5,6 +5,7 @@ use lexemes::CLOSE;
 use lexemes::NUMERAL;
 use lexemes::OPEN;
 use lexemes::SYMBOL;
+use lexemes::WEIGHTS;
 use lexemes::code_at;
 use lexemes::codes::CONSTANT;
 use lexemes::codes::EXTRACT;
@@ -75,14 +76,18 @@ fn has_head(lexemes: &[u64], at: usize) -> bool
     (code_at(lexemes, head) != UNDERSCORE) & head_shape(lexemes, head)
 }
 
-// Whether all of the items from a word on to another are terms: one after the other each list is tested, and the walk goes on behind its head.
+// Whether all of the items from a word on to another are terms: none is a keyword, one after the other each list is tested, and the walk goes on behind its head.
 fn term_shapes(lexemes: &[u64], first: usize, end: usize) -> bool
     requires { ⌜ Between (now lexemes) first end ⌝ }
     ensures { λ r. ⌜ ((b : Between (now (lexemes .entry)) first end) → r ≡ termShapes false (b .items)) ⌝ }
 {
     let mut at = first;
     while at < end {
-        if code_at(lexemes, at) != OPEN {
+        let code = code_at(lexemes, at);
+        if (WEIGHTS <= code) & (code < SYMBOL) {
+            return false;
+        }
+        if code != OPEN {
             at += 1;
         } else if is_indexed(lexemes, at) {
             at = next_at(lexemes, at);

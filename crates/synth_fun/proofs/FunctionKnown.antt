@@ -31,6 +31,7 @@ functionOf k c = record {
 abbrev pub withFunction : Known → Items → Known
 withFunction k c = record {
   logic = k .logic || is "set-logic" (item 0 c);
+  weights = k .weights || is "set-feature" (item 0 c);
   ended = k .ended || is "check-synth" (item 0 c);
   variables = k .variables;
   defined = k .defined;

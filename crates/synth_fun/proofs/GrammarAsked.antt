@@ -27,7 +27,7 @@ use Rattle.synth_fun.specs.code.Synthesizing.{formsSaid, ruledBy}
 use Rattle.synth_fun.specs.declared.Header.{Header}
 use Rattle.synth_fun.proofs.FunctionHeld.{arguments-counted, forms-grammar, places-long, rules-counted, rules-grammar, sorts-grammar}
 use Rattle.synth_fun.proofs.SortsSought.{forms-room, limits}
-use Rattle.synth_fun.proofs.SynthFunParts.{synth-at}
+use Rattle.synth_fun.proofs.SynthFunParts.{rules-within, synth-at}
 
 -- ---- slices that are parts of the tables
 
@@ -61,7 +61,7 @@ module _ {text lexemes names raw places forms : List ℕ} {p : Progress} {g : Ga
       let c = s .given .of .here .command in
       let first = command-word (s .given .of .here) in
       grammar-admitted (viewOf (s .given .of .known) c) c (omega arith) (command-below (s .given .of .here)) fits (omega (arith, s .counted, s .few))
-      (omega (arith, named-long (inside 4 c), limits s .few-listed))
+      (rules-within (s .given .of) (s .limited)) (omega (arith, named-long (inside 4 c), limits s .few-listed))
 
   module _ {placesBetween : List ℕ} (listed : Listed names places (h .listed) placesBetween)
       {placesAfter : List ℕ} (put : Put names placesBetween p g h placesAfter) where

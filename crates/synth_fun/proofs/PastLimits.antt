@@ -10,11 +10,11 @@ use borrow.Author.Tests.{leb-false, le-ltb, ltb-true}
 use Rattle.forest.specs.Forest.{Forest, Node, count, join, nodesOf, none, tree}
 use Rattle.forest.proofs.Bools.{apart}
 use Rattle.word_kinds.specs.Decimals.{isDecimal, isLong}
-use Rattle.words.specs.Trees.{Lexeme, list, literal, numeral, symbol, wordOf}
-use Rattle.lexemes.specs.Lists.{Items, inside, is, isConstantWord, isList, item, nameOf, numeralOf}
+use Rattle.words.specs.Trees.{Lexeme, keyword, list, literal, numeral, symbol, wordOf}
+use Rattle.lexemes.specs.Lists.{Items, after, inside, is, isConstantWord, isList, isNumeral, item, nameOf, numeralOf}
 use Rattle.lexemes.specs.code.Standing.{Source, Stands, bracketed, ends, word}
 use Rattle.lexemes.proofs.Standing.{forward, here}
-use Rattle.shapes.specs.Shapes.{isPattern}
+use Rattle.shapes.specs.Shapes.{attributesOf, isAnnotated, isPattern}
 use Rattle.written_sorts.specs.Written.{groupPlace, leastIn, pairPlace, rulePlace, sortPlace}
 use Rattle.written_sorts.specs.declared.Fault.the-variants.{TooWide}
 use Rattle.term_nodes.specs.Terms.{Raw, constantPast, constantsPast, cutBy, decimal, firstWord, headedBy, isNode, nodeWord, pattern, rawOf, rawTerm, rawTerms}
@@ -22,7 +22,8 @@ use Rattle.term_nodes.specs.Terms.{word as rawWord}
 use Rattle.term_nodes.specs.code.Table.{operandsOf}
 use Rattle.term_faults.specs.code.Grammars.{AllSingle}
 use Rattle.term_faults.specs.code.Bodies.{Rising}
-use Rattle.term_nodes.specs.Rules.{Ruled, itemPast, nodesPast, rulePast, rulesIn, rulesOf, sides}
+use Rattle.derivation.specs.Derivation.{mostWeight}
+use Rattle.term_nodes.specs.Rules.{Ruled, attributesPast, itemPast, nodesPast, rulePast, rulesIn, rulesOf, sides}
 use Rattle.headers.specs.Heads.{headerPast}
 use Rattle.forest.specs.Limits.{allowed, mostArguments, mostFunctions, mostNodes, mostNonTerminals, mostRules}
 use Rattle.operators.specs.Sorts.{maxWidth}
@@ -152,11 +153,13 @@ module _ {n nowhere : ℕ} (low : n ≤ nowhere) where
       go false c e = low
   headed-constant at (list head close) held ops a = low
   headed-constant at (numeral head v) held ops a = low
+  headed-constant at (keyword head name) held ops a = low
   headed-constant at (literal head width v bytes) held ops a = low
 
   node-constant : (l : Lexeme) (ops : Items) → Ahead n ops → n ≤ constantPast nowhere (rawOf l ops)
   node-constant (symbol at name) ops a = low
   node-constant (numeral at v) ops a = low
+  node-constant (keyword at name) ops a = low
   node-constant (literal at width v bytes) ops a = low
   node-constant (list at close) ops a = headed-constant at (item 0 ops) (inside 0 ops) ops a
 
@@ -178,26 +181,57 @@ module _ {n nowhere : ℕ} (low : n ≤ nowhere) where
       operands true h = low
       operands false h = h
 
-  -- The constants of every rule are behind n.
+  -- A term's constants are behind n, where those of its list are.
+  term-constants : (l : Lexeme) (ops : Items) → Ahead n ops → n ≤ constantsPast nowhere (nodesOf (rawTerm l ops))
+  unfolding constantsPast nodesOf rawTerms
+  term-constants l ops a =
+      omega (arith, node-constant l ops a, constants-append (nodesOf (operandsOf ops)) [] (operands (is "_" (item 0 ops)) (constants-ahead true ops a)) low)
+    where
+      operands : (b : Bool) → n ≤ constantsPast nowhere (nodesOf (rawTerms true ops)) → n ≤ constantsPast nowhere (nodesOf (cond b none (rawTerms true ops)))
+      operands true h = low
+      operands false h = h
+
+  -- So are attributes, where the items of their list are.
+  after-ahead : (k : ℕ) (F : Items) → Ahead n F → Ahead n (after k F)
+  unfolding Ahead after
+  after-ahead zero F a = a
+  after-ahead (suc k) none a = tt
+  after-ahead (suc k) (tree l ops more) a = after-ahead k more (a .2)
+
+  attributes-ahead : (F : Items) → Ahead n F → n ≤ attributesPast nowhere F
+  unfolding Ahead leastIn
+  attributes-ahead none a = low
+  attributes-ahead (tree l ops more) a =
+      omega (arith, either-ahead (isNumeral l && ltb mostWeight (numeralOf l)) n (wordOf l) nowhere (a .0) low, attributes-ahead more (a .2))
+
+  -- Every rule, its constants and its attributes are behind n.
   unfoldable ConstantsAhead : List Ruled → Type 0
   ConstantsAhead [] = Unit {0}
-  ConstantsAhead (r ∷ more) = (n ≤ constantsPast nowhere (nodesOf (r .side))) × ConstantsAhead more
+  ConstantsAhead (r ∷ more) =
+      (n ≤ r .first) × (n ≤ constantsPast nowhere (nodesOf (r .side))) × (n ≤ attributesPast nowhere (r .attributes)) × ConstantsAhead more
 
   both-ahead : (rules others : List Ruled) → ConstantsAhead rules → ConstantsAhead others → ConstantsAhead (rules ++ others)
   unfolding ConstantsAhead
   both-ahead [] others x y = y
-  both-ahead (r ∷ rules) others x y = (x .0, both-ahead rules others (x .1) y)
+  both-ahead (r ∷ rules) others x y = (x .0, x .1, x .2, both-ahead rules others (x .3) y)
 
   rules-constants : (A : ℕ) (F : Items) → Ahead n F → ConstantsAhead (rulesOf A F)
   unfolding Ahead ConstantsAhead rulesOf
   rules-constants A none a = tt
-  rules-constants A (tree l ops more) a = (side (isPattern l ops), rules-constants A more (a .2))
+  rules-constants A (tree l ops more) a =
+      (a .0, side (isPattern l ops) (isAnnotated l ops), attributes (isAnnotated l ops), rules-constants A more (a .2))
     where
-      side : (b : Bool)
+      side : (b t : Bool)
           → n ≤ constantsPast nowhere
-          (nodesOf (cond b (tree (pattern (wordOf l) (is "Constant" (item 0 ops)) (item 1 ops) (inside 1 ops)) none none) (rawTerm l ops)))
-      side true = pattern-constant (wordOf l) (is "Constant" (item 0 ops)) (item 1 ops) (inside 1 ops)
-      side false = constants-ahead false (tree l ops none) (a .0, a .1, tt)
+          (nodesOf (cond b (tree (pattern (wordOf l) (is "Constant" (item 0 ops)) (item 1 ops) (inside 1 ops)) none none)
+          (cond t (rawTerm (item 1 ops) (inside 1 ops)) (rawTerm l ops))))
+      side true t = pattern-constant (wordOf l) (is "Constant" (item 0 ops)) (item 1 ops) (inside 1 ops)
+      side false true = term-constants (item 1 ops) (inside 1 ops) (inside-ahead 1 ops (a .1))
+      side false false = term-constants l ops (a .1)
+
+      attributes : (t : Bool) → n ≤ attributesPast nowhere (cond t (attributesOf ops) none)
+      attributes true = attributes-ahead (attributesOf ops) (after-ahead 2 ops (a .1))
+      attributes false = attributes-ahead none tt
 
   groups-constants : (A : ℕ) (F : Items) → Ahead n F → ConstantsAhead (rulesIn A F)
   unfolding Ahead ConstantsAhead rulesIn
@@ -207,20 +241,24 @@ module _ {n nowhere : ℕ} (low : n ≤ nowhere) where
       (groups-constants (A + 1) more (a .2))
 
   -- The rule past the limit, and the words past those of a rule.
-  rules-ahead : (rules : List Ruled) (from to : ℕ) → n ≤ from → AllSingle rules → Rising from to (sides rules) → ConstantsAhead rules
+  rules-ahead : (lexemes : List ℕ) (rules : List Ruled) (from to : ℕ) → n ≤ from → AllSingle lexemes rules → Rising from to (sides rules) → ConstantsAhead rules
       → (rulesMost nodesMost : ℕ)
       → n ≤ min (rulePast nowhere rulesMost rules) (nodesPast nowhere nodesMost rules)
   unfolding AllSingle ConstantsAhead Rising join nodeWord nodesPast rulePast sides
-  rules-ahead [] from to h single rising constants rulesMost nodesMost = omega arith
-  rules-ahead (r ∷ more) from to h ((root, operands, is, begins), others) rising constants rulesMost nodesMost =
+  rules-ahead lexemes [] from to h single rising constants rulesMost nodesMost = omega arith
+  rules-ahead lexemes (r ∷ more) from to h ((root, operands, is, begins), others) rising constants rulesMost nodesMost =
       let rise : Rising from to (tree root operands (sides more)) = rw is at rising in
       let own : Rising from (rise .0) (tree root operands none) = (rise .0, rise .1, rise .2, le-refl (rise .0), rise .4, tt) in
       let nodes = rw append-nil at (nodes-ahead (tree root operands none) from (rise .0) h own [] (λ m. low) nodesMost) in
-      let later = rules-ahead more (rise .0) to (omega (arith, rise .1, rise .2)) others (rise .5) (constants .1) in
+      let later = rules-ahead lexemes more (rise .0) to (omega (arith, rise .1, rise .2)) others (rise .5) (constants .3) in
       let past = rulePast nowhere (rulesMost - 1) more in
-      let one = either-ahead (leb 1 rulesMost) n past (r .first) (omega (arith, later (rulesMost - 1) nodesMost)) (omega (arith, rise .1)) in
+      let one = either-ahead (leb 1 rulesMost) n past (r .first) (omega (arith, later (rulesMost - 1) nodesMost)) (constants .0) in
       let own-nodes : n ≤ nodeWord nowhere nodesMost (nodesOf (r .side)) = rw is nodes in
-      omega (arith, one, own-nodes, constants .0, later rulesMost nodesMost)
+      let behind : n ≤ nodesPast nowhere nodesMost more = omega (arith, later rulesMost nodesMost) in
+      both one (both (both (both own-nodes (constants .1)) (constants .2)) behind)
+    where
+      both : {a b : ℕ} → n ≤ a → n ≤ b → n ≤ min a b
+      both h k = omega arith
 
 -- A number that is no more than two others is the least of the three.
 least-first : (i a b : ℕ) → i ≤ a → i ≤ b → i ≡ min i (min a b)
@@ -229,7 +267,7 @@ least-first i a b one other = omega arith
 -- The command's first word is the least past a limit where there are as many functions before it as there may be.
 pub command-first : {text lexemes : List ℕ} {p : Progress} {i nowhere : ℕ} (of : CommandOf "synth-fun" text lexemes p i nowhere) → mostFunctions ≤ p .functions
     → i ≡ limitPlace allowed nowhere (of .known) i (of .here .command)
-command-first {p = p} {i} {nowhere} of full =
+command-first {lexemes = lexemes} {p = p} {i} {nowhere} of full =
     let c = of .here .command in
     let low : i ≤ nowhere = omega (arith, command-word (of .here)) in
     let all = stands-ahead {n = i} (omega arith) (here refl (of .here .stands) .a-list refl .stands) in
@@ -244,7 +282,7 @@ command-first {p = p} {i} {nowhere} of full =
     ) in
     let groups = least-ahead low (groupPlace TooWide nowhere) (group-ahead low) (inside 5 c) (inside-ahead low 5 c all) in
     let amid = groups-amid of in
-    let rules = rules-ahead low (ruledBy c) (amid .first) (amid .last) (omega (arith, amid .begins)) (rules-trees of) (rules-rising of)
+    let rules = rules-ahead low lexemes (ruledBy c) (amid .first) (amid .last) (omega (arith, amid .begins)) (rules-trees of) (rules-rising of)
     (groups-constants low 0 (inside 5 c) (inside-ahead low 5 c all)) mostRules mostNodes in
     let grammar : i ≤ grammarPast allowed nowhere c =
     omega (arith, items-ahead low mostNonTerminals (inside 4 c) (inside-ahead low 4 c all), pairs 4, groups, rules) in

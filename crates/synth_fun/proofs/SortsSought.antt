@@ -81,17 +81,17 @@ columnSaid k c = sortColumn (scopeOf (viewOf k c)) (formsOf (viewOf k c) (sides 
 
 module _ {text lexemes names raw places column : List ℕ} {p : Progress} {g : Gathered} {h : Header} {i first : ℕ} (first-is : first ≡ ownRules (p .functions)) where
   -- the rules from a place on
-  pub rules-from : Comparing text lexemes names raw places column p g h i → RulesSought raw (fromPlace first places) places column (g .rule) (h .listed)
-  rules-from q = subst (λ (n : ℕ). RulesSought raw (fromPlace n places) places column (g .rule) (h .listed)) (sym first-is) (q .rules)
+  pub rules-from : Comparing text lexemes names raw places column p g h i → RulesSought lexemes raw (fromPlace first places) places column (g .rule) (h .listed)
+  rules-from q = subst (λ (n : ℕ). RulesSought lexemes raw (fromPlace n places) places column (g .rule) (h .listed)) (sym first-is) (q .rules)
 
   -- the least of two
   pub misfit-found : (nowhere : ℕ) {lists : ℕ} → ((q : Declared text lexemes names i (h .listed)) → ListsTested q nowhere lists)
-      → {misfits : ℕ} → ((q : RulesSought raw (fromPlace first places) places column (g .rule) (h .listed)) → RulesFound q nowhere misfits)
+      → {misfits : ℕ} → ((q : RulesSought lexemes raw (fromPlace first places) places column (g .rule) (h .listed)) → RulesFound q nowhere misfits)
       → {r : ℕ} → r ≡ min lists misfits → (q : Comparing text lexemes names raw places column p g h i)
       → r ≡ min (listMisfit nowhere (q .lists .view) (q .lists .command)) (ruleMisfit nowhere (q .rules .view) (q .rules .ruled))
   misfit-found nowhere by-lists {misfits} by-rules e q =
       let there =
-      subst (λ (n : ℕ). (q : RulesSought raw (fromPlace n places) places column (g .rule) (h .listed)) → RulesFound q nowhere misfits) first-is by-rules in
+      subst (λ (n : ℕ). (q : RulesSought lexemes raw (fromPlace n places) places column (g .rule) (h .listed)) → RulesFound q nowhere misfits) first-is by-rules in
       e ∙ ap₂ min (by-lists (q .lists)) (there (q .rules))
 
 -- ---- a command whose names are in order
@@ -263,7 +263,7 @@ module _ {text lexemes names raw places forms : List ℕ} {p : Progress} {g : Ga
 
         -- the sorts of its rules may be compared
         abbrev pub rules-here : {first : ℕ} → first ≡ ownRules (p .functions)
-            → RulesSought raw (fromPlace first placesBetween) placesBetween columnAfter (g .rule) (h .listed)
+            → RulesSought lexemes raw (fromPlace first placesBetween) placesBetween columnAfter (g .rule) (h .listed)
         rules-here first-is = record {
           ruled = ruledBy (s .given .of .here .command);
           single = rules-trees (s .given .of);

@@ -25,9 +25,9 @@ use Rattle.names.specs.Scopes.{namesOf}
 use Rattle.names.specs.code.Lookup.{sourceOf}
 use Rattle.names.specs.code.New.{AllNarrow}
 use Rattle.headers.specs.Heads.{headerNames, headerPast}
-use Rattle.forest.specs.Limits.{allowed, mostArguments, mostFunctions, mostNonTerminals, mostRules}
+use Rattle.forest.specs.Limits.{allowed, mostArguments, mostFunctions, mostNodes, mostNonTerminals, mostRules}
 use Rattle.grammars.specs.Grammars.{grammarFault, grammarMisfit, grammarNames, grammarPast}
-use Rattle.term_nodes.specs.Rules.{itemPast, rulePast, sides}
+use Rattle.term_nodes.specs.Rules.{itemPast, nodesPast, rulePast, sides}
 use Rattle.term_faults.specs.code.Grammars.{AllSingle}
 use Rattle.term_faults.specs.code.Bodies.{NarrowNode, Rising}
 use Rattle.term_sorts.specs.code.Signatures.{Every}
@@ -132,7 +132,7 @@ module _ {text lexemes : List ℕ} {p : Progress} {i nowhere : ℕ} (of : Comman
   nodes-say = rules-say (groups-amid .stands) groups-shaped 0
 
   -- each rule is one tree
-  pub rules-trees : AllSingle (ruledBy (of .here .command))
+  pub rules-trees : AllSingle lexemes (ruledBy (of .here .command))
   rules-trees = rules-single (groups-amid .stands) groups-shaped 0
 
   -- the nodes are fewer than its words
@@ -172,6 +172,15 @@ module _ {text lexemes : List ℕ} {p : Progress} {i nowhere : ℕ} (of : Comman
 
   -- ---- within its limits
 
+  -- no node of its rules, and no weight, is past a limit where it is within its limits
+  pub rules-within : nowhere ≤ limitPlace allowed nowhere (of .known) i (of .here .command) → nowhere ≤ nodesPast nowhere mostNodes (ruledBy (of .here .command))
+  rules-within limited =
+      let c = of .here .command in
+      let all = rw limit-is at limited in
+      let parts = past-none _ (headerPast allowed nowhere c) (grammarPast allowed nowhere c) all in
+      let grammar = past-none (itemPast nowhere mostNonTerminals (inside 4 c)) (grammarSorts TooWide nowhere c) _ (parts .2) in
+      past-neither (rulePast nowhere mostRules (ruledBy c)) _ (grammar .2) .1
+
   pub small : nowhere ≤ limitPlace allowed nowhere (of .known) i (of .here .command) → Small (of .here .command) (p .functions)
   small limited =
       let c = of .here .command in
@@ -192,6 +201,6 @@ module _ {text lexemes : List ℕ} {p : Progress} {i nowhere : ℕ} (of : Comman
         narrow-result = head .result;
         few-listed = items-few nowhere mostNonTerminals (inside 4 c) some (inside-below nowhere 4 c below) (grammar .0);
         narrow-listed = pairs-narrow nowhere some (inside 4 c) (inside-below nowhere 4 c below) (listed .0);
-        few-rules = rules-few nowhere mostRules (ruledBy c) 0 nowhere rules-trees nodes-rise (omega arith) (rules .0);
+        few-rules = rules-few lexemes nowhere mostRules (ruledBy c) 0 nowhere rules-trees nodes-rise (omega arith) (rules .0);
         narrow-nodes = rules-narrow nowhere some 0 (inside 5 c) (inside-below nowhere 5 c below) (listed .1);
       }

@@ -45,7 +45,7 @@ fn misfit_place(
     let lists = lists_misfit(text, lexemes, names, command.at, listed, nowhere);
     let first = rules_place(command.progress.functions);
     let rules = &places[first..];
-    let sides = rules_misfit(raw, rules, places, column, rule, listed, nowhere);
+    let sides = rules_misfit(lexemes, raw, rules, places, column, rule, listed, nowhere);
     least(lists, sides)
 }
 

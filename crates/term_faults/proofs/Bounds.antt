@@ -3,8 +3,8 @@ use Prim.Native.Nat.{ℕ, zero, suc, _+_, _*_, _^_, _≤_, _<_}
 use Prim.Native.Char.{code}
 use native.Mathlib.Nat.{mul-suc, mul-zero, pow-le-pow-right, pow-suc, pow-zero}
 use native.Mathlib.Omega.{arith}
-use mathlib.Core.Path.{_≡_, refl}
-use mathlib.Core.Bool.{Bool, true, false, cond}
+use mathlib.Core.Path.{_≡_, refl, ap}
+use mathlib.Core.Bool.{Bool, true, false, cond, _||_}
 use mathlib.Core.List.{List, [], _∷_}
 use borrow.Author.Tests.{eqb-false, leb-true, lt-ltb, not-true}
 use lib.Dec.{eqb}
@@ -15,11 +15,15 @@ use Rattle.forest.proofs.Lists.{drop-next}
 use Rattle.word_kinds.specs.Limits.{literalBits, numeralDigits, symbolBytes}
 use Rattle.operators.specs.Sorts.{Fit}
 use Rattle.word_kinds.specs.Bytes.{digit, uncarried}
-use Rattle.word_kinds.specs.Kinds.{allIn, formed, hashed, kindOf, literal as literalOf, numeral as numeralOf, spelled, symbol as symbolOf}
+use Rattle.word_kinds.specs.Kinds.{allIn, formed, hashed, keywordForm, kindOf, literal as literalOf, marked, numeral as numeralOf, spelled, symbol as symbolOf}
 use Rattle.word_kinds.specs.code.Digits.{digitsBelow}
 use Rattle.word_kinds.specs.declared.Class.{Class}
 use Rattle.word_kinds.specs.declared.Class.the-variants.{BinaryDigits, Digits, HexDigits}
 use Rattle.word_kinds.specs.declared.Kind.{Kind}
+use Rattle.word_kinds.specs.declared.Kind.the-variants.{Keyword}
+use Rattle.forest.specs.Lists.{sameBytes, spelling}
+use Rattle.forest.proofs.Searching.{same-bytes}
+use Rattle.lexemes.proofs.ByCode.{keyword-high}
 use Rattle.word_kinds.proofs.Digits.{below-goes, binary-below, decimal-below, hex-below, spell-more}
 use Rattle.words.specs.Table.{valueOf, widthOf}
 use Rattle.words.specs.Trees.{bytesOf}
@@ -115,14 +119,27 @@ hashed-kept first (b ∷ w) =
     choice (eqb b (code "x")) (λ e. literal-kept HexDigits 4 w (hex-below w) (λ n. omega arith))
     (λ e. choice (eqb b (code "b")) (λ e. literal-kept BinaryDigits 1 w (binary-below w) (λ n. omega arith)) (λ e. other (omega arith)))
 
+-- a keyword that is carried
+keyword-kept : (bytes : List ℕ) → keywordForm bytes ≡ true → Kept bytes Keyword
+unfolding keywordForm
+keyword-kept bytes form = record {
+  low = λ e. absurd (omega (arith, keyword-high bytes));
+  fits = λ e. absurd (omega (arith, keyword-high bytes));
+  short = λ e. go (sameBytes (spelling ":weights") bytes) refl form;
+}
+  where
+    go : (b : Bool) → sameBytes (spelling ":weights") bytes ≡ b → b || sameBytes (spelling ":weight") bytes ≡ true → length bytes ≤ longest
+    go true e h = omega (arith, ap length (same-bytes (spelling ":weights") bytes e))
+    go false e h = omega (arith, ap length (same-bytes (spelling ":weight") bytes h))
+
 -- a word of any kind
 kind-kept : (bytes : List ℕ) → Kept bytes (kindOf bytes)
-unfolding kindOf
+unfolding kindOf marked
 kind-kept [] = other (omega arith)
 kind-kept (b ∷ w) =
     choice (eqb b (code "(")) (λ e. other (omega arith))
     (λ e. choice (eqb b (code ")")) (λ e. other (omega arith))
-    (λ e. choice (uncarried b) (λ e. other (omega arith))
+    (λ e. choice (uncarried b) (λ e. choice (keywordForm (b ∷ w)) (λ form. keyword-kept (b ∷ w) form) (λ e. other (omega arith)))
     (λ e. choice (digit b) (λ e. numeral-kept (b ∷ w))
     (λ e. choice (eqb b (code "#")) (λ e. hashed-kept b w)
     (λ e. symbol-kept (b ∷ w))))))

@@ -9,13 +9,14 @@ use lib.Dec.{leb}
 use Rattle.forest.specs.Forest.{Forest, count, join, none, tree}
 use Rattle.forest.specs.Lists.{sameBytes}
 use Rattle.forest.proofs.Bools.{and-left, and-right, or-right}
-use Rattle.words.specs.Trees.{Lexeme, list, literal, numeral, symbol, wordOf}
+use Rattle.words.specs.Trees.{Lexeme, keyword, list, literal, numeral, symbol, wordOf}
 use Rattle.lexemes.specs.Reserved.{isOneOf, isWord}
-use Rattle.lexemes.specs.Lists.{Items, inside, is, isConstantWord, isList, item, nameOf, numeralOf}
+use Rattle.lexemes.specs.Lists.{Items, inside, is, isConstantWord, isKeyword, isList, item, nameOf, numeralOf}
 use Rattle.lexemes.specs.code.Standing.{Source, Stands, bracketed, ends, word}
 use Rattle.shapes.specs.Shapes.{all, applicationShape, groupShape, headShape, isPattern, ruleShape, termShapes}
 use Rattle.term_nodes.specs.Terms.{Raw, cutBy, decimal, headedBy, rawOf, rawRule, rawTerms}
 use Rattle.term_nodes.specs.code.Table.{operandsOf}
+use Rattle.term_nodes.proofs.RuleTerms.{rule-term}
 use Rattle.term_nodes.proofs.TermWords.{listShape}
 use Rattle.term_nodes.specs.Rules.{Ruled, rulesIn, sides}
 use Rattle.names.specs.code.Lookup.{Headed}
@@ -56,6 +57,7 @@ list-headed at (tree (symbol head name) held more) shape = go (is "_" (symbol he
         rw e (λ _. no-pattern head name held (and-left (headShape (symbol head name) held) (leb 2 (count ops)) application))
 list-headed at (tree (list head close) held more) shape = tt
 list-headed at (tree (numeral head v) held more) shape = tt
+list-headed at (tree (keyword head name) held more) shape = tt
 list-headed at (tree (literal head width v written) held more) shape = tt
 
 -- the node that a word is
@@ -63,6 +65,7 @@ word-headed : (l : Lexeme) → isList l ≡ false → Headed (rawOf l none)
 unfolding item
 word-headed (symbol at name) e = λ later. absurd (omega arith)
 word-headed (numeral at v) e = tt
+word-headed (keyword at name) e = tt
 word-headed (literal at width v written) e = tt
 word-headed (list at close) e = tt
 
@@ -82,7 +85,7 @@ module _ {s : Source} where
   items-headed headed ends shape = tt
   items-headed true (word w rest) shape = items-headed false rest shape
   items-headed false (word {l = l} {more = more} w rest) shape =
-      (word-headed l (w .no-list), tt, items-headed false rest (and-right (not (isList l) || listShape none) (termShapes false more) shape))
+      (word-headed l (w .no-list), tt, items-headed false rest (and-right (not (isList l || isKeyword l) || listShape none) (termShapes false more) shape))
   items-headed true (bracketed b inner rest) shape = items-headed false rest shape
   items-headed false (bracketed {i = i} {ops = ops} {more = more} b inner rest) shape =
       let listed = and-left (listShape ops) (termShapes false more) shape in (
@@ -104,12 +107,12 @@ module _ {s : Source} where
     where
       go : (known : Bool) → isPattern l ops ≡ known → AllHeaded (rawRule l ops)
       go true e = rw e (tt, tt, tt)
-      go false e = rw e (terms-headed stands (rw e at shape))
+      go false e = let t = rule-term stands (rw e at shape) in rw (e, t .side-is) (terms-headed (t .stands) (t .shaped))
 
   -- the nodes of the rules of a grammar
   pub rules-headed : {i e : ℕ} {F : Items} → Stands s i F e → all groupShape F ≡ true → (A : ℕ) → AllHeaded (sides (rulesIn A F))
   unfolding AllHeaded sides
   rules-headed stands shape A =
       groups-keep {Q = λ (rules : List Ruled). AllHeaded (sides rules)} tt
-      (λ A i e l ops rules one shape held. headed-join (rawRule l ops) (sides rules) (rule-headed one shape) held)
+      (λ A i e l ops rules one shape behind held. headed-join (rawRule l ops) (sides rules) (rule-headed one shape) held)
       stands shape A

@@ -12,9 +12,10 @@ use Rattle.lexemes.specs.Lists.{Items, is, item}
 use Rattle.lexemes.specs.code.Standing.{Source, Stands, bracketed, ends, word}
 use Rattle.lexemes.proofs.Standing.{forward}
 use Rattle.shapes.specs.Shapes.{all, groupShape, isPattern, ruleShape, termShapes}
-use Rattle.term_nodes.specs.Terms.{Raw, rawRule, rawTerms}
+use Rattle.term_nodes.specs.Terms.{Raw, rawRule, rawTerm, rawTerms}
 use Rattle.term_nodes.specs.code.Table.{operandsOf}
 use Rattle.term_nodes.proofs.GatheringWalk.{term-first}
+use Rattle.term_nodes.proofs.RuleTerms.{rule-term}
 use Rattle.term_nodes.proofs.TermWords.{first-of}
 use Rattle.term_nodes.specs.Rules.{Ruled, rulesIn, sides}
 use Rattle.term_faults.specs.code.Bodies.{Rising}
@@ -78,14 +79,16 @@ module _ {s : Source} where
     where
       go : (known : Bool) → isPattern l ops ≡ known → Rising i e (rawRule l ops)
       go true known = let at = first-of stands in rw known (e, omega arith, omega (arith, past-first stands), omega arith, tt, tt)
-      go false known = rw known (items-rise false stands)
+      go false known =
+          let t = rule-term stands (rw known at shape) in
+          rw (known, t .side-is) (rising-wider (rawTerm (t .label) (t .held)) (items-rise false (t .stands)) (t .begins) (t .ends-by))
 
   -- one rule more
   rises : Gathers s (λ (i e : ℕ) (rules : List Ruled). Rising i e (sides rules))
   unfolding Rising sides
   rises = record {
     nothing = λ i e. tt;
-    one-more = λ A one shape h held. rising-join _ _ h (rule-rises one shape) held (forward one);
+    one-more = λ A one shape behind h held. rising-join _ _ h (rule-rises one shape) held (forward one);
     earlier = λ {e = e} {rules = rules} h held. rising-wider (sides rules) {e = e} held h (le-refl e);
   }
 

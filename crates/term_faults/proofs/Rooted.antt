@@ -1,8 +1,8 @@
 -- The sort of the tree at a node, by the column of sorts, and the first word of the tree.
-use Prim.Native.Nat.{ℕ, _+_, _<_}
+use Prim.Native.Nat.{ℕ, _+_, _-_, _≤_, _<_}
 use native.Mathlib.Omega.{arith}
 use mathlib.Core.Path.{_≡_, refl, sym, ap, _∙_}
-use mathlib.Core.Bool.{Bool, true, false}
+use mathlib.Core.Bool.{Bool, true, false, cond}
 use mathlib.Core.List.{List, [], _++_}
 use mathlib.Core.Option.{Option, none as nothing, some}
 use borrow.Author.Tests.{eq-eqb, eqb-false, eqb-true, ne-eqb}
@@ -16,10 +16,12 @@ use Rattle.terms.specs.Sorts.{withSort}
 use Rattle.term_sorts.specs.Forms.{formSorts, treeSort}
 use Rattle.term_sorts.specs.code.Forms.{sortColumn, sortNumber}
 use Rattle.term_sorts.proofs.Columns.{column-at, column-length}
+use Rattle.lexemes.specs.code.Codes.{weightCode}
+use Rattle.lexemes.specs.code.Table.{codeAt, nextAt}
 use Rattle.term_nodes.specs.code.Table.{firstAt}
 use Rattle.names.specs.Scopes.{formsOf, itemOr, means}
 use Rattle.term_faults.specs.Faults.{oneSort, rawSorts, scopeOf}
-use Rattle.term_faults.specs.code.Roots.{RootAt, RootFits}
+use Rattle.term_faults.specs.code.Roots.{RootAt, RootFits, SideFits, ruleFirst}
 use Rattle.term_faults.proofs.Agreeing.{first-word}
 use Rattle.term_faults.proofs.Forms.{form-at, size-form}
 
@@ -70,3 +72,38 @@ module _ {raw column : List ℕ} {node sort : ℕ} where
   root-misfits nowhere e q p =
       rw (root-test p ∙ ne-eqb (getD column node 0) (sort + 1) e)
       (q ∙ first-word (p .F) (p .rest) (p .is-raw) node (p .root) (p .operands) (p .later) (p .here))
+
+  -- The same of the right side of a rule.
+  module _ (lexemes : List ℕ) (nowhere : ℕ) where
+    pub side-fits : getD column node 0 ≡ sort + 1 → (p : RootAt raw column node sort) → SideFits lexemes p nowhere nowhere
+    side-fits e p = rw (root-test p ∙ eq-eqb _ _ e)
+
+    pub side-misfits : (getD column node 0 ≡ sort + 1 → ⊥) → {w : ℕ} → w ≡ firstAt raw node → {r : ℕ} → r ≡ ruleFirst lexemes w
+        → (p : RootAt raw column node sort) → SideFits lexemes p nowhere r
+    side-misfits e q known p =
+        rw (root-test p ∙ ne-eqb (getD column node 0) (sort + 1) e)
+        (known ∙ ap (ruleFirst lexemes) (q ∙ first-word (p .F) (p .rest) (p .is-raw) node (p .root) (p .operands) (p .later) (p .here)))
+
+-- The first word of a rule, by the word behind its right side.
+module _ (lexemes : List ℕ) (w : ℕ) {behind : ℕ} (eb : behind ≡ nextAt lexemes w) {code : ℕ} (ec : code ≡ codeAt lexemes behind) where
+  pub first-plain : (code ≡ weightCode → ⊥) → w ≡ ruleFirst lexemes w
+  unfolding ruleFirst
+  first-plain other = rw (← eb, ← ec, ne-eqb code weightCode other)
+
+  module _ (is : code ≡ weightCode) where
+    pub first-none : w < 2 → 0 ≡ ruleFirst lexemes w
+    unfolding ruleFirst
+    first-none h = let z : w - 2 ≡ 0 = omega arith in rw (← eb, ← ec, eq-eqb code weightCode is, z)
+
+    pub first-annotated : w - 2 ≡ ruleFirst lexemes w
+    unfolding ruleFirst
+    first-annotated = rw (← eb, ← ec, eq-eqb code weightCode is)
+
+-- The first word of a rule is not behind that of its right side.
+pub first-low : (lexemes : List ℕ) (w : ℕ) → ruleFirst lexemes w ≤ w
+unfolding ruleFirst
+first-low lexemes w = go (eqb (codeAt lexemes (nextAt lexemes w)) weightCode)
+  where
+    go : (b : Bool) → cond b (w - 2) w ≤ w
+    go true = omega arith
+    go false = omega arith

@@ -17,7 +17,7 @@ use Rattle.term_nodes.specs.Rules.{Ruled, sides}
 use Rattle.term_nodes.specs.code.RuleGathering.{startTable}
 use Rattle.term_faults.specs.Faults.{oneSort, rawSorts, ruleMisfit}
 use Rattle.term_faults.specs.code.Grammars.{AllSingle, HeadSort, Heads, RulesFound, RulesSought}
-use Rattle.term_faults.specs.code.Roots.{RootAt, RootFits}
+use Rattle.term_faults.specs.code.Roots.{RootAt, SideFits, ruleFirst}
 
 -- Three numbers for each rule.
 starts-long : (start : ℕ) (rules : List Ruled) → length (startTable start rules) ≡ ruleWidth * length rules
@@ -32,7 +32,7 @@ misfit-low nowhere view [] = omega arith
 misfit-low nowhere view (r ∷ more) = omega (arith, misfit-low nowhere view more)
 
 -- The sorts of the non-terminals are in the table.
-abbrev pub heads : {raw rules signatures column : List ℕ} {count listed : ℕ} → RulesSought raw rules signatures column count listed → Heads signatures listed
+abbrev pub heads : {lexemes raw rules signatures column : List ℕ} {count listed : ℕ} → RulesSought lexemes raw rules signatures column count listed → Heads signatures listed
 heads p = record {
   sorts = namedSorts (p .view .nonTerminals);
   are = p .sorts-are;
@@ -41,26 +41,26 @@ heads p = record {
 }
 
 -- The rules that are left, the node where the first of them starts, and what is owed of them.
-pub record Left {raw rules signatures column : List ℕ} {count listed : ℕ} (p : RulesSought raw rules signatures column count listed) (nowhere place rule : ℕ)
+pub record Left {lexemes raw rules signatures column : List ℕ} {count listed : ℕ} (p : RulesSought lexemes raw rules signatures column count listed) (nowhere place rule : ℕ)
     : Type 0 where
   pub left : List Ruled
   pub start : ℕ
   pub starts : drop (ruleWidth * rule) rules ≡ startTable start left ++ p .others
   pub stands : from (sides (p .ruled)) start ≡ sides left
-  pub single : AllSingle left
+  pub single : AllSingle lexemes left
   pub counted : count ≡ rule + length left
   pub owed : min place (ruleMisfit nowhere (p .view) left) ≡ ruleMisfit nowhere (p .view) (p .ruled)
 
 -- The same whatever the rules are.
-pub record Passing (raw rules signatures column : List ℕ) (count listed nowhere place rule : ℕ) : Type 0 where
-  pub given : RulesSought raw rules signatures column count listed
+pub record Passing (lexemes raw rules signatures column : List ℕ) (count listed nowhere place rule : ℕ) : Type 0 where
+  pub given : RulesSought lexemes raw rules signatures column count listed
   pub room : ruleWidth * count ≤ length rules
   pub passed : rule ≤ count
   pub low : place ≤ nowhere
-  pub each : (p : RulesSought raw rules signatures column count listed) → Left p nowhere place rule
+  pub each : (p : RulesSought lexemes raw rules signatures column count listed) → Left p nowhere place rule
 
 -- The first rule that is left: where it starts, its non-terminal and its tree; and what is left behind it.
-record First {raw rules signatures column : List ℕ} {count listed : ℕ} (p : RulesSought raw rules signatures column count listed) (nowhere place rule : ℕ)
+record First {lexemes raw rules signatures column : List ℕ} {count listed : ℕ} (p : RulesSought lexemes raw rules signatures column count listed) (nowhere place rule : ℕ)
     : Type 0 where
   pub first : Ruled
   pub more : List Ruled
@@ -70,10 +70,10 @@ record First {raw rules signatures column : List ℕ} {count listed : ℕ} (p : 
   pub start-is : getD rules (ruleWidth * rule) 0 ≡ start
   pub head-is : getD rules (ruleWidth * rule + 1) 0 ≡ first .head
   pub side-is : first .side ≡ tree root operands none
-  pub first-is : firstWord root ≡ first .first
+  pub first-is : ruleFirst lexemes (firstWord root) ≡ first .first
   pub stands : from (sides (p .ruled)) start ≡ tree root operands (sides more)
   pub starts : drop (ruleWidth * (rule + 1)) rules ≡ startTable (start + size (first .side)) more ++ p .others
-  pub single : AllSingle more
+  pub single : AllSingle lexemes more
   pub counted : count ≡ rule + 1 + length more
   pub owed : min place (ruleMisfit nowhere (p .view) (first ∷ more)) ≡ ruleMisfit nowhere (p .view) (p .ruled)
 
@@ -91,9 +91,9 @@ past-one F start root operands later e =
     let same : start + suc (size operands + 0) ≡ start + suc (size operands) = omega arith in
     rw same (from-over F start root operands later e)
 
-module _ {raw rules signatures column : List ℕ} {count listed nowhere : ℕ} where
+module _ {lexemes raw rules signatures column : List ℕ} {count listed nowhere : ℕ} where
   -- Before the first rule.
-  pub passing-begins : RulesSought raw rules signatures column count listed → Passing raw rules signatures column count listed nowhere nowhere 0
+  pub passing-begins : RulesSought lexemes raw rules signatures column count listed → Passing lexemes raw rules signatures column count listed nowhere nowhere 0
   unfolding from
   passing-begins p = record {
     given = p;
@@ -111,9 +111,9 @@ module _ {raw rules signatures column : List ℕ} {count listed nowhere : ℕ} w
     };
   }
 
-  module _ {place rule : ℕ} (t : Passing raw rules signatures column count listed nowhere place rule) where
+  module _ {place rule : ℕ} (t : Passing lexemes raw rules signatures column count listed nowhere place rule) where
     -- Past the last rule.
-    pub passing-ends : count ≤ rule → (p : RulesSought raw rules signatures column count listed) → RulesFound p nowhere place
+    pub passing-ends : count ≤ rule → (p : RulesSought lexemes raw rules signatures column count listed) → RulesFound p nowhere place
     unfolding ruleMisfit
     passing-ends h p = go (t .each p .left) (t .each p .counted) (t .each p .owed)
       where
@@ -124,7 +124,7 @@ module _ {raw rules signatures column : List ℕ} {count listed nowhere : ℕ} w
 
     module _ (h : rule < count) where
       -- The rule at which the loop stands.
-      first-of : (p : RulesSought raw rules signatures column count listed) → First p nowhere place rule
+      first-of : (p : RulesSought lexemes raw rules signatures column count listed) → First p nowhere place rule
       unfolding AllSingle startTable
       first-of p = go (l .left) (l .starts) (l .stands) (l .single) (l .counted) (l .owed)
         where
@@ -132,7 +132,7 @@ module _ {raw rules signatures column : List ℕ} {count listed nowhere : ℕ} w
           l = t .each p
 
           go : (left : List Ruled) → drop (ruleWidth * rule) rules ≡ startTable (l .start) left ++ p .others → from (sides (p .ruled)) (l .start) ≡ sides left
-              → AllSingle left → count ≡ rule + length left
+              → AllSingle lexemes left → count ≡ rule + length left
               → min place (ruleMisfit nowhere (p .view) left) ≡ ruleMisfit nowhere (p .view) (p .ruled) → First p nowhere place rule
           go [] starts stands single counted owed = absurd (omega arith)
           go (r ∷ more) starts stands single counted owed =
@@ -160,7 +160,7 @@ module _ {raw rules signatures column : List ℕ} {count listed nowhere : ℕ} w
       module _ {start head sort : ℕ} (start-is : start ≡ getD rules (ruleWidth * rule) 0) (head-is : head ≡ getD rules (ruleWidth * rule + 1) 0)
           (sorts : (q : Heads signatures listed) → HeadSort q head sort) where
         -- Its right side stands where it starts.
-        root-of : (p : RulesSought raw rules signatures column count listed) → RootAt raw column start sort
+        root-of : (p : RulesSought lexemes raw rules signatures column count listed) → RootAt raw column start sort
         root-of p =
             let o = first-of p in
             record {
@@ -181,9 +181,9 @@ module _ {raw rules signatures column : List ℕ} {count listed nowhere : ℕ} w
         pub root-here : RootAt raw column start sort
         root-here = root-of (t .given)
 
-        module _ {found : ℕ} (fits : (q : RootAt raw column start sort) → RootFits q nowhere found) {lower : ℕ} (lower-is : lower ≡ min place found) where
+        module _ {found : ℕ} (fits : (q : RootAt raw column start sort) → SideFits lexemes q nowhere found) {lower : ℕ} (lower-is : lower ≡ min place found) where
           -- What is owed of the rules behind it.
-          owed-behind : (p : RulesSought raw rules signatures column count listed)
+          owed-behind : (p : RulesSought lexemes raw rules signatures column count listed)
               → min lower (ruleMisfit nowhere (p .view) (first-of p .more)) ≡ ruleMisfit nowhere (p .view) (p .ruled)
           unfolding root-of ruleMisfit
           owed-behind p =
@@ -196,7 +196,7 @@ module _ {raw rules signatures column : List ℕ} {count listed nowhere : ℕ} w
               omega (arith, o .owed)
 
           -- One rule more.
-          pub passing-goes : Passing raw rules signatures column count listed nowhere lower (rule + 1)
+          pub passing-goes : Passing lexemes raw rules signatures column count listed nowhere lower (rule + 1)
           passing-goes = record {
             given = t .given;
             room = t .room;

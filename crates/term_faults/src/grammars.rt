@@ -1,5 +1,5 @@
 //! Rules that are not of their non-terminal's sort.
-use crate::roots::root_misfit;
+use crate::roots::side_misfit;
 use derivation::RULE;
 use forest::limits;
 use forest::numbers::least;
@@ -28,6 +28,7 @@ fn head_sort(signatures: &[u64], head: usize, listed: usize) -> u64
 
 // The least first word of a rule that is not of its non-terminal's sort, of which `listed` are declared; `nowhere` where all are.
 pub fn rules_misfit(
+    lexemes: &[u64],
     raw: &[u64],
     rules: &[u64],
     signatures: &[u64],
@@ -36,8 +37,9 @@ pub fn rules_misfit(
     listed: usize,
     nowhere: usize,
 ) -> usize
-    requires { ⌜ RulesSought (now raw) (now rules) (now signatures) (now column) count listed ⌝ }
-    ensures { λ r. ⌜ FindsInRules (now (raw .entry)) (now (rules .entry)) (now (signatures .entry)) (now (column .entry)) count listed nowhere r ⌝ }
+    requires { ⌜ RulesSought (now lexemes) (now raw) (now rules) (now signatures) (now column) count listed ⌝ }
+    ensures { λ r. ⌜ FindsInRules (now (lexemes .entry)) (now (raw .entry)) (now (rules .entry)) (now (signatures .entry)) (now (column .entry))
+        count listed nowhere r ⌝ }
 {
     let mut place = nowhere;
     let mut rule = 0;
@@ -45,7 +47,10 @@ pub fn rules_misfit(
         let start = rules[RULE * rule] as usize;
         let head = rules[RULE * rule + 1] as usize;
         let sort = head_sort(signatures, head, listed);
-        place = least(place, root_misfit(raw, column, start, sort, nowhere));
+        place = least(
+            place,
+            side_misfit(lexemes, raw, column, start, sort, nowhere),
+        );
         rule += 1;
     }
     place

@@ -12,9 +12,9 @@ use Rattle.forest.specs.Tables.{rows}
 use Rattle.forest.proofs.Bools.{and-left, apart}
 use Rattle.forest.proofs.Laws.{Tree}
 use Rattle.forest.proofs.Nodes.{length-nodes, nodes-join}
-use Rattle.words.specs.Trees.{Lexeme, list, literal, numeral, symbol, wordOf}
+use Rattle.words.specs.Trees.{Lexeme, keyword, list, literal, numeral, symbol, wordOf}
 use Rattle.forest.specs.Lists.{sameBytes}
-use Rattle.lexemes.specs.Lists.{Items, inside, is, isConstantWord, isList, item, nameOf, numeralOf}
+use Rattle.lexemes.specs.Lists.{Items, inside, is, isConstantWord, isKeyword, isList, item, nameOf, numeralOf}
 use Rattle.lexemes.specs.code.Standing.{Source, Stands}
 use Rattle.lexemes.specs.code.Table.{closeCode, codeAt, codeOf, nextAt}
 use Rattle.lexemes.proofs.ByCode.{not-close}
@@ -49,7 +49,7 @@ front-node l ops more outer = rw append-assoc
 more-terms : (l : Lexeme) (ops more : Items) (outer : List Items) → outerTerms (tree l ops more ∷ outer) ≡ true → outerTerms (more ∷ outer) ≡ true
 unfolding listShape termShapes
 more-terms l ops more outer =
-    go (not (isList l) || listShape ops) (termShapes false more) (outerTerms outer)
+    go (not (isList l || isKeyword l) || listShape ops) (termShapes false more) (outerTerms outer)
   where
     go : (a b c : Bool) → a && b && c ≡ true → b && c ≡ true
     go true b c e = e
@@ -67,12 +67,14 @@ headed-first at (symbol a name) held ops = go (is "_" (symbol a name)) (isConsta
     go false c = refl
 headed-first at (list a close) held ops = refl
 headed-first at (numeral a v) held ops = refl
+headed-first at (keyword a name) held ops = refl
 headed-first at (literal a width v written) held ops = refl
 
 -- a node's first word is that of its item
 pub term-first : (l : Lexeme) (ops : Items) → firstWord (rawOf l ops) ≡ wordOf l
 term-first (symbol at name) ops = refl
 term-first (numeral at v) ops = refl
+term-first (keyword at name) ops = refl
 term-first (literal at width v written) ops = refl
 term-first (list at close) ops = headed-first at (item 0 ops) (inside 0 ops) ops
 

@@ -2,6 +2,8 @@ pub mod Counting
 pub mod PastLimit
 pub mod ConstantLimits
 pub mod TermWords
+pub mod RuleTerms
+pub mod RuleWeights
 pub mod Saying
 pub mod TermsAt
 pub mod NodeRows

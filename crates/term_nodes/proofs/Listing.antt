@@ -2,7 +2,7 @@
 use Prim.Native.Nat.{ℕ, zero, suc, _+_, _-_, _*_, _≤_, _<_, min}
 use native.Mathlib.Omega.{arith}
 use mathlib.Core.Path.{_≡_, refl, sym, _∙_}
-use mathlib.Core.Bool.{Bool, true, false}
+use mathlib.Core.Bool.{Bool, true, false, cond}
 use mathlib.Core.List.{List, [], _∷_, _++_}
 use lib.Dec.{leb}
 use lib.ListN.{length}
@@ -12,14 +12,17 @@ use Rattle.forest.specs.code.Cursors.{size}
 use Rattle.forest.proofs.Laws.{join-assoc, join-none, size-join}
 use Rattle.derivation.specs.code.Rules.{ruleWidth}
 use Rattle.words.specs.Trees.{Lexeme}
-use Rattle.lexemes.specs.Lists.{Items, is, item}
+use Rattle.forest.specs.Lists.{sameBytes}
+use Rattle.forest.proofs.Bools.{and-left}
+use Rattle.lexemes.specs.Lists.{Items, inside, is, isList, item}
 use Rattle.lexemes.specs.code.Standing.{Source, Stands, bracketed, ends, word}
-use Rattle.lexemes.proofs.Standing.{forward}
-use Rattle.shapes.specs.Shapes.{isPattern}
-use Rattle.term_nodes.specs.Terms.{rawRule, rawTerms, wordPast}
+use Rattle.lexemes.proofs.Standing.{forward, here}
+use Rattle.shapes.specs.Shapes.{isAnnotated, isPattern}
+use Rattle.term_nodes.specs.Terms.{rawRule, rawTerm, rawTermRule, rawTerms}
 use Rattle.term_nodes.specs.code.Table.{operandsOf}
-use Rattle.term_nodes.specs.Rules.{Ruled, nodesPast, rulePast, rulesOf, sides}
+use Rattle.term_nodes.specs.Rules.{Ruled, nodesPast, rulePast, rulesOf, sidePast, sides}
 use Rattle.term_nodes.specs.code.RuleGathering.{startTable}
+use Rattle.term_nodes.proofs.RuleTerms.{rule-ends}
 
 -- ---- their right sides
 
@@ -97,10 +100,16 @@ module _ (nowhere : ℕ) where
 
   -- the nodes of one rule more
   pub nodes-more : (nodes : ℕ) (rules : List Ruled) (r : Ruled)
-      → nodesPast nowhere nodes (rules ++ r ∷ []) ≡ min (nodesPast nowhere nodes rules) (wordPast nowhere nodes (nodesOf (r .side)))
+      → nodesPast nowhere nodes (rules ++ r ∷ []) ≡ min (nodesPast nowhere nodes rules) (sidePast nowhere nodes r)
   unfolding nodesPast
-  nodes-more nodes [] r = omega arith
-  nodes-more nodes (q ∷ more) r = omega (arith, nodes-more nodes more r)
+  nodes-more nodes [] r = swapped (sidePast nowhere nodes r) nowhere
+    where
+      swapped : (a b : ℕ) → min a b ≡ min b a
+      swapped a b = omega arith
+  nodes-more nodes (q ∷ more) r = rw (nodes-more nodes more r) (grouped (sidePast nowhere nodes q) (nodesPast nowhere nodes more) (sidePast nowhere nodes r))
+    where
+      grouped : (a b c : ℕ) → min a (min b c) ≡ min (min a b) c
+      grouped a b c = omega arith
 
 -- ---- a row for each word
 
@@ -121,6 +130,27 @@ module _ {s : Source} where
   terms-fit false (bracketed {ops = ops} b inner rest) =
       omega (arith, terms-fit false rest, terms-fit true inner, operands-fit ops (is "_" (item 0 ops)) refl)
 
+  -- nor has the second item of a list, or what stands for it
+  second-fits : {j c : ℕ} {ops : Items} → Stands s j ops c → j + size (rawTerm (item 1 ops) (inside 1 ops)) ≤ suc c
+  unfolding inside item rawTerms sameBytes size
+  second-fits ends = omega arith
+  second-fits (word w ends) = omega arith
+  second-fits (word w (word v rest)) = omega (arith, terms-fit false (word v ends), forward rest)
+  second-fits (word w (bracketed b inner rest)) = omega (arith, terms-fit false (bracketed b inner ends), forward rest)
+  second-fits (bracketed b inner ends) = omega (arith, forward inner)
+  second-fits (bracketed b inner (word v rest)) = omega (arith, forward inner, terms-fit false (word v ends), forward rest)
+  second-fits (bracketed b inner (bracketed d held rest)) = omega (arith, forward inner, terms-fit false (bracketed d held ends), forward rest)
+
+  -- nor has a rule that is a term
+  term-rule-fits : {i e : ℕ} {l : Lexeme} {ops : Items} → Stands s i (tree l ops none) e → i + size (rawTermRule l ops) ≤ e
+  term-rule-fits {i} {e} {l} {ops} stands = go (isAnnotated l ops) refl
+    where
+      go : (a : Bool) → isAnnotated l ops ≡ a → i + size (cond a (rawTerm (item 1 ops) (inside 1 ops)) (rawTerm l ops)) ≤ e
+      go false t = terms-fit false stands
+      go true t =
+          let h = here refl stands .a-list (and-left (isList l) (is "!" (item 0 ops)) t) in
+          omega (arith, second-fits (h .stands), h .next, rule-ends stands)
+
   -- nor has a rule
   rule-fits : {i e : ℕ} {l : Lexeme} {ops : Items} → Stands s i (tree l ops none) e → i + size (rawRule l ops) ≤ e
   unfolding size
@@ -132,7 +162,7 @@ module _ {s : Source} where
 
       go : (known : Bool) → isPattern l ops ≡ known → i + size (rawRule l ops) ≤ e
       go true known = rw known (some-word stands)
-      go false known = rw known (terms-fit false stands)
+      go false known = rw known (term-rule-fits stands)
 
   -- nor have rules
   pub rules-fit : (A : ℕ) {i e : ℕ} {F : Items} → Stands s i F e → i + size (sides (rulesOf A F)) ≤ e
@@ -146,6 +176,10 @@ pub some-node : (l : Lexeme) (ops : Items) → 0 < size (rawRule l ops)
 unfolding rawTerms size
 some-node l ops = go (isPattern l ops) refl
   where
+    either : (a : Bool) → 0 < size (cond a (rawTerm (item 1 ops) (inside 1 ops)) (rawTerm l ops))
+    either true = omega arith
+    either false = omega arith
+
     go : (known : Bool) → isPattern l ops ≡ known → 0 < size (rawRule l ops)
     go true known = rw known (omega arith)
-    go false known = rw known (omega arith)
+    go false known = rw known (either (isAnnotated l ops))

@@ -2,10 +2,11 @@
 use Prim.Native.Nat.{ℕ, suc, _+_, _-_, _*_, _≤_, _<_, min}
 use native.Mathlib.Nat.{zero-add}
 use native.Mathlib.Omega.{arith}
-use mathlib.Core.Path.{_≡_, refl, sym, ap, _∙_}
+use mathlib.Core.Path.{_≡_, refl, sym, ap, ap₂, _∙_}
 use mathlib.Core.List.{List, [], _∷_, _++_}
 use lib.ListN.{length, drop, set, length-append}
 use lib.Seq.{drop-append-seam, length-sets, sets}
+use Rattle.forest.specs.Forest.{none}
 use Rattle.forest.specs.code.Cursors.{size}
 use Rattle.forest.specs.Tables.{over}
 use Rattle.forest.proofs.Laws.{size-join}
@@ -13,12 +14,15 @@ use Rattle.forest.proofs.Rows.{over-more}
 use Rattle.derivation.specs.code.Rules.{ruleWidth}
 use Rattle.words.specs.Trees.{Lexeme, wordOf}
 use Rattle.lexemes.specs.Lists.{Items}
+use Rattle.lexemes.specs.code.Standing.{ItemAt}
 use Rattle.term_nodes.specs.code.Gather.{GatheredRule, GatheringRule}
 use Rattle.term_nodes.specs.code.Limits.{TermNodes, WordPast}
 use Rattle.term_nodes.specs.Terms.{rawRule}
 use Rattle.term_nodes.proofs.Saying.{say-rule}
+use Rattle.shapes.specs.Shapes.{ruleShape}
+use Rattle.written_sorts.specs.code.Places.{ShapedAt}
 use Rattle.written_sorts.proofs.Walked.{placed}
-use Rattle.term_nodes.specs.Rules.{Ruled, nodesPast, rulePast, rulesOf, sides, weightIn}
+use Rattle.term_nodes.specs.Rules.{Ruled, attributesIn, attributesPast, nodesPast, rulePast, rulesOf, sides, weightBy, weightIn}
 use Rattle.term_nodes.specs.code.RuleGathering.{RuleAt, RuleGathered, startTable}
 use Rattle.term_nodes.specs.declared.Gathered.{Gathered}
 use Rattle.term_nodes.proofs.Listing.{first-past, length-starts, no-rule-past, nodes-more, nodes-within, sides-more, some-node, starts-append}
@@ -47,9 +51,18 @@ starts-written table done r more is room =
 
 -- the rule of the non-terminal A that an item is
 abbrev ruled : (A : ℕ) → Lexeme → Items → Ruled
-ruled A l ops = record { head = A; first = wordOf l; side = rawRule l ops }
+ruled A l ops = record { head = A; first = wordOf l; side = rawRule l ops; attributes = attributesIn l ops }
 
 module _ {lexemes : List ℕ} {at nowhere most nodes : ℕ} {raw rules : List ℕ} {g : Gathered} where
+  -- the rule as an item
+  abbrev pub item-here : RuleAt lexemes at nowhere most nodes raw rules g → ItemAt lexemes at
+  item-here p =
+      record { source = p .source; same = p .same; label = p .label; operands = p .operands; more = none; end = p .end; stands = p .stands }
+
+  -- and as an item of its shape
+  abbrev pub shaped-here : RuleAt lexemes at nowhere most nodes raw rules g → ShapedAt ruleShape lexemes at
+  shaped-here p = record { here = item-here p; shaped = p .shaped }
+
   -- the rule and the rows behind which its nodes go
   abbrev pub rule-here : RuleAt lexemes at nowhere most nodes raw rules g → GatheringRule lexemes at raw (g .row)
   rule-here p = record {
@@ -80,8 +93,9 @@ module _ {lexemes : List ℕ} {at nowhere most nodes : ℕ} {raw rules : List �
           say = say-rule (p .stands) (p .shaped);
         }
 
-    module _ {past : ℕ} (known : (q : TermNodes lexemes rawAfter (g .row) row) → WordPast q nodes nowhere past)
-        {place : ℕ} (least : place ≡ min (g .place) past) (A : ℕ) where
+    module _ {within : ℕ} (known : (q : TermNodes lexemes rawAfter (g .row) row) → WordPast q nodes nowhere within)
+        {over : ℕ} (weighed : (x : ItemAt lexemes at) → over ≡ attributesPast nowhere (attributesIn (x .label) (x .operands)))
+        {past : ℕ} (both : past ≡ min within over) {place : ℕ} (least : place ≡ min (g .place) past) (A : ℕ) where
       module _ (p : RuleAt lexemes at nowhere most nodes raw rules g) where
         -- the rules that were gathered, and this one behind them
         all : List Ruled
@@ -112,23 +126,29 @@ module _ {lexemes : List ℕ} {at nowhere most nodes : ℕ} {raw rules : List �
               rules-are = rules-are;
               rules-long = long;
               room = omega (arith, p .holds .room);
-              place-is = omega (arith, is-word, nodes-more nowhere nodes (p .done) (ruled A (p .label) (p .operands)), known (nodes-here p));
+              place-is =
+                  is-word
+                  ∙ ap (λ (n : ℕ). min (rulePast nowhere most all) (min (nodesPast nowhere nodes (p .done)) n))
+                  (both ∙ ap₂ min (known (nodes-here p)) (weighed (item-here p)))
+                  ∙ ap (min (rulePast nowhere most all)) (sym (nodes-more nowhere nodes (p .done) (ruled A (p .label) (p .operands))));
             }
 
       -- its start, its non-terminal and its weight are put into the table, which has room for it
-      pub rule-put : g .rule < most → {rulesAfter : List ℕ} → rulesAfter ≡ sets rules (ruleWidth * g .rule) (g .row ∷ A ∷ 0 ∷ [])
+      pub rule-put : g .rule < most → {weight : ℕ} → ((q : ShapedAt ruleShape lexemes at) → weight ≡ weightBy (attributesIn (q .here .label) (q .here .operands)))
+          → {rulesAfter : List ℕ} → rulesAfter ≡ sets rules (ruleWidth * g .rule) (g .row ∷ A ∷ weight ∷ [])
           → (p : RuleAt lexemes at nowhere most nodes raw rules g)
           → RuleGathered p A rawAfter rulesAfter (record { row = row; rule = g .rule + 1; place = place })
       unfolding all rulesOf
-      rule-put h {rulesAfter} put p =
+      rule-put h {weight} weighs {rulesAfter} put p =
           let done = p .done in
+          let heavy = weighs (shaped-here p) in
           let starts = p .holds .rules-are (omega arith) in
           let r = ruled A (p .label) (p .operands) in
           let written = starts-written rules done r (p .holds .more) starts (omega (arith, p .holds .counted, p .holds .room)) in
           let before = no-rule-past nowhere most done (omega (arith, p .holds .counted)) in
           let now = no-rule-past nowhere most (all p) (omega (arith, counted p)) in
-          one-more p (drop (length (startTable 0 (all p))) rules) (λ _. put ∙ rw (p .holds .counted, p .holds .rows) written)
-          (ap length put ∙ length-sets rules (ruleWidth * g .rule) (g .row ∷ A ∷ 0 ∷ [])) (omega (arith, p .holds .place-is))
+          one-more p (drop (length (startTable 0 (all p))) rules) (λ _. put ∙ rw (p .holds .counted, p .holds .rows, heavy) written)
+          (ap length put ∙ length-sets rules (ruleWidth * g .rule) (g .row ∷ A ∷ weight ∷ [])) (omega (arith, p .holds .place-is))
 
       -- it is the first for which there is no room
       pub rule-past : most ≤ g .rule → g .rule ≡ most → {lesser : ℕ} → lesser ≡ min place at

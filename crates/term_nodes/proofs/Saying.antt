@@ -10,19 +10,20 @@ use borrow.Author.Tests.{eqb-true}
 use Rattle.forest.specs.Forest.{count, none, tree}
 use Rattle.forest.specs.Lists.{sameBytes, spelling}
 use Rattle.forest.proofs.Bools.{and-left, and-right, apart}
-use Rattle.words.specs.Trees.{Lexeme, list, literal, numeral, symbol, wordOf}
+use Rattle.words.specs.Trees.{Lexeme, keyword, list, literal, numeral, symbol, wordOf}
 use Rattle.lexemes.specs.Reserved.{isOneOf, isWord}
 use Rattle.lexemes.specs.code.Reserved.{wordNumber}
 use Rattle.lexemes.proofs.Numbers.{by-number, isKnown, numberOf}
-use Rattle.lexemes.specs.Lists.{Items, inside, is, isAmong, isList, item, numeralOf}
+use Rattle.lexemes.specs.Lists.{Items, inside, is, isAmong, isKeyword, isList, item, numeralOf}
 use Rattle.lexemes.specs.code.Standing.{Source, Stands, WordIs, bracketed, ends, word}
 use Rattle.lexemes.specs.code.Table.{symbolCode}
 use Rattle.lexemes.proofs.ByCode.{codeFor}
 use Rattle.lexemes.specs.code.Codes.{firstCode}
-use Rattle.shapes.specs.Shapes.{applicationShape, isPattern, ruleShape, sortShape, termShapes}
+use Rattle.shapes.specs.Shapes.{applicationShape, isPattern, ruleShape, sortShape, termRuleShape, termShapes}
 use Rattle.term_nodes.specs.code.Says.{AllSay, Says, SaysCut}
-use Rattle.term_nodes.specs.Terms.{headedBy, pattern, rawOf, rawRule, rawTerms}
+use Rattle.term_nodes.specs.Terms.{headedBy, pattern, rawOf, rawRule, rawTermRule, rawTerms}
 use Rattle.term_nodes.specs.code.Table.{operandsOf}
+use Rattle.term_nodes.proofs.RuleTerms.{rule-term}
 use Rattle.term_nodes.proofs.TermWords.{CutAt, ListTerm, by-cut, by-symbol, cut-alone, decimal-alone, list-term, listShape}
 
 say-operands : (s : Source) (ops : Items) (b : Bool) → is "_" (item 0 ops) ≡ b → (termShapes true ops ≡ true → AllSay s (rawTerms true ops))
@@ -30,6 +31,15 @@ say-operands : (s : Source) (ops : Items) (b : Bool) → is "_" (item 0 ops) ≡
 unfolding AllSay listShape
 say-operands s ops true e held shape = rw e tt
 say-operands s ops false e held shape = rw e (held (and-right (applicationShape ops) (termShapes true ops) (rw e at shape)))
+
+-- a word that is a term is no keyword
+no-keyword : (l : Lexeme) → isList l ≡ false → not (isList l || isKeyword l) || listShape none ≡ true → isKeyword l ≡ false
+unfolding count inside item listShape sameBytes
+no-keyword l e = rw e (go (isKeyword l))
+  where
+    go : (k : Bool) → not k || false ≡ true → k ≡ false
+    go true h = sym h
+    go false h = refl
 
 module _ {s : Source} where
   say-cut : (at i : ℕ) {F : Items} → at < i → CutAt s i F → SaysCut s at (wordOf (item 2 F)) (numeralOf (item 2 F)) (numeralOf (item 3 F))
@@ -60,15 +70,16 @@ module _ {s : Source} where
       rw e (record { near = omega (arith, w .placed); coded = rw (w .placed) (w .coded); spelled = rw (w .placed) (w .written refl) })
   say-list {at} (by-cut b c) = say-cut at (at + 2) (omega arith) c
 
-  say-word : {i : ℕ} (l : Lexeme) → WordIs s i l → Says s (rawOf l none)
-  say-word (symbol at name) w = record { near = omega arith; coded = rw (w .placed) (w .coded); spelled = rw (w .placed) (w .written refl) }
-  say-word (numeral at v) w = rw (w .placed) (w .coded)
-  say-word (literal at width v written) w = record {
+  say-word : {i : ℕ} (l : Lexeme) → isKeyword l ≡ false → WordIs s i l → Says s (rawOf l none)
+  say-word (symbol at name) k w = record { near = omega arith; coded = rw (w .placed) (w .coded); spelled = rw (w .placed) (w .written refl) }
+  say-word (numeral at v) k w = rw (w .placed) (w .coded)
+  say-word (keyword at name) k w = apart (sym k)
+  say-word (literal at width v written) k w = record {
     coded = rw (w .placed) (w .coded);
     valued = rw (w .placed) (w .valued);
     wide = rw (w .placed) (w .wide);
   }
-  say-word (list at close) w = apart (sym (w .no-list))
+  say-word (list at close) k w = apart (sym (w .no-list))
 
   -- the words say what the nodes of terms are
   pub say-terms : (headed : Bool) {i e : ℕ} {F : Items} → Stands s i F e → termShapes headed F ≡ true → AllSay s (rawTerms headed F)
@@ -76,7 +87,9 @@ module _ {s : Source} where
   say-terms headed ends shape = tt
   say-terms true (word w rest) shape = say-terms false rest shape
   say-terms false (word {l = l} {more = more} w rest) shape =
-      (say-word l w, tt, say-terms false rest (and-right (not (isList l) || listShape none) (termShapes false more) shape))
+      let plain = not (isList l || isKeyword l) || listShape none in
+      let own = no-keyword l (w .no-list) (and-left plain (termShapes false more) shape) in
+      (say-word l own w, tt, say-terms false rest (and-right plain (termShapes false more) shape))
   say-terms true (bracketed b inner rest) shape = say-terms false rest shape
   say-terms false (bracketed {i = i} {ops = ops} {more = more} b inner rest) shape =
       let listed = and-left (listShape ops) (termShapes false more) shape in (
@@ -111,6 +124,7 @@ module _ {s : Source} where
   unfolding count inside isOneOf item sameBytes
   say-pattern at ends named two shape = apart named
   say-pattern at (word {l = numeral a v} w rest) named two shape = apart named
+  say-pattern at (word {l = keyword a name} w rest) named two shape = apart named
   say-pattern at (word {l = literal a width v written} w rest) named two shape = apart named
   say-pattern at (word {l = list a c} w rest) named two shape = apart named
   say-pattern at (word {l = symbol a name} {more = none} w rest) named two shape = apart two
@@ -121,12 +135,16 @@ module _ {s : Source} where
       absurd (omega (arith, eqb-true (suc (suc (suc (count more)))) 2 two))
   say-pattern at (bracketed b inner rest) named two shape = apart named
 
+  -- the words say what the nodes of a rule are that is a term
+  say-term-rule : {i e : ℕ} {l : Lexeme} {ops : Items} → Stands s i (tree l ops none) e → termRuleShape l ops ≡ true → AllSay s (rawTermRule l ops)
+  say-term-rule stands shape = let t = rule-term stands shape in rw (t .side-is) (say-terms false (t .stands) (t .shaped))
+
   -- the words say what the nodes of a rule are
   pub say-rule : {i e : ℕ} {l : Lexeme} {ops : Items} → Stands s i (tree l ops none) e → ruleShape l ops ≡ true → AllSay s (rawRule l ops)
   unfolding AllSay
   say-rule (word {l = l} w rest) shape =
       let term : isPattern l none ≡ false = ap (λ (b : Bool). b && isAmong ("Constant" ∷ "Variable" ∷ []) (item 0 none)) (w .no-list) in
-      rw term (say-terms false (word w rest) (rw term at shape))
+      rw term (say-term-rule (word w rest) (rw term at shape))
   say-rule (bracketed {i = i} {c = c} {e = e} {ops = ops} b inner rest) shape = go (isPattern (list i c) ops) refl
     where
       go : (known : Bool) → isPattern (list i c) ops ≡ known → AllSay s (rawRule (list i c) ops)
@@ -134,4 +152,4 @@ module _ {s : Source} where
           let parts = rw e at shape in
           let two = and-left (eqb (count ops) 2) _ parts in
           rw e (say-pattern i inner e two (and-right (eqb (count ops) 2) _ parts), tt, tt)
-      go false e = rw e (say-terms false (bracketed b inner rest) (rw e at shape))
+      go false e = rw e (say-term-rule (bracketed b inner rest) (rw e at shape))

@@ -8,7 +8,7 @@ use lib.Dec.{eqb, ltb}
 use borrow.Author.Tests.{eqb-true, le-ltb}
 use Rattle.forest.specs.Forest.{count, none, tree}
 use Rattle.forest.proofs.Bools.{and-left, and-right, apart}
-use Rattle.words.specs.Trees.{Lexeme, list, literal, numeral, symbol, wordOf}
+use Rattle.words.specs.Trees.{Lexeme, keyword, list, literal, numeral, symbol, wordOf}
 use Rattle.forest.specs.Lists.{sameBytes}
 use Rattle.lexemes.specs.Lists.{Items, after, allNumerals, indexed, inside, is, isConstant, isConstantWord, isNumeral, item, nameOf, numeralOf}
 use Rattle.lexemes.specs.code.Standing.{ListIs, Source, Stands, WordIs, bracketed, ends, spelt, word}
@@ -91,6 +91,7 @@ module _ {s : Source} where
   numeral-at {l = numeral at v} w e = record { placed = w .placed; coded = w .coded; valued = w .valued }
   numeral-at {l = symbol at name} w e = apart e
   numeral-at {l = list at close} w e = apart e
+  numeral-at {l = keyword at name} w e = apart e
   numeral-at {l = literal at width v written} w e = apart e
 
   two-numerals : {i e : ℕ} {F : Items} → Stands s i F e → eqb (count F) 2 ≡ true → allNumerals F ≡ true → TwoNumerals s i F
@@ -128,6 +129,8 @@ module _ {s : Source} where
         wide = rw next at (numeral .valued);
       }
   decimal-at (word {l = l} w (word {l = numeral a v} {more = more} x rest)) shape =
+      apart (four (is "_" l) false (eqb (count more) 1) (allNumerals more) shape .1)
+  decimal-at (word {l = l} w (word {l = keyword a name} {more = more} x rest)) shape =
       apart (four (is "_" l) false (eqb (count more) 1) (allNumerals more) shape .1)
   decimal-at (word {l = l} w (word {l = literal a width v bytes} {more = more} x rest)) shape =
       apart (four (is "_" l) false (eqb (count more) 1) (allNumerals more) shape .1)
@@ -171,6 +174,7 @@ module _ {s : Source} where
           either false x shaped = decimal-alone e w (decimal-at (word w rest) shaped)
       go false e = by-symbol e w
   list-term at (word {l = numeral a v} w rest) shape = apart shape
+  list-term at (word {l = keyword a name} w rest) shape = apart shape
   list-term at (word {l = literal a width v written} w rest) shape = apart shape
   list-term at (word {l = list a c} w rest) shape = apart (sym (w .no-list))
   list-term at (bracketed {c = c} {ops = held} b inner rest) shape =

@@ -10,7 +10,7 @@ use lib.ListN.{length}
 use Rattle.forest.specs.Forest.{count, none, tree}
 use Rattle.forest.proofs.Bools.{and-left, and-right, apart}
 use Rattle.forest.proofs.Laws.{Tree}
-use Rattle.words.specs.Trees.{Lexeme, list, literal, numeral, symbol, wordOf}
+use Rattle.words.specs.Trees.{Lexeme, keyword, list, literal, numeral, symbol, wordOf}
 use Rattle.forest.specs.Lists.{sameBytes}
 use Rattle.lexemes.specs.Lists.{Items, after, inside, is, isList, item}
 use Rattle.lexemes.specs.code.Standing.{Between, ItemAt, Source, Stands}
@@ -34,6 +34,7 @@ score-front F = front-word "_" refl 0 F
 word-head : (l : Lexeme) (ops : Items) → isList l ≡ false → headWord (rawOf l ops) ≡ wordOf l
 word-head (symbol at name) ops free = refl
 word-head (numeral at v) ops free = refl
+word-head (keyword at name) ops free = refl
 word-head (literal at width v written) ops free = refl
 word-head (list at close) ops free = apart (sym free)
 

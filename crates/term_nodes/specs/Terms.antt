@@ -6,9 +6,9 @@ use Rattle.forest.specs.Forest.{Forest, Node, none, tree}
 use lib.Dec.{ltb}
 use Rattle.word_kinds.specs.Decimals.{isLong}
 use Rattle.operators.specs.Sorts.{maxWidth}
-use Rattle.words.specs.Trees.{Lexeme, list, literal, numeral, symbol, wordOf}
+use Rattle.words.specs.Trees.{Lexeme, keyword, list, literal, numeral, symbol, wordOf}
 use Rattle.lexemes.specs.Lists.{Items, inside, is, isConstantWord, item, nameOf, numeralOf}
-use Rattle.shapes.specs.Shapes.{isPattern}
+use Rattle.shapes.specs.Shapes.{isAnnotated, isPattern}
 
 -- A node of a term, with its first word.
 pub data Raw : Type 0 where
@@ -57,12 +57,14 @@ abbrev pub headedBy : (at : ℕ) → Lexeme → (held ops : Items) → Raw
 headedBy at (symbol head name) held ops = cond (is "_" (symbol head name)) (indexedNode at ops) (word at head name)
 headedBy at (list head close) held ops = cutBy at held
 headedBy at (numeral head v) held ops = number at v
+headedBy at (keyword head name) held ops = number at 0
 headedBy at (literal head width v written) held ops = number at 0
 
 -- The node that an item is.
 abbrev pub rawOf : Lexeme → Items → Raw
 rawOf (symbol at name) ops = word at at name
 rawOf (numeral at v) ops = number at v
+rawOf (keyword at name) ops = number at 0
 rawOf (literal at width v bytes) ops = constant at width v
 rawOf (list at close) ops = headedBy at (item 0 ops) (inside 0 ops) ops
 
@@ -78,9 +80,13 @@ rawTerms headed (tree l ops more) =
 abbrev pub rawTerm : Lexeme → Items → Forest Raw
 rawTerm l ops = rawTerms false (tree l ops none)
 
+-- The term of a rule that is one, with attributes or without: document 000 has `(! t A+)` "equivalent to t itself".
+abbrev pub rawTermRule : Lexeme → Items → Forest Raw
+rawTermRule l ops = cond (isAnnotated l ops) (rawTerm (item 1 ops) (inside 1 ops)) (rawTerm l ops)
+
 -- The rule that an item is.
 abbrev pub rawRule : Lexeme → Items → Forest Raw
-rawRule l ops = cond (isPattern l ops) (tree (pattern (wordOf l) (is "Constant" (item 0 ops)) (item 1 ops) (inside 1 ops)) none none) (rawTerm l ops)
+rawRule l ops = cond (isPattern l ops) (tree (pattern (wordOf l) (is "Constant" (item 0 ops)) (item 1 ops) (inside 1 ops)) none none) (rawTermRule l ops)
 
 -- The first word of node n, from 0, numerals not counted; nowhere, where there are not so many.
 unfoldable pub nodeWord : (nowhere n : ℕ) → List (Node Raw) → ℕ

@@ -7,6 +7,7 @@ use lexemes::codes::OTHER;
 use lexemes::codes::UNDERSCORE;
 use lexemes::items::count_items;
 use lexemes::next_at;
+use shapes::annotations::is_annotated;
 use shapes::rules::is_pattern;
 ghost use mathlib.Core.List.{[], _∷_};
 ghost use mathlib.Core.Path.{_≡_};
@@ -14,9 +15,10 @@ ghost use Prim.Native.Nat.{_+_, _*_, _≤_};
 ghost use lib.ListN.{length};
 ghost use lib.Seq.{sets};
 ghost use Rattle.forest.specs.Forest.{count};
+ghost use Rattle.lexemes.specs.code.Standing.{ItemAt};
 ghost use Rattle.term_nodes.specs.code.Table.{rowWidth, headWord, operandsOf};
 ghost use Rattle.term_nodes.specs.Terms.{rawOf};
-ghost use Rattle.term_nodes.specs.code.Gather.{Gathered, GatheredRule, Gathering, GatheringRule, Onward, TermAt};
+ghost use Rattle.term_nodes.specs.code.Gather.{Gathered, GatheredRule, Gathering, GatheringRule, Onward, TermAt, termWord};
 
 // The word that says what the node at a word is.
 fn head_word(lexemes: &[u64], at: usize) -> usize
@@ -106,13 +108,25 @@ pub fn gather_terms(
     next
 }
 
+// The word at which the term of a rule stands that is one.
+fn term_of(lexemes: &[u64], at: usize) -> usize
+    requires { ⌜ ItemAt (now lexemes) at ⌝ }
+    ensures { λ r. ⌜ ((here : ItemAt (now (lexemes .entry)) at) → r ≡ termWord at (here .label) (here .operands)) ⌝ }
+{
+    if is_annotated(lexemes, at) {
+        return at + 2;
+    }
+    at
+}
+
 // Gathers the nodes of the rule at a word into the rows from `node` on; returns the row past them.
 pub fn gather_rule(lexemes: &[u64], at: usize, raw: &mut [u64], node: usize) -> usize
     requires { ⌜ GatheringRule (now lexemes) at (now raw) node ⌝ }
     ensures { λ r. ⌜ ((p : GatheringRule (now (lexemes .entry)) at (now (raw .entry)) node) → GatheredRule p (now (raw .exit)) r) ⌝ }
 {
     if !is_pattern(lexemes, at) {
-        return gather_terms(lexemes, at, next_at(lexemes, at), raw, node);
+        let first = term_of(lexemes, at);
+        return gather_terms(lexemes, first, next_at(lexemes, first), raw, node);
     }
     put_node(raw, node, at, at + 1, 0);
     node + 1

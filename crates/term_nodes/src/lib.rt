@@ -6,6 +6,7 @@ pub mod limits;
 pub mod rule_limits;
 pub mod rules;
 pub mod sizes;
+pub mod weights;
 
 use forest::numbers::number_at;
 use lexemes::codes::OTHER;

@@ -2,6 +2,8 @@
 use crate::Gathered;
 use crate::gather::gather_rule;
 use crate::limits::word_past;
+use crate::weights::weight_of;
+use crate::weights::weights_past;
 use derivation::RULE;
 use forest::limits::NODES;
 use forest::limits::RULES;
@@ -15,9 +17,6 @@ ghost use lib.Seq.{sets};
 ghost use Rattle.derivation.specs.code.Rules.{ruleWidth};
 ghost use Rattle.forest.specs.Limits.{mostNodes, mostRules};
 ghost use Rattle.term_nodes.specs.code.RuleGathering.{GathersGroup, GathersOne, GathersRules, GroupsBetween, RuleAt, RulesBetween};
-
-// What a rule weighs that says no weight.
-const NO_WEIGHT: u64 = 0;
 
 // Writes where a rule starts, its non-terminal, and its weight.
 fn put_rule(rules: &mut [u64], rule: usize, start: usize, head: usize, weight: u64)
@@ -47,11 +46,12 @@ fn gather_one(
     let start = already.row;
     let rule = already.rule;
     let row = gather_rule(lexemes, at, raw, start);
-    let past = word_past(lexemes, raw, start, row, NODES, nowhere);
+    let within = word_past(lexemes, raw, start, row, NODES, nowhere);
+    let past = least(within, weights_past(lexemes, at, nowhere));
     let place = least(already.place, past);
     let counted = rule + 1;
     if rule < RULES {
-        put_rule(rules, rule, start, head, NO_WEIGHT);
+        put_rule(rules, rule, start, head, weight_of(lexemes, at));
         return Gathered {
             row,
             rule: counted,
@@ -96,8 +96,8 @@ fn gather_group(
     found
 }
 
-// Gathers the rules of the groups that stand from a word to the bracket that closes their list: their nodes, where each starts, its non-terminal and its weight,
-// and the least word past a limit.
+// Gathers the rules of the groups that stand from a word to the bracket that closes their list: their nodes, where each starts, its non-terminal and its
+// weight, and the least word past a limit.
 pub fn gather_rules(
     lexemes: &[u64],
     first: usize,

@@ -32,8 +32,8 @@ module _ {places nodes forms area₀ weights₀ : List ℕ} {p : Progress} (q : 
   abbrev pub ordered : List Function
   ordered = inScriptOrder (q .known .functions)
 
-  -- The functions before function j are derived by lists that the area shows, and the totals say what they weigh: with lists for the others all are shown, and what comes first of the others comes
-  -- first of all.
+  -- The functions before function j are derived by lists that the area shows, and the totals say what they weigh: with lists for the others all are shown,
+  -- and what comes first of the others comes first of all.
   pub record Going (area weights : List ℕ) (j : ℕ) : Type 0 where
     pub lists : List (List ℕ)
     pub area-is : area ≡ shownArea lists

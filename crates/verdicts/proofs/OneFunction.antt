@@ -84,5 +84,6 @@ module _ {places nodes forms area : List ℕ} {j : ℕ} (q : OneDerivable places
     }
 
     -- What the search answers is what is asked of the function.
-    pub one-judged : {areaAfter : List ℕ} {answer : Bool} {total : ℕ} → Decides rules sides body j area areaAfter answer total → OneJudged q areaAfter answer total
+    pub one-judged : {areaAfter : List ℕ} {answer : Bool} {total : ℕ} → Decides rules sides body j area areaAfter answer total
+        → OneJudged q areaAfter answer total
     one-judged decides = let found = decides (sought (q .low)) in record { yes! = found .yes!; no! = found .no! }

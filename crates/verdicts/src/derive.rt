@@ -48,8 +48,8 @@ fn derive_one(
     derive(rules, sides, body, function, shown)
 }
 
-// Shows the least derivation of each function's body in the area, with what it weighs among the totals, up to the first function whose grammar derives its body by
-// none; returns that function, or how many functions there are.
+// Shows the least derivation of each function's body in the area, with what it weighs among the totals, up to the first function whose grammar derives its body
+// by none; returns that function, or how many functions there are.
 pub fn derive_all(
     places: &[u64],
     nodes: &[u64],

@@ -4,22 +4,23 @@ use Prim.Native.Char.{code}
 use native.Mathlib.Nat.{pow-le-pow-right, le-trans}
 use native.Mathlib.Omega.{arith}
 use mathlib.Core.Path.{_≡_, refl, sym, ap, _∙_}
-use mathlib.Core.Bool.{Bool, true, false, not, _&&_, cond}
+use mathlib.Core.Bool.{Bool, true, false, not, _&&_, _||_, cond}
 use mathlib.Core.List.{List, [], _∷_}
 use borrow.Author.Tests.{le-leb, lt-leb, ne-eqb, not-true, not-false}
 use lib.Dec.{T, leb, eqb, lit≤}
 use lib.ListN.{length, getD, drop, take, length-drop}
 use lib.Seq.{take-all}
+use Rattle.forest.specs.Lists.{sameBytes, spelling}
 use Rattle.forest.proofs.Bools.{and-left}
 use Rattle.forest.proofs.Lists.{drop-next}
 use Rattle.word_kinds.specs.Bytes.{digit, uncarried}
-use Rattle.word_kinds.specs.Kinds.{allIn, formed, hashed, kindOf, literal, numeral, numeralForm, spelled, symbol}
+use Rattle.word_kinds.specs.Kinds.{allIn, formed, hashed, keywordForm, kindOf, literal, marked, numeral, numeralForm, spelled, symbol}
 use Rattle.word_kinds.specs.code.Digits.{Radix, binary, digitsBelow, hex}
 use Rattle.word_kinds.specs.declared.Class.{Class}
 use Rattle.word_kinds.specs.declared.Class.the-variants.{Digits, HexDigits, BinaryDigits, SymbolBytes}
 use Rattle.word_kinds.specs.declared.Fault.the-variants.{BadWord, PastLimit, NotCarried}
 use Rattle.word_kinds.specs.declared.Kind.{Kind}
-use Rattle.word_kinds.specs.declared.Kind.the-variants.{Open, Close, Numeral, Literal, Symbol, Faulty}
+use Rattle.word_kinds.specs.declared.Kind.the-variants.{Open, Close, Numeral, Literal, Symbol, Keyword, Faulty}
 use Rattle.word_kinds.proofs.Digits.{binary-below, decimal-below, hex-below}
 
 -- ---- form, then size
@@ -134,6 +135,21 @@ module _ (w : List ℕ) (r : Bool) (e : r ≡ allIn SymbolBytes w) where
   unfolding symbol
   symbol-is t h = rw (← e) (form-right _ _ _ t (le-leb _ _ h))
 
+-- ---- a keyword that is carried, or one that is not
+
+pub keyword-is : (w : List ℕ) → (r : Bool) → r ≡ sameBytes (spelling ":weights") w → (s : Bool) → s ≡ sameBytes (spelling ":weight") w → r || s ≡ keywordForm w
+unfolding keywordForm
+keyword-is w r e s f = rw (← e, ← f)
+
+module _ (w : List ℕ) (r : Bool) (e : r ≡ keywordForm w) where
+  pub marked-keyword : r ≡ true → Keyword ≡ marked w
+  unfolding marked
+  marked-keyword t = rw (← e, t)
+
+  pub marked-other : r ≡ false → Faulty NotCarried ≡ marked w
+  unfolding marked
+  marked-other t = rw (← e, t)
+
 -- ---- by the first byte
 
 pub hashed-none : (w : List ℕ) → length w ≡ 0 → Faulty BadWord ≡ hashed w
@@ -173,7 +189,7 @@ module _ (w : List ℕ) (some : length w ≡ 0 → ⊥) where
   kind-cut : kindOf w ≡
       cond (eqb (getD w 0 0) (code "(")) Open
       (cond (eqb (getD w 0 0) (code ")")) Close
-      (cond (uncarried (getD w 0 0)) (Faulty NotCarried)
+      (cond (uncarried (getD w 0 0)) (marked w)
       (cond (digit (getD w 0 0)) (numeral w)
       (cond (eqb (getD w 0 0) (code "#")) (hashed (drop 1 w)) (symbol w)))))
   unfolding kindOf
@@ -186,8 +202,8 @@ module _ (w : List ℕ) (some : length w ≡ 0 → ⊥) where
   kind-close e = rw (kind-cut, e)
 
   module _ (not-open : getD w 0 0 ≡ code "(" → ⊥) (not-close : getD w 0 0 ≡ code ")" → ⊥) (u : Bool) (eu : u ≡ uncarried (getD w 0 0)) where
-    pub kind-uncarried : u ≡ true → Faulty NotCarried ≡ kindOf w
-    kind-uncarried t = rw (kind-cut, ne-eqb _ _ not-open, ne-eqb _ _ not-close, sym eu ∙ t)
+    pub kind-marked : (k : Kind) → u ≡ true → k ≡ marked w → k ≡ kindOf w
+    kind-marked k t q = rw (kind-cut, ne-eqb _ _ not-open, ne-eqb _ _ not-close, sym eu ∙ t) q
 
     module _ (tu : u ≡ false) (d : Bool) (ed : d ≡ digit (getD w 0 0)) where
       pub kind-numeral : (k : Kind) → d ≡ true → k ≡ numeral w → k ≡ kindOf w

@@ -5,12 +5,13 @@ use mathlib.Core.Bool.{Bool, true, cond, _&&_, _||_, not}
 use mathlib.Core.List.{List, [], _∷_}
 use lib.ListN.{length, getD}
 use lib.Dec.{eqb, leb}
+use Rattle.forest.specs.Lists.{sameBytes, spelling}
 use Rattle.word_kinds.specs.Bytes.{binaryDigit, digit, hexDigit, symbolByte, uncarried}
 use Rattle.word_kinds.specs.Limits.{literalBits, numeralDigits, symbolBytes}
 use Rattle.word_kinds.specs.declared.Class.{Class}
 use Rattle.word_kinds.specs.declared.Class.the-variants.{Digits, HexDigits, BinaryDigits, SymbolBytes}
 use Rattle.word_kinds.specs.declared.Kind.{Kind}
-use Rattle.word_kinds.specs.declared.Kind.the-variants.{Open, Close, Numeral, Literal, Symbol, Faulty}
+use Rattle.word_kinds.specs.declared.Kind.the-variants.{Open, Close, Numeral, Literal, Symbol, Keyword, Faulty}
 use Rattle.word_kinds.specs.declared.Fault.the-variants.{BadWord, PastLimit, NotCarried}
 
 -- Whether the byte b belongs to the class.
@@ -66,14 +67,22 @@ hashed (b ∷ w) =
     (cond (eqb b (code "b")) (literal BinaryDigits 1 w)
     (Faulty BadWord))
 
--- What the word w is, by its first byte: "A word that begins with `"`, `|` or `:` is answer 6. Any other is one of:" a numeral, a literal, a symbol,
--- "or else answer 2". No word is empty.
+-- "The words for this leave answer 6" (E13): exactly `:weights` and `:weight` are carried keywords.
+unfoldable pub keywordForm : List ℕ → Bool
+keywordForm w = sameBytes (spelling ":weights") w || sameBytes (spelling ":weight") w
+
+-- What a word that begins with `"`, `|` or `:` is: a keyword that is carried, or answer 6.
+unfoldable pub marked : List ℕ → Kind
+marked w = cond (keywordForm w) Keyword (Faulty NotCarried)
+
+-- What the word w is, by its first byte: "A word that begins with `"`, `|` or `:` is answer 6", but for the keywords that are carried. "Any other is one of:" a
+-- numeral, a literal, a symbol, "or else answer 2". No word is empty.
 unfoldable pub kindOf : List ℕ → Kind
 kindOf [] = Faulty BadWord
 kindOf (b ∷ w) =
     cond (eqb b (code "(")) Open
     (cond (eqb b (code ")")) Close
-    (cond (uncarried b) (Faulty NotCarried)
+    (cond (uncarried b) (marked (b ∷ w))
     (cond (digit b) (numeral (b ∷ w))
     (cond (eqb b (code "#")) (hashed w)
     (symbol (b ∷ w))))))

@@ -7,11 +7,12 @@ use crate::bytes::is_binary_digit;
 use crate::bytes::is_digit;
 use crate::bytes::is_hex_digit;
 use crate::bytes::is_uncarried;
+use forest::search::same_bytes;
 ghost use mathlib.Core.Path.{_≡_};
 ghost use mathlib.Core.Bool.{true};
 ghost use Prim.Native.Nat.{_-_, _^_, _<_, _≤_};
 ghost use lib.ListN.{length};
-ghost use Rattle.word_kinds.specs.Kinds.{allIn, digitValue, hashed, inClass, kindOf, literal, numeral, numeralForm, spelled, symbol};
+ghost use Rattle.word_kinds.specs.Kinds.{allIn, digitValue, hashed, inClass, keywordForm, kindOf, literal, marked, numeral, numeralForm, spelled, symbol};
 ghost use Rattle.word_kinds.specs.code.Digits.{Radix, digitsBelow};
 
 // A numeral's digits, a literal's bits and a symbol's bytes at the most.
@@ -20,6 +21,9 @@ const NUMERAL_DIGITS: usize = 9;
 const LITERAL_BITS: usize = 64;
 
 pub const SYMBOL_BYTES: usize = 64;
+
+// The keyword of the feature; that of a rule's weight is all of it but its last byte.
+const WEIGHTS: [u8; 8] = *b":weights";
 
 // Whether a byte belongs to a class.
 fn in_class(class: Class, byte: u8) -> bool
@@ -147,6 +151,24 @@ fn symbol_of(word: &[u8]) -> Kind
     Kind::Symbol
 }
 
+// Whether a word is a keyword that is carried.
+fn is_keyword(word: &[u8]) -> bool
+    ensures { λ r. ⌜ r ≡ keywordForm (now (word .entry)) ⌝ }
+{
+    let name = WEIGHTS;
+    same_bytes(&name, word) | same_bytes(&name[..7], word)
+}
+
+// A word that begins with `"`, `|` or `:`.
+fn marked_of(word: &[u8]) -> Kind
+    ensures { λ r. ⌜ r ≡ marked (now (word .entry)) ⌝ }
+{
+    if is_keyword(word) {
+        return Kind::Keyword;
+    }
+    Kind::Faulty(Fault::NotCarried)
+}
+
 // What a word is.
 pub fn kind_of(word: &[u8]) -> Kind
     ensures { λ r. ⌜ r ≡ kindOf (now (word .entry)) ⌝ }
@@ -162,7 +184,7 @@ pub fn kind_of(word: &[u8]) -> Kind
         return Kind::Close;
     }
     if is_uncarried(first) {
-        return Kind::Faulty(Fault::NotCarried);
+        return marked_of(word);
     }
     if is_digit(first) {
         return numeral_of(word);

@@ -27,12 +27,13 @@ pub struct Decimal {
     pub value: u64,
 }
 
-// What a word is: a numeral has its value, a literal its width in bits and its value.
+// What a word is: a numeral has its value, a literal its width in bits and its value; a keyword is one that is carried.
 pub enum Kind {
     Open,
     Close,
     Numeral(u64),
     Literal(u32, u64),
     Symbol,
+    Keyword,
     Faulty(Fault),
 }

@@ -13,8 +13,8 @@ use lib.Seq.{drop-drop}
 use Rattle.forest.specs.Forest.{Forest, none, tree}
 use Rattle.words.specs.Table.{closes, opens, pastClose, nextOf}
 use Rattle.word_kinds.specs.declared.Kind.{Kind}
-use Rattle.word_kinds.specs.declared.Kind.the-variants.{Open, Close, Numeral, Literal, Symbol, Faulty}
-use Rattle.words.specs.Trees.{Level, Lexeme, bytesOf, inner, levelsAt, levelsBefore, list, literal, numeral, outer, symbol, treesFrom}
+use Rattle.word_kinds.specs.declared.Kind.the-variants.{Open, Close, Numeral, Literal, Symbol, Keyword, Faulty}
+use Rattle.words.specs.Trees.{Level, Lexeme, bytesOf, inner, keyword, levelsAt, levelsBefore, list, literal, numeral, outer, symbol, treesFrom}
 use Rattle.words.specs.Words.{Word}
 use Rattle.words.proofs.Chains.{close-bounds}
 use Rattle.words.proofs.Offsets.{drop-past}
@@ -77,6 +77,7 @@ module _ (text : List ℕ) (past : ℕ) (w : Word) (ws : List Word) (i : ℕ) wh
   past-step n (Numeral v) e r = beyond-other n _ (levelsAt text past ws (i + 1)) ∙ to-close n _ (close-other w ws n i (ap opens e) (ap closes e)) (r n)
   past-step n (Literal width v) e r = beyond-other n _ (levelsAt text past ws (i + 1)) ∙ to-close n _ (close-other w ws n i (ap opens e) (ap closes e)) (r n)
   past-step n Symbol e r = beyond-other n _ (levelsAt text past ws (i + 1)) ∙ to-close n _ (close-other w ws n i (ap opens e) (ap closes e)) (r n)
+  past-step n Keyword e r = beyond-other n _ (levelsAt text past ws (i + 1)) ∙ to-close n _ (close-other w ws n i (ap opens e) (ap closes e)) (r n)
   past-step n (Faulty fault) e r = to-close n _ (close-other w ws n i (ap opens e) (ap closes e)) (r n)
 
 -- past the bracket that closes n lists and one more, those are open that were open around them
@@ -117,6 +118,10 @@ module _ (text : List ℕ) (ws : List Word) (i : ℕ) where
     pub trees-symbol : w .kind ≡ Symbol → treesAt text ws i ≡ tree (symbol i (bytesOf text w)) none (treesAt text ws (i + 1))
     unfolding treesFrom levelsAt levelsBefore
     trees-symbol e = rw (here, e)
+
+    pub trees-keyword : w .kind ≡ Keyword → treesAt text ws i ≡ tree (keyword i (bytesOf text w)) none (treesAt text ws (i + 1))
+    unfolding treesFrom levelsAt levelsBefore
+    trees-keyword e = rw (here, e)
 
     pub trees-list : w .kind ≡ Open
         → treesAt text ws i ≡

@@ -11,7 +11,7 @@ use Rattle.words.specs.Table.{closes, opens, rowWidth, wordTable, wordVa
 use Rattle.words.specs.Answers.{faultNumber, numberOf, passed, placeOf}
 use Rattle.words.specs.declared.Limits.{Limits}
 use Rattle.word_kinds.specs.declared.Kind.{Kind}
-use Rattle.word_kinds.specs.declared.Kind.the-variants.{Open, Close, Numeral, Literal, Symbol, Faulty}
+use Rattle.word_kinds.specs.declared.Kind.the-variants.{Open, Close, Numeral, Literal, Symbol, Keyword, Faulty}
 use Rattle.word_kinds.specs.declared.Fault.{Fault}
 use Rattle.word_kinds.specs.declared.Fault.the-variants.{NoFault, TooLong, Bracket, PastLimit}
 use Rattle.words.specs.declared.Reading.{Reading}
@@ -25,6 +25,7 @@ ownFault Close = NoFault
 ownFault (Numeral v) = NoFault
 ownFault (Literal width v) = NoFault
 ownFault Symbol = NoFault
+ownFault Keyword = NoFault
 
 -- "at one offset the least number": the fault of the two that has the lesser number, where there is one.
 abbrev pub lesser : Fault → Fault → Fault

@@ -6,7 +6,7 @@ use lib.Dec.{eqb}
 use Rattle.forest.specs.Tables.{rows}
 use Rattle.words.specs.Words.{Word}
 use Rattle.word_kinds.specs.declared.Kind.{Kind}
-use Rattle.word_kinds.specs.declared.Kind.the-variants.{Open, Close, Numeral, Literal, Symbol, Faulty}
+use Rattle.word_kinds.specs.declared.Kind.the-variants.{Open, Close, Numeral, Literal, Symbol, Keyword, Faulty}
 
 -- How many numbers a row has.
 abbrev pub rowWidth : ℕ
@@ -19,6 +19,7 @@ kindNumber Close = 2
 kindNumber (Numeral v) = 3
 kindNumber (Literal width v) = 4
 kindNumber Symbol = 5
+kindNumber Keyword = 6
 kindNumber (Faulty fault) = 0
 
 -- Whether a word is `(`.
@@ -36,6 +37,7 @@ widthOf (Numeral v) = 0
 widthOf Open = 0
 widthOf Close = 0
 widthOf Symbol = 0
+widthOf Keyword = 0
 widthOf (Faulty fault) = 0
 
 -- The value of a numeral or a literal; 0 for any other word.
@@ -45,6 +47,7 @@ valueOf (Numeral v) = v
 valueOf Open = 0
 valueOf Close = 0
 valueOf Symbol = 0
+valueOf Keyword = 0
 valueOf (Faulty fault) = 0
 
 -- The index past the bracket that closes the list in which the words stand, the first of which has index i and is within `inner` lists more; the index past the

@@ -4,7 +4,7 @@ use mathlib.Core.List.{List, [], _∷_}
 use lib.ListN.{drop, take}
 use Rattle.forest.specs.Forest.{Forest, none, tree}
 use Rattle.word_kinds.specs.declared.Kind.{Kind}
-use Rattle.word_kinds.specs.declared.Kind.the-variants.{Open, Close, Numeral, Literal, Symbol, Faulty}
+use Rattle.word_kinds.specs.declared.Kind.the-variants.{Open, Close, Numeral, Literal, Symbol, Keyword, Faulty}
 use Rattle.words.specs.Words.{Word}
 
 -- A word in a list, or a list. Each has its index among the words of the text.
@@ -13,6 +13,8 @@ pub data Lexeme : Type 0 where
   list : (at close : ℕ) → Lexeme
   -- a symbol, with its bytes
   symbol : (at : ℕ) → (name : List ℕ) → Lexeme
+  -- a keyword, with its bytes
+  keyword : (at : ℕ) → (name : List ℕ) → Lexeme
   -- a numeral, with its value
   numeral : (at value : ℕ) → Lexeme
   -- a `#x` or `#b` word, with its width, its value and its bytes
@@ -22,6 +24,7 @@ pub data Lexeme : Type 0 where
 abbrev pub wordOf : Lexeme → ℕ
 wordOf (list at close) = at
 wordOf (symbol at name) = at
+wordOf (keyword at name) = at
 wordOf (numeral at value) = at
 wordOf (literal at width value written) = at
 
@@ -55,6 +58,7 @@ levelsBefore text past i w Close levels = record { close = i; items = none } ∷
 levelsBefore text past i w (Numeral v) levels = withItem past (numeral i v) none levels
 levelsBefore text past i w (Literal width v) levels = withItem past (literal i width v (bytesOf text w)) none levels
 levelsBefore text past i w Symbol levels = withItem past (symbol i (bytesOf text w)) none levels
+levelsBefore text past i w Keyword levels = withItem past (keyword i (bytesOf text w)) none levels
 levelsBefore text past i w (Faulty fault) levels = levels
 
 -- The open lists before the words, the first of which has index i, of a text of `past` words; the innermost first.

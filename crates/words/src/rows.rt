@@ -1,5 +1,6 @@
 //! The row of a word and its value.
 use crate::table::CLOSE;
+use crate::table::KEYWORD;
 use crate::table::LITERAL;
 use crate::table::NUMERAL;
 use crate::table::OPEN;
@@ -20,6 +21,7 @@ pub fn kind_number(kind: Kind) -> u32
         Kind::Numeral(_) => NUMERAL,
         Kind::Literal(_, _) => LITERAL,
         Kind::Symbol => SYMBOL,
+        Kind::Keyword => KEYWORD,
         Kind::Faulty(_) => 0,
     }
 }
@@ -34,6 +36,7 @@ fn width_of(kind: Kind) -> u32
         Kind::Close => 0,
         Kind::Numeral(_) => 0,
         Kind::Symbol => 0,
+        Kind::Keyword => 0,
         Kind::Faulty(_) => 0,
     }
 }
@@ -48,6 +51,7 @@ fn value_of(kind: Kind) -> u64
         Kind::Open => 0,
         Kind::Close => 0,
         Kind::Symbol => 0,
+        Kind::Keyword => 0,
         Kind::Faulty(_) => 0,
     }
 }

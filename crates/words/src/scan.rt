@@ -28,6 +28,7 @@ fn own_fault(kind: Kind) -> Fault
         Kind::Numeral(_) => Fault::NoFault,
         Kind::Literal(_, _) => Fault::NoFault,
         Kind::Symbol => Fault::NoFault,
+        Kind::Keyword => Fault::NoFault,
     }
 }
 

@@ -18,6 +18,8 @@ pub const LITERAL: u32 = 4;
 
 pub const SYMBOL: u32 = 5;
 
+pub const KEYWORD: u32 = 6;
+
 // Number `column` of a word.
 fn number_at(table: &[u32], word: usize, column: usize) -> u32
     requires { ⌜ column < 5 ⌝ }

@@ -5,7 +5,7 @@ use mathlib.Core.Bool.{Bool, true, false}
 use mathlib.Core.List.{List, []}
 use Rattle.forest.specs.Forest.{count, tree}
 use Rattle.forest.proofs.Bools.{apart}
-use Rattle.words.specs.Trees.{Lexeme, list, literal, numeral, symbol, wordOf}
+use Rattle.words.specs.Trees.{Lexeme, keyword, list, literal, numeral, symbol, wordOf}
 use Rattle.lexemes.specs.Lists.{Items, after, inside, isList, isSymbol, item, nameOf}
 use Rattle.lexemes.specs.code.Table.{nextAt}
 use Rattle.lexemes.specs.code.Standing.{ItemAt, ListAt, Source, Stands, WordIs, bracketed, word}
@@ -16,6 +16,7 @@ pub symbol-word : (l : Lexeme) → isSymbol l ≡ true → isList l ≡ false
 symbol-word (symbol at name) e = refl
 symbol-word (list at close) e = sym e
 symbol-word (numeral at v) e = refl
+symbol-word (keyword at name) e = refl
 symbol-word (literal at width v written) e = refl
 
 -- what has a name of its own is no list
@@ -23,6 +24,7 @@ pub named-word : (test : List ℕ → Bool) → test [] ≡ false → (l : Lexem
 named-word test unnamed (symbol at name) e = refl
 named-word test unnamed (list at close) e = apart (sym unnamed ∙ e)
 named-word test unnamed (numeral at v) e = refl
+named-word test unnamed (keyword at name) e = refl
 named-word test unnamed (literal at width v written) e = refl
 
 module _ {s : Source} where

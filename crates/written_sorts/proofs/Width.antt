@@ -11,7 +11,7 @@ use Rattle.forest.proofs.Bools.{and-left, and-right, apart}
 use Rattle.forest.specs.Lists.{sameBytes}
 use Rattle.operators.specs.Sorts.{maxWidth}
 use Rattle.lexemes.specs.Reserved.{isWord}
-use Rattle.words.specs.Trees.{Lexeme, list, literal, numeral, symbol, wordOf}
+use Rattle.words.specs.Trees.{Lexeme, keyword, list, literal, numeral, symbol, wordOf}
 use Rattle.lexemes.specs.Lists.{Items, after, allNumerals, indexed, is, isList, isNumeral, item, numeralOf}
 use Rattle.lexemes.specs.code.Table.{codeAt, openCode, valueAt}
 use Rattle.lexemes.specs.code.Standing.{ListAt, valueOf}
@@ -33,6 +33,7 @@ numeral-word : (l : Lexeme) → isNumeral l ≡ true → NumeralWord l
 numeral-word (numeral at v) e = record { no-list = refl; value = refl }
 numeral-word (list at close) e = apart e
 numeral-word (symbol at name) e = apart e
+numeral-word (keyword at name) e = apart e
 numeral-word (literal at width v written) e = apart e
 
 -- Where the width of `(_ BitVec n)` stands, and what it is.
@@ -74,6 +75,7 @@ bit-vec : (l : Lexeme) (ops : Items) → sortShape l ops ≡ true → isList l �
 bit-vec (list at close) ops e h = e
 bit-vec (symbol at name) ops e h = apart h
 bit-vec (numeral at v) ops e h = apart h
+bit-vec (keyword at name) ops e h = apart h
 bit-vec (literal at width v written) ops e h = apart h
 
 module _ {lexemes : List ℕ} {at : ℕ} where

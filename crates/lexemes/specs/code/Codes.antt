@@ -3,9 +3,21 @@ use Prim.Native.Nat.{ℕ, _+_, _-_}
 use Rattle.operators.specs.Operators.{operatorCount}
 use Rattle.operators.specs.code.Operators.{extractNumber}
 
--- The code of the first of them.
+-- `:weights`
+abbrev pub weightsCode : ℕ
+weightsCode = 5
+
+-- `:weight`
+abbrev pub weightCode : ℕ
+weightCode = weightsCode + 1
+
+-- Any other keyword.
+abbrev pub otherKeywordCode : ℕ
+otherKeywordCode = weightCode + 1
+
+-- The code of the first of the symbols.
 abbrev pub firstCode : ℕ
-firstCode = 5
+firstCode = otherKeywordCode + 1
 
 -- `BV`
 abbrev pub bvCode : ℕ
@@ -47,13 +59,17 @@ checkSynthCode = constraintCode + 1
 abbrev pub assumeCode : ℕ
 assumeCode = checkSynthCode + 1
 
--- How many other commands there are, which are not carried; their codes follow that of `assume`.
+-- `set-feature`
+abbrev pub setFeatureCode : ℕ
+setFeatureCode = assumeCode + 1
+
+-- How many other commands there are, which are not carried; their codes follow that of `set-feature`.
 abbrev pub otherCommandCount : ℕ
-otherCommandCount = 21
+otherCommandCount = 20
 
 -- The first of them.
 abbrev pub otherCommandCode : ℕ
-otherCommandCode = assumeCode + 1
+otherCommandCode = setFeatureCode + 1
 
 -- `true`
 abbrev pub trueCode : ℕ

@@ -3,14 +3,15 @@ use Prim.Native.Nat.{ℕ, _+_, _*_, _≤_, _<_}
 use mathlib.Core.Bool.{cond}
 use mathlib.Core.List.{List, [], _∷_, _++_}
 use mathlib.Core.Path.{_≡_}
-use lib.Dec.{ltb}
+use lib.Dec.{eqb, ltb}
 use lib.ListN.{getD, length}
 use lib.Seq.{sets}
-use Rattle.words.specs.Table.{wordTable, wordValues}
+use Rattle.word_kinds.specs.declared.Kind.the-variants.{Keyword}
+use Rattle.words.specs.Table.{kindNumber, wordTable, wordValues}
 use Rattle.words.specs.code.Table.{endAt, nextAt, startAt, widthAt}
 use Rattle.words.specs.Words.{wordsOf}
-use Rattle.lexemes.specs.code.Codes.{firstCode}
-use Rattle.lexemes.specs.code.Table.{rowWidth, symbolCode}
+use Rattle.lexemes.specs.code.Codes.{weightsCode}
+use Rattle.lexemes.specs.code.Table.{keywordCode, rowWidth, symbolCode}
 
 -- The tables that are lent hold the words of a text and have room for its lexemes.
 pub record Numbering (text words values lexemes : List ℕ) (count : ℕ) : Type 0 where
@@ -23,7 +24,7 @@ pub record Numbering (text words values lexemes : List ℕ) (count : ℕ) : Type
 
 -- The code of a word by the number of its kind and its bytes.
 abbrev pub codeBy : (kind : ℕ) → (bytes : List ℕ) → ℕ
-codeBy kind bytes = cond (ltb kind firstCode) kind (symbolCode bytes)
+codeBy kind bytes = cond (ltb kind weightsCode) kind (cond (eqb kind (kindNumber Keyword)) (keywordCode bytes) (symbolCode bytes))
 
 -- There is a value and a row for word i.
 pub record RowRoom (values lexemes : List ℕ) (i : ℕ) : Type 0 where

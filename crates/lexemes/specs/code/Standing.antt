@@ -5,7 +5,7 @@ use mathlib.Core.List.{List, []}
 use mathlib.Core.Path.{_≡_}
 use lib.ListN.{drop, take}
 use Rattle.forest.specs.Forest.{none, tree}
-use Rattle.words.specs.Trees.{Lexeme, list, literal, numeral, symbol, wordOf}
+use Rattle.words.specs.Trees.{Lexeme, keyword, list, literal, numeral, symbol, wordOf}
 use Rattle.words.specs.Words.{wordsOf}
 use Rattle.lexemes.specs.Lists.{Items, after, isList, isNumeral}
 use Rattle.lexemes.specs.code.Table.{closeCode, codeAt, codeOf, endAt, lexemeTable, nextAt, openCode, startAt, valueAt, widthAt}
@@ -28,6 +28,7 @@ abbrev pub bytesKept : Lexeme → List ℕ
 bytesKept (list at close) = []
 bytesKept (numeral at v) = []
 bytesKept (symbol at name) = name
+bytesKept (keyword at name) = name
 bytesKept (literal at width v written) = written
 
 -- The width of a literal, 0 of another lexeme.
@@ -35,6 +36,7 @@ abbrev pub widthOf : Lexeme → ℕ
 widthOf (list at close) = 0
 widthOf (numeral at v) = 0
 widthOf (symbol at name) = 0
+widthOf (keyword at name) = 0
 widthOf (literal at width v written) = width
 
 -- The value of a numeral or a literal, 0 of another lexeme.
@@ -42,6 +44,7 @@ abbrev pub valueOf : Lexeme → ℕ
 valueOf (list at close) = 0
 valueOf (numeral at v) = v
 valueOf (symbol at name) = 0
+valueOf (keyword at name) = 0
 valueOf (literal at width v written) = v
 
 -- Word i is the lexeme, which is no list.

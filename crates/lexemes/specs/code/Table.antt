@@ -1,16 +1,18 @@
 -- The table of lexemes: six numbers for each word of a text, brackets counted. The reader of scripts and responses goes by this table alone, but for the
 -- bytes of names and literals.
 use Prim.Native.Nat.{ℕ, _+_}
+use mathlib.Core.Bool.{cond}
 use mathlib.Core.List.{List, [], _∷_}
 use Rattle.forest.specs.code.Rows.{numberAt}
 use Rattle.forest.specs.Tables.{rows}
+use Rattle.lexemes.specs.Reserved.{isWord}
 use Rattle.lexemes.specs.code.Reserved.{wordNumber}
 use Rattle.word_kinds.specs.declared.Kind.{Kind}
-use Rattle.word_kinds.specs.declared.Kind.the-variants.{Open, Close, Numeral, Literal, Symbol, Faulty}
+use Rattle.word_kinds.specs.declared.Kind.the-variants.{Open, Close, Numeral, Literal, Symbol, Keyword, Faulty}
 use Rattle.words.specs.Table.{Entry, entries, valueOf, widthOf}
-use Rattle.words.specs.Trees.{Lexeme, bytesOf, list, literal, numeral, symbol}
+use Rattle.words.specs.Trees.{Lexeme, bytesOf, keyword, list, literal, numeral, symbol}
 use Rattle.words.specs.Words.{Word}
-use Rattle.lexemes.specs.code.Codes.{firstCode}
+use Rattle.lexemes.specs.code.Codes.{firstCode, otherKeywordCode, weightCode, weightsCode}
 
 -- The code of `(`.
 abbrev pub openCode : ℕ
@@ -32,6 +34,10 @@ literalCode = 4
 abbrev pub symbolCode : (name : List ℕ) → ℕ
 symbolCode name = firstCode + wordNumber name
 
+-- The code of a keyword.
+unfoldable pub keywordCode : (name : List ℕ) → ℕ
+keywordCode name = cond (isWord ":weights" name) weightsCode (cond (isWord ":weight" name) weightCode otherKeywordCode)
+
 -- The code of a word by its kind and its bytes; 0 stands past the end of a table.
 abbrev pub kindCode : Kind → (bytes : List ℕ) → ℕ
 kindCode Open bytes = openCode
@@ -39,6 +45,7 @@ kindCode Close bytes = closeCode
 kindCode (Numeral v) bytes = numeralCode
 kindCode (Literal width v) bytes = literalCode
 kindCode Symbol bytes = symbolCode bytes
+kindCode Keyword bytes = keywordCode bytes
 kindCode (Faulty fault) bytes = 0
 
 -- How many numbers a row has.
@@ -84,3 +91,4 @@ codeOf (list at close) = openCode
 codeOf (numeral at v) = numeralCode
 codeOf (literal at width v written) = literalCode
 codeOf (symbol at name) = symbolCode name
+codeOf (keyword at name) = keywordCode name

@@ -35,6 +35,7 @@ use Rattle.script.specs.code.Places.{bodiesPlace, constraintsPlace, func
 -- The numbers of each kind are those of what is known, and within the limits.
 pub record Counted (p : Progress) (k : Known) : Type 0 where
   pub logic-is : p .logic ≡ k .logic
+  pub weights-is : p .weights ≡ k .weights
   pub ended-is : p .ended ≡ k .ended
   pub variables-are : p .variables ≡ length (k .variables)
   pub defined-are : p .defined ≡ length (k .defined)

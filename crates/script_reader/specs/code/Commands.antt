@@ -6,7 +6,7 @@ use mathlib.Core.Path.{_≡_}
 use lib.Dec.{eqb}
 use lib.ListN.{length}
 use Rattle.terms.specs.code.Nodes.{rowWidth as nodeWidth}
-use Rattle.lexemes.specs.code.Codes.{assumeCode, checkSynthCode, constraintCode, declareVarCode, defineFunCode, setLogicCode, synthFunCode}
+use Rattle.lexemes.specs.code.Codes.{assumeCode, checkSynthCode, constraintCode, declareVarCode, defineFunCode, setFeatureCode, setLogicCode, synthFunCode}
 use Rattle.term_nodes.specs.code.Table.{rowWidth as rawWidth}
 use Rattle.script.specs.Script.{Read, passed, refused}
 use Rattle.script.specs.code.Tables.{TablesHold}
@@ -28,6 +28,7 @@ pub record Roomy (raw nodes forms : List ℕ) (nowhere : ℕ) : Type 0 where
 abbrev pub saidBy : Progress → (code rows : ℕ) → Progress
 saidBy p code rows = record {
   logic = p .logic || eqb code setLogicCode;
+  weights = p .weights || eqb code setFeatureCode;
   ended = p .ended || eqb code checkSynthCode;
   variables = cond (eqb code declareVarCode) (p .variables + 1) (p .variables);
   defined = cond (eqb code defineFunCode) (p .defined + 1) (p .defined);

@@ -41,7 +41,7 @@ ReadsScript text lexemes names raw places nodes forms nowhere namesAfter placesA
 -- What is said before the first command, in numbers.
 abbrev pub nothingSaid : Progress
 nothingSaid =
-    record { logic = false; ended = false; variables = 0; defined = 0; functions = 0; constraints = 0; assumptions = 0; nodes = 0; forms = 0 }
+    record { logic = false; weights = false; ended = false; variables = 0; defined = 0; functions = 0; constraints = 0; assumptions = 0; nodes = 0; forms = 0 }
 
 -- The step at the end of a script, by whether there was a `check-synth`.
 abbrev pub lastStep : (nowhere : ℕ) → (ended : Bool) → Progress → Step

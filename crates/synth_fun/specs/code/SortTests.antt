@@ -65,7 +65,7 @@ pub record Comparing (text lexemes names raw places column : List ℕ) (p : Prog
   pub lists : Declared text lexemes names i (h .listed)
   pub one-more : p .functions < mostFunctions
   pub room : ownRules (p .functions) ≤ length places
-  pub rules : RulesSought raw (fromPlace (ownRules (p .functions)) places) places column (g .rule) (h .listed)
+  pub rules : RulesSought lexemes raw (fromPlace (ownRules (p .functions)) places) places column (g .rule) (h .listed)
 
 -- The least word at fault in it is found.
 abbrev pub FindsMisfit : (text lexemes names raw places column : List ℕ) → Command → Parts → (r : ℕ) → Type 0

@@ -13,16 +13,17 @@ use Rattle.names.specs.Scopes.{View, formsOf, namedSorts}
 use Rattle.term_nodes.specs.Rules.{Ruled, sides}
 use Rattle.term_nodes.specs.code.RuleGathering.{startTable}
 use Rattle.term_faults.specs.Faults.{ruleMisfit, scopeOf}
+use Rattle.term_faults.specs.code.Roots.{ruleFirst}
 use Rattle.forest.specs.Limits.{mostNonTerminals}
 
--- The right side of a rule is one tree, which begins at the rule's first word.
-abbrev pub Single : Ruled → Type 0
-Single r = (root : Raw) × (operands : Forest Raw) × (r .side ≡ tree root operands none) × (firstWord root ≡ r .first)
+-- The right side of a rule is one tree, whose first word tells that of the rule.
+abbrev pub Single : (lexemes : List ℕ) → Ruled → Type 0
+Single lexemes r = (root : Raw) × (operands : Forest Raw) × (r .side ≡ tree root operands none) × (ruleFirst lexemes (firstWord root) ≡ r .first)
 
 -- The same of every rule.
-unfoldable pub AllSingle : List Ruled → Type 0
-AllSingle [] = Unit {0}
-AllSingle (r ∷ more) = Single r × AllSingle more
+unfoldable pub AllSingle : (lexemes : List ℕ) → List Ruled → Type 0
+AllSingle lexemes [] = Unit {0}
+AllSingle lexemes (r ∷ more) = Single lexemes r × AllSingle lexemes more
 
 -- The sorts of so many non-terminals, in the table of signatures.
 pub record Heads (signatures : List ℕ) (listed : ℕ) : Type 0 where
@@ -37,9 +38,9 @@ pub record HeadSort {signatures : List ℕ} {listed : ℕ} (p : Heads signatures
   pub low : r ≤ maxWidth
 
 -- Rules, their nodes, where each starts and its non-terminal, and the sorts of their nodes, in tables; and how many non-terminals there are.
-pub record RulesSought (raw rules signatures column : List ℕ) (count listed : ℕ) : Type 0 where
+pub record RulesSought (lexemes raw rules signatures column : List ℕ) (count listed : ℕ) : Type 0 where
   pub ruled : List Ruled
-  pub single : AllSingle ruled
+  pub single : AllSingle lexemes ruled
   pub rest : List ℕ
   pub is-raw : raw ≡ rawTable (sides ruled) ++ rest
   pub others : List ℕ
@@ -53,10 +54,10 @@ pub record RulesSought (raw rules signatures column : List ℕ) (count listed : 
   pub few : listed ≤ mostNonTerminals
 
 -- The least first word of a rule that is not of its non-terminal's sort is found.
-abbrev pub RulesFound : {raw rules signatures column : List ℕ} {count listed : ℕ} → RulesSought raw rules signatures column count listed
+abbrev pub RulesFound : {lexemes raw rules signatures column : List ℕ} {count listed : ℕ} → RulesSought lexemes raw rules signatures column count listed
     → (nowhere r : ℕ) → Type 0
 RulesFound p nowhere r = r ≡ ruleMisfit nowhere (p .view) (p .ruled)
 
 -- The same, for whatever the tables hold.
-abbrev pub FindsInRules : (raw rules signatures column : List ℕ) → (count listed nowhere r : ℕ) → Type 0
-FindsInRules raw rules signatures column count listed nowhere r = (p : RulesSought raw rules signatures column count listed) → RulesFound p nowhere r
+abbrev pub FindsInRules : (lexemes raw rules signatures column : List ℕ) → (count listed nowhere r : ℕ) → Type 0
+FindsInRules lexemes raw rules signatures column count listed nowhere r = (p : RulesSought lexemes raw rules signatures column count listed) → RulesFound p nowhere r

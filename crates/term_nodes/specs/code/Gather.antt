@@ -11,7 +11,7 @@ use Rattle.words.specs.Trees.{Lexeme}
 use Rattle.lexemes.specs.Lists.{Items, is, isList, item}
 use Rattle.lexemes.specs.code.Standing.{Source, Stands}
 use Rattle.lexemes.specs.code.Table.{nextAt}
-use Rattle.shapes.specs.Shapes.{ruleShape, termShapes}
+use Rattle.shapes.specs.Shapes.{isAnnotated, ruleShape, termShapes}
 use Rattle.term_nodes.specs.Terms.{Raw, rawRule, rawTerms}
 use Rattle.term_nodes.specs.code.Table.{uncountedTable, rowWidth}
 
@@ -58,6 +58,10 @@ pub record Gathering (lexemes : List ℕ) (i e : ℕ) (raw : List ℕ) (n : ℕ)
 -- Their nodes are gathered.
 abbrev pub Gathered : {lexemes : List ℕ} {i e : ℕ} {raw : List ℕ} {n : ℕ} → Gathering lexemes i e raw n → (rawAfter : List ℕ) → (m : ℕ) → Type 0
 Gathered {raw = raw} p rawAfter m = Behind raw (p .rows .before) (rawTerms false (p .items)) rawAfter m
+
+-- The word at which the term of a rule stands that is one: behind `(!` where it has attributes.
+abbrev pub termWord : (i : ℕ) → Lexeme → Items → ℕ
+termWord i l ops = cond (isAnnotated l ops) (i + 2) i
 
 -- A rule stands at word i, before word e, and the table has a row for each of its words behind its first n.
 pub record GatheringRule (lexemes : List ℕ) (i : ℕ) (raw : List ℕ) (n : ℕ) : Type 0 where

@@ -21,8 +21,8 @@ unfoldable pub startTable : (start : ℕ) → List Ruled → List ℕ
 startTable start [] = []
 startTable start (r ∷ more) = start ∷ r .head ∷ weightIn r ∷ startTable (start + size (r .side)) more
 
--- The rules `done` are gathered: their nodes stand in the first rows of one table, where each starts, its non-terminal and its weight in another, which has room for
--- `most`; there is a node for each rule or more; the word past a limit is found; and the tables are as long as those that were lent.
+-- The rules `done` are gathered: their nodes stand in the first rows of one table, where each starts, its non-terminal and its weight in another, which has room
+-- for `most`; there is a node for each rule or more; the word past a limit is found; and the tables are as long as those that were lent.
 pub record Holds (nowhere most nodes : ℕ) (rawLent rulesLent raw rules : List ℕ) (done : List Ruled) (g : Gathered) : Type 0 where
   pub rest : List ℕ
   pub raw-is : raw ≡ uncountedTable (sides done) ++ rest

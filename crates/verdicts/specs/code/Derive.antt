@@ -82,8 +82,10 @@ pub record OneDerivable (places nodes forms : List ℕ) (j : ℕ) (area : List �
   pub sized : length area ≡ areaSize
   pub low : j < mostFunctions
 
--- The function's rules derive the body, its list in the area shows the least derivation, and the total is what it weighs; or no list of rules does, and the area is as it was.
-pub record OneJudged {places nodes forms area : List ℕ} {j : ℕ} (q : OneDerivable places nodes forms j area) (areaAfter : List ℕ) (answer : Bool) (total : ℕ) : Type 0 where
+-- The function's rules derive the body, its list in the area shows the least derivation, and the total is what it weighs; or no list of rules does,
+-- and the area is as it was.
+pub record OneJudged {places nodes forms area : List ℕ} {j : ℕ} (q : OneDerivable places nodes forms j area) (areaAfter : List ℕ) (answer : Bool)
+    (total : ℕ) : Type 0 where
   pub yes! : answer ≡ true → ShownIn (q .function .grammar) (q .body) j area areaAfter total
   pub no! : answer ≡ false → NotDerived (q .function .grammar) (q .body) area areaAfter total
 

@@ -1,5 +1,5 @@
 use Rattle.shapes.proofs.CarriedChoosing.{carried-command, other-list, uncarried-command}
-use Rattle.lexemes.proofs.Listed.{as-item, between, item-ahead, list-room}
+use Rattle.lexemes.proofs.Listed.{list-room}
 use native.Mathlib.Omega.{arith}
 use borrow.Author.Needs.{needs}
 use Rattle.shapes.proofs.carried.not_carried.Statement.{statement}
@@ -14,6 +14,9 @@ code-at-requires c κs = search needs
 returns : tie.Need-returns
 returns c = search other-list
 
+other-feature-requires : tie.Need-other-feature-requires
+other-feature-requires c κs = search needs
+
 other-logic-requires : tie.Need-other-logic-requires
 other-logic-requires c κs = search needs
 
@@ -23,18 +26,8 @@ no-grammar-requires c κs = search needs
 returns-2 : tie.Need-returns-2
 returns-2 c = search uncarried-command
 
-add-any-uncarried : tie.Need-add-any-uncarried
-add-any-uncarried c = omega (arith, list-room (c .before .before .before .before .before .before .pre))
-
-next-at-requires : tie.Need-next-at-requires
-next-at-requires c κs = search needs
-
-sub-any-uncarried : tie.Need-sub-any-uncarried
-sub-any-uncarried c =
-    omega (arith, item-ahead (as-item (c .before .before .before .before .before .before .before .pre)) (c .next-at .ensures))
-
-any-uncarried-requires : tie.Need-any-uncarried-requires
-any-uncarried-requires c κs = between (c .before .before .before .before .before .before .before .pre) (c .next-at .ensures)
+command-uncarried-requires : tie.Need-command-uncarried-requires
+command-uncarried-requires c κs = search needs
 
 returns-3 : tie.Need-returns-3
 returns-3 c = search carried-command
@@ -46,11 +39,9 @@ not-carried-spec =
     add-code-at
     code-at-requires
     returns
+    other-feature-requires
     other-logic-requires
     no-grammar-requires
     returns-2
-    add-any-uncarried
-    next-at-requires
-    sub-any-uncarried
-    any-uncarried-requires
+    command-uncarried-requires
     returns-3)

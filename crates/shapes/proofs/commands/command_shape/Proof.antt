@@ -35,6 +35,9 @@ count-in-requires c κs = search needs
 constraint-shape-requires-2 : tie.Need-constraint-shape-requires-2
 constraint-shape-requires-2 c κs = search needs
 
+set-feature-shape-requires : tie.Need-set-feature-shape-requires
+set-feature-shape-requires c κs = search needs
+
 returns : tie.Need-returns
 returns c = λ here. c .set-logic-shape .ensures here ∙ named-command (c .before .before .code-at .ensures) (c .before .match .keys1) here
 
@@ -61,9 +64,13 @@ returns-7 : tie.Need-returns-7
 returns-7 c = λ here. c .constraint-shape2 .ensures here ∙ named-command (c .before .before .code-at .ensures) (c .before .match .keys7) here
 
 returns-8 : tie.Need-returns-8
-returns-8 c =
+returns-8 c = λ here. c .set-feature-shape .ensures here ∙ named-command (c .before .before .code-at .ensures) (c .before .match .keys8) here
+
+returns-9 : tie.Need-returns-9
+returns-9 c =
     let n = c .match .rest in
-    no-command (c .before .code-at .ensures) (n .0 .0 .0 .0 .0 .0 .1) (n .0 .0 .0 .0 .0 .1) (n .0 .0 .0 .0 .1) (n .0 .0 .0 .1) (n .0 .0 .1) (n .0 .1) (n .1)
+    no-command (c .before .code-at .ensures) (n .0 .0 .0 .0 .0 .0 .0 .1) (n .0 .0 .0 .0 .0 .0 .1) (n .0 .0 .0 .0 .0 .1) (n .0 .0 .0 .0 .1) (n .0 .0 .0 .1)
+    (n .0 .0 .1) (n .0 .1) (n .1)
 
 pub command-shape-spec : {M : Type 1} → statement M
 command-shape-spec =
@@ -78,6 +85,7 @@ command-shape-spec =
     constraint-shape-requires
     count-in-requires
     constraint-shape-requires-2
+    set-feature-shape-requires
     returns
     returns-2
     returns-3
@@ -85,4 +93,5 @@ command-shape-spec =
     returns-5
     returns-6
     returns-7
-    returns-8)
+    returns-8
+    returns-9)

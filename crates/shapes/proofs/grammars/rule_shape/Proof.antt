@@ -8,11 +8,11 @@ use Rattle.shapes.proofs.grammars.rule_shape.Tie as tie
 is-pattern-requires : tie.Need-is-pattern-requires
 is-pattern-requires c κs = search needs
 
-term-shape-requires : tie.Need-term-shape-requires
-term-shape-requires c κs = search needs
+term-rule-shape-requires : tie.Need-term-rule-shape-requires
+term-rule-shape-requires c κs = search needs
 
 returns : tie.Need-returns
-returns c = term-made (c .before .before .is-pattern .ensures) (c .before .if1 .taken) (c .term-shape .ensures)
+returns c = term-made (c .before .before .is-pattern .ensures) (c .before .if1 .taken) (c .term-rule-shape .ensures)
 
 count-in-requires : tie.Need-count-in-requires
 count-in-requires c κs = search pattern-list
@@ -39,7 +39,7 @@ rule-shape-spec =
     tie.close
     (tie.spec
     is-pattern-requires
-    term-shape-requires
+    term-rule-shape-requires
     returns
     count-in-requires
     returns-2

@@ -1,6 +1,6 @@
 use Rattle.lexemes.proofs.Listed.{as-item}
 use Rattle.lexemes.proofs.Pending.{DownAny, list-given, skip-less}
-use Rattle.shapes.proofs.TermWalk.{Terms, terms-behind, terms-end, terms-less, terms-miss, terms-skip, terms-start, terms-word}
+use Rattle.shapes.proofs.TermWalk.{Terms, terms-behind, terms-end, terms-keyword, terms-less, terms-miss, terms-skip, terms-start, terms-word}
 use Prim.Native.Nat.{_-_}
 use borrow.Author.Needs.{needs}
 use native.Mathlib.Omega.{arith}
@@ -18,6 +18,9 @@ loop-holds c = search terms-start
 
 code-at-requires : tie.Need-code-at-requires Inv-loop μ-loop
 code-at-requires c κs = search needs
+
+returns : tie.Need-returns Inv-loop μ-loop
+returns c = search terms-keyword
 
 add-at : tie.Need-add-at Inv-loop μ-loop
 add-at c = omega arith
@@ -55,11 +58,11 @@ loop-less-3 c = search terms-less
 loop-again-3 : tie.Need-loop-again-3 Inv-loop μ-loop
 loop-again-3 c = search terms-behind
 
-returns : tie.Need-returns Inv-loop μ-loop
-returns c = search terms-miss
-
 returns-2 : tie.Need-returns-2 Inv-loop μ-loop
-returns-2 c = search terms-end
+returns-2 c = search terms-miss
+
+returns-3 : tie.Need-returns-3 Inv-loop μ-loop
+returns-3 c = search terms-end
 
 pub term-shapes-spec : {M : Type 1} → statement M
 term-shapes-spec =
@@ -69,6 +72,7 @@ term-shapes-spec =
     μ-loop
     loop-holds
     code-at-requires
+    returns
     add-at
     loop-less
     loop-again
@@ -81,5 +85,5 @@ term-shapes-spec =
     next-at-requires-2
     loop-less-3
     loop-again-3
-    returns
-    returns-2)
+    returns-2
+    returns-3)

@@ -7,10 +7,10 @@ use Rattle.term_faults.proofs.grammars.rules_misfit.Statement.{statemen
 use Rattle.term_faults.proofs.grammars.rules_misfit.Tie as tie
 
 abbrev Inv-loop : tie.InvT-loop
-Inv-loop raw rules signatures column count listed nowhere place₀ rule₀ place rule = Passing raw rules signatures column count listed nowhere place rule
+Inv-loop lexemes raw rules signatures column count listed nowhere place₀ rule₀ place rule = Passing lexemes raw rules signatures column count listed nowhere place rule
 
 abbrev μ-loop : tie.MeasureT-loop
-μ-loop raw rules signatures column count listed nowhere place₀ rule₀ place rule = count - rule
+μ-loop lexemes raw rules signatures column count listed nowhere place₀ rule₀ place rule = count - rule
 
 loop-holds : tie.Need-loop-holds Inv-loop μ-loop
 loop-holds c = search passing-begins
@@ -39,8 +39,8 @@ shared-slice-read-head c = omega arith
 head-sort-requires : tie.Need-head-sort-requires Inv-loop μ-loop
 head-sort-requires c κs = search heads
 
-root-misfit-requires : tie.Need-root-misfit-requires Inv-loop μ-loop
-root-misfit-requires c κs =
+side-misfit-requires : tie.Need-side-misfit-requires Inv-loop μ-loop
+side-misfit-requires c κs =
     root-here (c .before .before .before .before .loop .inv) (c .before .before .before .loop-test .taken) refl refl (c .head-sort .ensures)
 
 least-requires : tie.Need-least-requires Inv-loop μ-loop
@@ -61,7 +61,7 @@ loop-again c =
     refl
     refl
     (c .before .before .head-sort .ensures)
-    (c .before .root-misfit .ensures)
+    (c .before .side-misfit .ensures)
     (c .least .ensures)
 
 returns : tie.Need-returns Inv-loop μ-loop
@@ -82,7 +82,7 @@ rules-misfit-spec =
     mul-head-2
     shared-slice-read-head
     head-sort-requires
-    root-misfit-requires
+    side-misfit-requires
     least-requires
     add-rule
     loop-less

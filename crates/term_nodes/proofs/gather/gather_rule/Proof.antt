@@ -7,6 +7,9 @@ use Rattle.term_nodes.proofs.gather.gather_rule.Tie as tie
 is-pattern-requires : tie.Need-is-pattern-requires
 is-pattern-requires c κs = search needs
 
+term-of-requires : tie.Need-term-of-requires
+term-of-requires c κs = search needs
+
 next-at-requires : tie.Need-next-at-requires
 next-at-requires c κs = search needs
 
@@ -39,6 +42,7 @@ gather-rule-spec =
     tie.close
     (tie.spec
     is-pattern-requires
+    term-of-requires
     next-at-requires
     gather-terms-requires
     same-length

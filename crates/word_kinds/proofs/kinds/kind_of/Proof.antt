@@ -1,4 +1,4 @@
-use Rattle.word_kinds.proofs.Forms.{kind-close, kind-hashed, kind-none, kind-numeral, kind-open, kind-symbol, kind-uncarried}
+use Rattle.word_kinds.proofs.Forms.{kind-close, kind-hashed, kind-marked, kind-none, kind-numeral, kind-open, kind-symbol}
 use borrow.Author.Needs.{needs}
 use Rattle.word_kinds.proofs.kinds.kind_of.Statement.{statement}
 use Rattle.word_kinds.proofs.kinds.kind_of.Tie as tie
@@ -18,8 +18,11 @@ returns-3 c = search kind-close
 is-uncarried-requires : tie.Need-is-uncarried-requires
 is-uncarried-requires c κs = search needs
 
+marked-of-requires : tie.Need-marked-of-requires
+marked-of-requires c κs = search needs
+
 returns-4 : tie.Need-returns-4
-returns-4 c = search kind-uncarried
+returns-4 c = search kind-marked
 
 is-digit-requires : tie.Need-is-digit-requires
 is-digit-requires c κs = search needs
@@ -60,6 +63,7 @@ kind-of-spec =
     returns-2
     returns-3
     is-uncarried-requires
+    marked-of-requires
     returns-4
     is-digit-requires
     numeral-of-requires
