@@ -7,7 +7,8 @@ use mathlib.Core.List.{List, [], _∷_, append-nil}
 use lib.ListN.{length}
 use Rattle.forest.specs.Forest.{Forest, none, tree}
 use Rattle.terms.specs.Labels.{Label, Terms, literal, name, operator}
-use Rattle.derivation.specs.Derivation.{Item, Grammar, Rule, rule, headOf, formOf, Derives, Fresh, Simple, the, nonTerminal, done, use-rule, same, s-done, s-rule, s-leaf, s-same, weightOf, leaf}
+use Rattle.derivation.specs.Derivation.{Item, Grammar, Rule, rule, headOf, formOf, Derives, Fresh, Simple, the, nonTerminal, done, use-rule, same, s-done}
+use Rattle.derivation.specs.Derivation.{s-rule, s-leaf, s-same, weightOf, leaf}
 use Rattle.derivation.specs.Least.{Before, First, Least, totalOf, fewer, lighter, lower}
 use Rattle.derivation.specs.Answer.{start}
 use Rattle.derivation.proofs.Same.{same-self}

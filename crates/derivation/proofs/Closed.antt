@@ -22,7 +22,7 @@ use Rattle.derivation.proofs.Order.{before-more, first-cons, first-tran
 use Rattle.derivation.proofs.Rank.{better-first, rank-bound, rank-cons}
 use Rattle.derivation.proofs.LeastParts.{best}
 use Rattle.derivation.proofs.Parts.{tree-ends, tree-some}
-use Rattle.derivation.proofs.Uses.{chain-code, chain-view, head-is, no-chain-view, rules-count, weight-is}
+use Rattle.derivation.proofs.RuleFirst.{chain-code, chain-view, head-is, no-chain-view, rules-count, weight-is}
 use Rattle.derivation.proofs.Likeness.{any-not-hole}
 use Rattle.derivation.proofs.Count.{cnt, cnt-grow, cnt-le}
 use Rattle.forest.specs.Limits.{mostNonTerminals}
@@ -151,13 +151,15 @@ module _ {rules forms body masks : List ℕ} {i : ℕ} (q : Asks rules forms bod
   Chosen row chosen s = (A : ℕ) → A < mostNonTerminals → has s A ≡ true
       → (k : ℕ) × Chain G T s chosen A k × (k ≤ cnt (has s) mostNonTerminals) × Ranked G (tree (nonTerminal A) none none) (first 1 T) (roomy s) (getD row A 0)
 
-  pub grows : (s r s' : ℕ) → r < length (G .rules) → has s (headOf (G .rules) r) ≡ false → Puts s (headOf (G .rules) r) s' → cnt (has s) mostNonTerminals < cnt (has s') mostNonTerminals
+  pub grows : (s r s' : ℕ) → r < length (G .rules) → has s (headOf (G .rules) r) ≡ false → Puts s (headOf (G .rules) r) s'
+      → cnt (has s) mostNonTerminals < cnt (has s') mostNonTerminals
   grows s r s' h f p =
       cnt-grow (has s) (has s') mostNonTerminals (headOf (G .rules) r) (λ j l t. p .off j (λ e. true≢false (sym t ∙ ap (has s) e ∙ f)) ∙ t)
       (q .given .admitted .low r h) f (p .on)
 
   -- the rule that was set is the one chosen
-  now-chosen : (chosen : List ℕ) (r : ℕ) → length chosen ≡ mostNonTerminals → r < length (G .rules) → getD (set chosen (headOf (G .rules) r) r) (headOf (G .rules) r) 0 ≡ r
+  now-chosen : (chosen : List ℕ) (r : ℕ) → length chosen ≡ mostNonTerminals → r < length (G .rules)
+      → getD (set chosen (headOf (G .rules) r) r) (headOf (G .rules) r) 0 ≡ r
   now-chosen chosen r lc h = getD-set-same chosen (headOf (G .rules) r) r 0 (omega (arith, q .given .admitted .low r h))
 
   -- what a rule with a price leads to
@@ -186,17 +188,17 @@ module _ {rules forms body masks : List ℕ} {i : ℕ} (q : Asks rules forms bod
     leads r c h (known t e) nz = absurd (nz e)
     leads r c h (not-yet f k n e) nz = absurd (nz e)
     leads r c h (plain f k e) nz =
-        let np = no-chain-view q r h k in
-        let m = pr .each r (omega (arith, rules-count q)) k in
+        let np = no-chain-view (q .given) r h k in
+        let m = pr .each r (omega (arith, rules-count (q .given))) k in
         let t = m .sound (record { asks = q; is-rule = h; no-chain = np }) (λ z. nz (e ∙ z)) in
         let fi : Fits G (formOf (G .rules) r) T = first-fits (formOf (G .rules) r) (q .given .admitted .single r h) (t .ds) (t .least .derivation) in
         record {
           through = record { ds = t .ds; least = t .least; rank = e ∙ t .rank; few = omega (arith, t .few, tree-some q) };
           applies = no-chain np fi;
-          fresh = ap (has s) (sym (head-is q r h)) ∙ f;
+          fresh = ap (has s) (sym (head-is (q .given) r h)) ∙ f;
         }
     leads r c h (chained f k y! e) nz =
-        let v = chain-view q r h k in
+        let v = chain-view (q .given) r h k in
         let hb : has s (v .B) ≡ true = ap (has s) (sym (v .value)) ∙ y! in
         let o = me (v .B) (v .low) hb .3 in
         let er : getD row (valueAt forms (startAt rules r)) 0 ≡ getD row (v .B) 0 = ap (λ (x : ℕ). getD row x 0) (v .value) in
@@ -204,24 +206,24 @@ module _ {rules forms body masks : List ℕ} {i : ℕ} (q : Asks rules forms bod
           through = record {
             ds = o .ds;
             least = subst (λ (x : Forest Item). Least G x (first 1 T) (o .ds)) (sym (v .is)) (o .least);
-            rank = omega (arith, e, er, o .rank, rank-cons G r (o .ds), weight-is q r h);
+            rank = omega (arith, e, er, o .rank, rank-cons G r (o .ds), weight-is (q .given) r h);
             few = omega (arith, o .few);
           };
           applies = chain (v .B) (v .is) hb;
-          fresh = ap (has s) (sym (head-is q r h)) ∙ f;
+          fresh = ap (has s) (sym (head-is (q .given) r h)) ∙ f;
         }
 
     -- a rule that can be used has a price
     pub offers : (r c : ℕ) → r < length (G .rules) → Price rules forms costs row s r c → has s (headOf (G .rules) r) ≡ false → Applies G T s r → c ≡ 0 → ⊥
-    offers r c h (known t e) fr ap! z = true≢false (sym t ∙ ap (has s) (head-is q r h) ∙ fr)
-    offers r c h (plain f k e) fr (chain B is y!) z = k (chain-code q r h B is)
+    offers r c h (known t e) fr ap! z = true≢false (sym t ∙ ap (has s) (head-is (q .given) r h) ∙ fr)
+    offers r c h (plain f k e) fr (chain B is y!) z = k (chain-code (q .given) r h B is)
     offers r c h (plain f k e) fr (no-chain np fi) z =
-        pr .each r (omega (arith, rules-count q)) k .complete (record { asks = q; is-rule = h; no-chain = np }) (sym e ∙ z) fi
+        pr .each r (omega (arith, rules-count (q .given))) k .complete (record { asks = q; is-rule = h; no-chain = np }) (sym e ∙ z) fi
     offers r c h (not-yet f k n e) fr (chain B is y!) z =
-        let v = chain-view q r h k in
+        let v = chain-view (q .given) r h k in
         let eB : v .B ≡ B = cc (v .is) in
         true≢false (sym y! ∙ ap (has s) (sym eB ∙ sym (v .value)) ∙ n)
-    offers r c h (not-yet f k n e) fr (no-chain np fi) z = let v = chain-view q r h k in np (v .B) none none (v .is)
+    offers r c h (not-yet f k n e) fr (no-chain np fi) z = let v = chain-view (q .given) r h k in np (v .B) none none (v .is)
     offers r c h (chained f k y! e) fr ap! z = omega arith
 
     -- with no price left nothing can be added
@@ -231,7 +233,7 @@ module _ {rules forms body masks : List ℕ} {i : ℕ} (q : Asks rules forms bod
         go : (b : Bool) → has s (headOf (G .rules) k) ≡ b → has s (headOf (G .rules) k) ≡ true
         go true e = e
         go false e =
-            let o = ch .all k (omega (arith, rules-count q)) in
+            let o = ch .all k (omega (arith, rules-count (q .given))) in
             absurd (offers k (o .0) h (o .1) e a (zero-of (o .2)))
           where
             zero-of : {x : ℕ} → Worse 0 r x k → x ≡ 0
@@ -247,7 +249,7 @@ module _ {rules forms body masks : List ℕ} {i : ℕ} (q : Asks rules forms bod
       offered : (k : ℕ) → k < length (G .rules) → has s (headOf (G .rules) k) ≡ false → Applies G T s k → (ds : List ℕ)
           → D (formOf (G .rules) k) (first 1 T) ds → First G (r ∷ led .through .ds) (k ∷ ds)
       offered k hk fr a ds d =
-          let o = ch .all k (omega (arith, rules-count q)) in
+          let o = ch .all k (omega (arith, rules-count (q .given))) in
           let nx = offers k (o .0) hk (o .1) fr a in
           let l = leads k (o .0) hk (o .1) nx in
           let small : roomy s + 1 < perWeight = omega (arith, small-room s) in
@@ -323,7 +325,8 @@ module _ {rules forms body masks : List ℕ} {i : ℕ} (q : Asks rules forms bod
                   more B (p .on) (rw g h) (ap (headOf (G .rules)) g) (ap (formOf (G .rules)) g ∙ is) (rw g be) (chain-keep head r s' (led .fresh) p (b .1)),
                   omega (arith, b .2, grows s r s' h (led .fresh) p),
                 )
-            go (no-chain np fi) = (1, stop (p .on) (rw g h) (ap (headOf (G .rules)) g) (rw g np) (rw g fi) (rw g be), omega (arith, grows s r s' h (led .fresh) p))
+            go (no-chain np fi) =
+                (1, stop (p .on) (rw g h) (ap (headOf (G .rules)) g) (rw g np) (rw g fi) (rw g be), omega (arith, grows s r s' h (led .fresh) p))
 
         new-rank : Ranked G (tree (nonTerminal head) none none) (first 1 T) (roomy s') (getD row' head 0)
         new-rank = record {

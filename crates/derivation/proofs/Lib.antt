@@ -13,6 +13,7 @@ pub mod Shorter
 pub mod Count
 pub mod Mask
 pub mod RuleRows
+pub mod RuleFirst
 pub mod RuleWalk
 pub mod Parts
 pub mod Pricing

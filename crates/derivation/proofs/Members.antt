@@ -11,7 +11,8 @@ use Rattle.derivation.specs.Derivation.{headOf}
 use Rattle.derivation.specs.code.Search.{Asks}
 use Rattle.derivation.proofs.Count.{cnt, cnt-le}
 use Rattle.derivation.proofs.Closed.{Chosen, has-zero, chosen-step, grows, complete, chain-derives, closed, full, leads, rank-small}
-use Rattle.derivation.proofs.Uses.{rules-count, head-low, head-is, prices-of}
+use Rattle.derivation.proofs.RuleFirst.{rules-count, head-low, head-is}
+use Rattle.derivation.proofs.Uses.{prices-of}
 use Rattle.derivation.specs.code.Masks.{has, Puts, markWidth}
 use Rattle.derivation.specs.code.Rules.{nonTerminalAt, ruleWidth}
 use Rattle.derivation.specs.code.Filling.{NodeIs, Chooses, Priced, Prices, RowPre, SettlePre, Settles}
@@ -61,14 +62,14 @@ module _ {rules forms costs row₀ chosen₀ : List ℕ} where
 
     module _ (nz : c ≡ 0 → ⊥) where
       is-rule : (p : SettlePre rules forms costs row₀ chosen₀) → r < length (p .asks .given .G .rules)
-      is-rule p = omega (arith, ch .is nz .0, rules-count (p .asks))
+      is-rule p = omega (arith, ch .is nz .0, rules-count (p .asks .given))
 
       module _ {x : ℕ} (ex : x ≡ nonTerminalAt rules r) where
         pub member-low : x < mostNonTerminals
-        member-low = omega (arith, ex, head-low (v .pre .asks) r (is-rule (v .pre)))
+        member-low = omega (arith, ex, head-low (v .pre .asks .given) r (is-rule (v .pre)))
 
         head : (p : SettlePre rules forms costs row₀ chosen₀) → headOf (p .asks .given .G .rules) r ≡ x
-        head p = sym (ex ∙ head-is (p .asks) r (is-rule p))
+        head p = sym (ex ∙ head-is (p .asks .given) r (is-rule p))
 
         module _ {s' : ℕ} (pu : Puts s x s') where
           put : (p : SettlePre rules forms costs row₀ chosen₀) → Puts s (headOf (p .asks .given .G .rules) r) s'

@@ -32,7 +32,8 @@ start-is : (start : ℕ) (G : List Rule) (r : ℕ) → r < length G → startAt 
 unfolding ruleTable before numberAt
 start-is start [] r h = absurd (omega arith)
 start-is start (rule A weight form ∷ G) zero h = omega arith
-start-is start (rule A weight form ∷ G) (suc r) h = skip start A weight (ruleTable (start + size form) G) r 0 ∙ omega (arith, start-is (start + size form) G r (omega arith))
+start-is start (rule A weight form ∷ G) (suc r) h =
+    skip start A weight (ruleTable (start + size form) G) r 0 ∙ omega (arith, start-is (start + size form) G r (omega arith))
 
 head-is : (start : ℕ) (G : List Rule) (r : ℕ) → r < length G → nonTerminalAt (ruleTable start G) r ≡ headOf G r
 unfolding ruleTable headOf numberAt

@@ -11,7 +11,8 @@ use Rattle.forest.specs.code.Cursors.{size, from}
 use Rattle.terms.specs.Labels.{Label, Terms}
 use Rattle.terms.specs.code.Nodes.{Plain, codeAt, rowWidth, sizeAt, valueAt}
 use Rattle.terms.proofs.Bodies.{Says, plain-at}
-use Rattle.forest.proofs.Laws.{count-join, count-node, count-size, count-tree, count-zero, from-one, from-over, inside, join-assoc, Tree, size-from, size-join, size-tree, tree-at, tree-of-count, tree-of-size}
+use Rattle.forest.proofs.Laws.{count-join, count-node, count-tree, from-one, from-over, inside, join-assoc, Tree, size-from, size-join, size-tree, tree-at}
+use Rattle.forest.proofs.Laws.{tree-of-count, tree-of-size}
 use Rattle.derivation.specs.Derivation.{Item, nonTerminal, formOf, Grammar}
 use Rattle.derivation.specs.code.Tables.{rightSides, itemCode, itemValue}
 use Rattle.terms.specs.code.Codes.{nonTerminalKind}
@@ -21,6 +22,7 @@ use Rattle.derivation.specs.code.Matching.{alike, AsksNoChain}
 use Rattle.derivation.specs.code.Masks.{has, maskAt}
 use Rattle.derivation.specs.code.Rules.{startAt}
 use Rattle.derivation.proofs.RuleRows.{RuleAt, rule-at}
+use Rattle.derivation.proofs.RuleFirst.{past-fits, past-is}
 use Rattle.derivation.proofs.Meta.{fits-hole-to, fits-hole-rest, fits-hole, fits-node-to, fits-node}
 use Rattle.derivation.proofs.Leaves.{fit-at}
 use Rattle.derivation.proofs.Likeness.{Alike, NotHole, alike-sound, alike-complete, hole-item, proper-bare, proper-on}
@@ -250,33 +252,8 @@ module _ {rules forms body masks : List ℕ} {i r : ℕ} (q : AsksNoChain rules 
         }
 
 module _ {rules forms body masks : List ℕ} {i r : ℕ} where
-  -- the size of the rule's first tree is that of the rule
   pub end-is : (q : AsksNoChain rules forms body masks i r) → startAt rules r + sizeAt forms (startAt rules r) ≡ end q
-  unfolding join size
-  end-is q = go (t .l) (t .ops) (t .rest) (t .is)
-    where
-      t : Tree (P q)
-      t = tree-of-count (P q) (omega (arith, q .asks .given .admitted .single r (q .is-rule)))
-
-      go : (l : Item) (ps qs : Forest Item) → P q ≡ tree l ps qs → startAt rules r + sizeAt forms (startAt rules r) ≡ end q
-      go l ps qs e =
-          let z : qs ≡ none = count-zero qs (omega (arith, q .asks .given .admitted .single r (q .is-rule), ap count e, count-node l ps qs)) in
-          let x =
-          item-says (rightSides (G q .rules)) (q .asks .given .holds .is-forms)
-          (where-rule q .is ∙ ap (λ (o : Forest Item). join o (where-rule q .rest)) e) in
-          omega (arith, x .size, ap size e, ap size z)
-
-  pub end-fits : (q : AsksNoChain rules forms body masks i r) → rowWidth * end q ≤ length forms
-  end-fits q =
-      omega (
-        arith,
-        forms-length (rightSides (G q .rules)) (q .asks .given .holds .is-forms),
-        ap size (where-rule q .is),
-        size-join (P q) (where-rule q .rest),
-        size-from (rightSides (G q .rules)) (startAt rules r),
-        count-size (P q),
-        q .asks .given .admitted .single r (q .is-rule),
-      )
+  end-is q = past-is (q .asks .given) r (q .is-rule)
 
   pub end-small : AsksNoChain rules forms body masks i r → {p n : ℕ} → p ≡ startAt rules r → n ≡ sizeAt forms p → p + n ≤ length forms
-  end-small q ep en = omega (arith, ep, en ∙ ap (sizeAt forms) ep, end-is q, end-fits q)
+  end-small q ep en = omega (arith, ep, en ∙ ap (sizeAt forms) ep, end-is q, past-fits (q .asks .given) r (q .is-rule))

@@ -51,7 +51,7 @@ module _ (G : Grammar) where
       (s-rule r h refl f d s-done)
 
   -- what has been seen says nothing of a form that begins with no non-terminal
-  pub no-chain-any : (seen : List ℕ) {P : Forest Item} {T : Terms} {ds : List ℕ} → NoChain P → D P T ds → Simple G seen P T ds
+  pub no-chain-any : {before : List ℕ} (seen : List ℕ) {P : Forest Item} {T : Terms} {ds : List ℕ} → NoChain P → Simple G before P T ds → Simple G seen P T ds
   no-chain-any seen n s-done = s-done
   no-chain-any seen n (s-rule {A = A} {ps = ps} r h e f d d2) = absurd (n A none ps refl)
   no-chain-any seen n (s-leaf a d) = s-leaf a d

@@ -84,11 +84,13 @@ module _ {rules forms body : List ℕ} where
         pub row-fits : markWidth * (i - 1) + length (set row mostNonTerminals s) ≤ length masks
         row-fits = omega (arith, row-long, v .low, v .same-length)
 
-        same-row : (c : ℕ) → c < markWidth → numberAt markWidth (sets masks (markWidth * (i - 1)) (set row mostNonTerminals s)) (i - 1) c ≡ getD (set row mostNonTerminals s) c 0
+        same-row : (c : ℕ) → c < markWidth
+            → numberAt markWidth (sets masks (markWidth * (i - 1)) (set row mostNonTerminals s)) (i - 1) c ≡ getD (set row mostNonTerminals s) c 0
         unfolding numberAt
         same-row c h2 = sets-in (set row mostNonTerminals s) masks (markWidth * (i - 1)) c (omega (arith, row-long)) row-fits
 
-        other-row : (j c : ℕ) → i - 1 < j → numberAt markWidth (sets masks (markWidth * (i - 1)) (set row mostNonTerminals s)) j c ≡ numberAt markWidth masks j c
+        other-row : (j c : ℕ) → i - 1 < j
+            → numberAt markWidth (sets masks (markWidth * (i - 1)) (set row mostNonTerminals s)) j c ≡ numberAt markWidth masks j c
         unfolding numberAt
         other-row j c l = sets-past (set row mostNonTerminals s) masks (markWidth * (i - 1)) (markWidth * j + c) (omega (arith, row-long))
 
@@ -106,7 +108,8 @@ module _ {rules forms body : List ℕ} where
                 (rankAt (sets masks (markWidth * (i - 1)) (set row mostNonTerminals s)) j)
             go g j l h2 (yes e) =
                 rw e
-                (exact-as (n .exact (asks-of g)) (same-row mostNonTerminals (omega arith) ∙ getD-set-same row mostNonTerminals s 0 (omega (arith, n .seventeen)))
+                (exact-as (n .exact (asks-of g))
+                (same-row mostNonTerminals (omega arith) ∙ getD-set-same row mostNonTerminals s 0 (omega (arith, n .seventeen)))
                 (λ A o. same-row A (omega arith) ∙ getD-set-other row mostNonTerminals A s 0 (λ z. omega arith)))
             go g j l h2 (no e) =
                 let o : i - 1 < j = omega arith in

@@ -18,7 +18,8 @@ use Rattle.derivation.proofs.Meta.{fits-hole-to, fits-node-to}
 use Rattle.derivation.proofs.Simple.{simples, walk-hole}
 use Rattle.derivation.proofs.Splits.{over-first}
 use Rattle.derivation.proofs.Likeness.{proper-bare}
-use Rattle.derivation.proofs.RuleWalk.{end, end-is, at-start, step-hole, step-alike, HoleAt, hole-view, hole-late, hole-low, not-hole, rule-tree, body-tree, in-body, node-says, Room, room}
+use Rattle.derivation.proofs.RuleWalk.{end, end-is, at-start, step-hole, step-alike, HoleAt, hole-view, hole-late, hole-low, not-hole, rule-tree}
+use Rattle.derivation.proofs.RuleWalk.{body-tree, in-body, node-says, Room, room}
 use Rattle.derivation.proofs.Parts.{Parts, parts-end, parts-few, parts-hole, parts-node, parts-start, size-first, size-one}
 use Rattle.forest.specs.code.Cursors.{size, from, first}
 use Rattle.derivation.specs.code.Admitted.{Proper}

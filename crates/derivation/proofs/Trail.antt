@@ -17,7 +17,7 @@ use Rattle.derivation.specs.Least.{Least}
 use Rattle.terms.specs.code.Codes.{nonTerminalKind}
 use Rattle.derivation.specs.code.Search.{Chain, stop, more, Fits, Best}
 use Rattle.derivation.proofs.Simple.{use-one, no-chain-any}
-use Rattle.derivation.proofs.Uses.{chain-view, no-chain-view}
+use Rattle.derivation.proofs.RuleFirst.{chain-view, no-chain-view}
 use Rattle.derivation.proofs.Closed.{here, first-one}
 use Rattle.derivation.specs.code.Rules.{startAt}
 use Rattle.derivation.specs.code.Showing.{FollowPre, FollowPost}
@@ -152,9 +152,9 @@ module _ {rules forms chosen : List ℕ} {a : ℕ} {shown₀ : List ℕ} {at : �
 
       go : (k : ℕ) → Follows b k → length (t .ws) + k ≤ f .k → Above k (t .seen)
           → Trail (set shown w (getD chosen b 0)) (valueAt forms (startAt rules (getD chosen b 0))) (w + 1)
-      go k (stop y! lt hd np fi be) l ab = let v = chain-view (f .asks) (getD chosen b 0) lt k1 in absurd (np (v .B) none none (v .is))
+      go k (stop y! lt hd np fi be) l ab = let v = chain-view (f .asks .given) (getD chosen b 0) lt k1 in absurd (np (v .B) none none (v .is))
       go (suc k) (more B y! lt hd is be c) l ab =
-          let v = chain-view (f .asks) (getD chosen b 0) lt k1 in
+          let v = chain-view (f .asks .given) (getD chosen b 0) lt k1 in
           let eB : B ≡ v .B = cc (v .is) in
           let eb : B ≡ valueAt forms (startAt rules (getD chosen b 0)) = eB ∙ path.sym (v .value) in
           record {
@@ -184,15 +184,15 @@ module _ {rules forms chosen : List ℕ} {a : ℕ} {shown₀ : List ℕ} {at : �
     next = omega (arith, t .next, length-append (t .ws) (getD chosen b 0 ∷ []));
     few = omega (arith, t .left, chosen-pos (t .chain), length-append (t .ws) (getD chosen b 0 ∷ []));
     is-rule = chosen-rule (t .chain);
-    no-chain = no-chain-view (f .asks) (getD chosen b 0) (chosen-rule (t .chain)) k1;
+    no-chain = no-chain-view (f .asks .given) (getD chosen b 0) (chosen-rule (t .chain)) k1;
     fits = fits-end (t .chain);
     least = λ es d. least-more shown b w t es d;
-    back = λ es d. back-more shown b w t es (no-chain-any G (b ∷ t .seen) (no-chain-view (f .asks) (getD chosen b 0) (chosen-rule (t .chain)) k1) d);
+    back = λ es d. back-more shown b w t es (no-chain-any G (b ∷ t .seen) (no-chain-view (f .asks .given) (getD chosen b 0) (chosen-rule (t .chain)) k1) d);
   }
     where
       fits-end : {k : ℕ} → Follows b k → Fits G (formOf (G .rules) (getD chosen b 0)) T
       fits-end (stop y! lt hd np fi be) = fi
-      fits-end (more B y! lt hd is be c) = absurd (no-chain-view (f .asks) (getD chosen b 0) lt k1 B none none is)
+      fits-end (more B y! lt hd is be c) = absurd (no-chain-view (f .asks .given) (getD chosen b 0) lt k1 B none none is)
 
 -- the loop's invariant, with what the indices need as plain numbers
 pub record Inv (rules forms chosen : List ℕ) (a : ℕ) (shown₀ : List ℕ) (at : ℕ) (shown : List ℕ) (b w : ℕ) : Type 0 where

@@ -1,4 +1,4 @@
--- Which rules can be used at a node: what the first node of a rule says, the prices of the rules, and the search for the least.
+-- Which rules can be used at a node: the prices of the rules, and the search for the least.
 use mathlib.Core.Path.{_≡_, sym, ap, _∙_, subst, refl}
 use mathlib.Core.Logic.{_⊎_, inl, inr}
 use Prim.Native.Nat.{ℕ, _+_, _*_, _/_, _<_, _≤_}
@@ -10,94 +10,36 @@ use lib.Dec.{eqb, ltb}
 use borrow.Author.Tests.{eq-eqb, eqb-true, lt-ltb, ltb-true, not-false, not-true}
 use lib.ListN.{length, getD, set, length-set}
 use lib.Seq.{getD-set-same, getD-set-other}
-use Rattle.forest.specs.Forest.{Forest, none, tree, count, join}
 use Rattle.terms.specs.code.Nodes.{codeAt, valueAt}
-use Rattle.forest.proofs.Laws.{Tree, tree-of-count, count-node, count-zero}
 use Rattle.derivation.proofs.PassedTests.{and-both, and-true, or-first, or-second, or-true}
-use Rattle.derivation.proofs.Reading.{ItemSays, item-says}
-use Rattle.derivation.proofs.Likeness.{hole-item}
-use Rattle.derivation.specs.Derivation.{Item, nonTerminal, headOf, formOf, Grammar, weightOf, mostWeight}
-use Rattle.derivation.specs.code.Tables.{itemValue, rightSides}
+use Rattle.derivation.specs.Derivation.{mostWeight}
 use Rattle.terms.specs.code.Codes.{nonTerminalKind}
-use Rattle.derivation.specs.code.Search.{Asks, NoChain}
-use Rattle.derivation.proofs.RuleRows.{RuleAt, rule-at, length-rules}
+use Rattle.derivation.specs.code.Search.{Asks}
+use Rattle.derivation.proofs.RuleFirst.{chain-view, head-low, no-chain-view, rules-count, weight-is}
 use Rattle.forest.specs.Limits.{mostNonTerminals, mostRules}
-use Rattle.derivation.specs.code.Admitted.{Proper}
 use Rattle.derivation.specs.code.Masks.{has}
 use Rattle.derivation.specs.code.Rules.{nonTerminalAt, ruleWidth, startAt, weightAt}
-use Rattle.derivation.specs.code.Filling.{no-chain, Chooses, IsChain, Price, Priced, Prices, Worse, chained, known, not-yet, plain, dearer, later, nothing}
+use Rattle.derivation.specs.code.Filling.{no-chain, Chooses, IsChain, Price, Priced, Prices, Worse, chained, known, not-yet, plain, dearer, later}
+use Rattle.derivation.specs.code.Filling.{nothing}
 use Rattle.derivation.specs.code.Matching.{AsksNoChain, Matched}
 use Rattle.derivation.specs.code.Ranks.{most, perWeight}
 
 module _ {rules forms body masks : List ℕ} {i : ℕ} where
-  pub rules-count : (q : Asks rules forms body masks i) → length rules ≡ ruleWidth * length (q .given .G .rules)
-  rules-count q = ap length (q .given .holds .is-rules) ∙ length-rules 0 (q .given .G .rules)
-
-  module _ (q : Asks rules forms body masks i) (r : ℕ) (h : r < length (q .given .G .rules)) where
-    abbrev pub G : Grammar
-    G = q .given .G
-
-    there : RuleAt rules (G .rules) r
-    there = rule-at (G .rules) (q .given .holds .is-rules) r h
-
-    pub head-low : nonTerminalAt rules r < mostNonTerminals
-    head-low = omega (arith, there .head, q .given .admitted .low r h)
-
-    pub head-is : nonTerminalAt rules r ≡ headOf (G .rules) r
-    head-is = there .head
-
-    pub weight-is : weightAt rules r ≡ weightOf (G .rules) r
-    weight-is = there .weight
-
-    rule-tree : Tree (formOf (G .rules) r)
-    rule-tree = tree-of-count (formOf (G .rules) r) (omega (arith, q .given .admitted .single r h))
-
-    first-says : (l : Item) (ps qs : Forest Item) → formOf (G .rules) r ≡ tree l ps qs → ItemSays forms (startAt rules r) l ps
-    unfolding join
-    first-says l ps qs e = item-says (rightSides (G .rules)) (q .given .holds .is-forms) (there .is ∙ ap (λ (x : Forest Item). join x (there .rest)) e)
-
-    pub record ChainIs : Type 0 where
-      pub B : ℕ
-      pub is : formOf (G .rules) r ≡ tree (nonTerminal B) none none
-      pub low : B < mostNonTerminals
-      pub value : valueAt forms (startAt rules r) ≡ B
-
-    pub chain-view : codeAt forms (startAt rules r) ≡ nonTerminalKind → ChainIs
-    unfolding Proper
-    chain-view k =
-        let t = rule-tree in
-        let says = first-says (t .l) (t .ops) (t .rest) (t .is) in
-        let hole : Item = nonTerminal (itemValue (t .l)) in
-        let e = t .is ∙ ap (λ (x : Item). tree x (t .ops) (t .rest)) (hole-item (t .l) (sym (says .code) ∙ k)) in
-        let pr = subst (Proper mostNonTerminals) e (q .given .admitted .proper r h) in
-        let z : t .rest ≡ none = count-zero (t .rest) (omega (arith, q .given .admitted .single r h, ap count e, count-node hole (t .ops) (t .rest))) in
-        record {
-          B = itemValue (t .l);
-          is = e ∙ ap (λ (x : Forest Item). tree hole x (t .rest)) (pr .1) ∙ ap (tree hole none) z;
-          low = pr .0;
-          value = says .value;
-        }
-
-    pub no-chain-view : (codeAt forms (startAt rules r) ≡ nonTerminalKind → ⊥) → NoChain (formOf (G .rules) r)
-    no-chain-view k A ps qs e = k (first-says (nonTerminal A) ps qs e .code)
-
-    pub chain-code : (B : ℕ) → formOf (G .rules) r ≡ tree (nonTerminal B) none none → IsChain rules forms r
-    chain-code B e = first-says (nonTerminal B) none none e .code
-
-    pub asks-no-chain : (IsChain rules forms r → ⊥) → AsksNoChain rules forms body masks i r
-    asks-no-chain k = record { asks = q; is-rule = h; no-chain = no-chain-view k }
+  pub asks-no-chain : (q : Asks rules forms body masks i) (r : ℕ) → r < length (q .given .G .rules) → (IsChain rules forms r → ⊥)
+      → AsksNoChain rules forms body masks i r
+  asks-no-chain q r h k = record { asks = q; is-rule = h; no-chain = no-chain-view (q .given) r h k }
 
   -- what prices are made of
   pub prices-of : Asks rules forms body masks i → {row : List ℕ} → ((A : ℕ) → getD row A 0 ≤ most) → Prices rules forms row
   prices-of q {row} f = record {
-    heads = λ r l. head-low q r (is-rule r l);
-    ends = λ r l k. let v = chain-view q r (is-rule r l) k in omega (arith, v .low, v .value);
-    light = λ r l. omega (arith, weight-is q r (is-rule r l), q .given .admitted .light r (is-rule r l));
+    heads = λ r l. head-low (q .given) r (is-rule r l);
+    ends = λ r l k. let v = chain-view (q .given) r (is-rule r l) k in omega (arith, v .low, v .value);
+    light = λ r l. omega (arith, weight-is (q .given) r (is-rule r l), q .given .admitted .light r (is-rule r l));
     small = f;
   }
     where
       is-rule : (r : ℕ) → r < length rules / ruleWidth → r < length (q .given .G .rules)
-      is-rule r l = omega (arith, rules-count q)
+      is-rule r l = omega (arith, rules-count (q .given))
 
 -- the pricing of the rules
 pub record Inv (rules forms body masks : List ℕ) (i n : ℕ) (costs : List ℕ) (r : ℕ) : Type 0 where
@@ -115,7 +57,7 @@ module _ {rules forms body masks : List ℕ} {i : ℕ} where
     asks = q .0;
     all = e;
     bound = omega arith;
-    few = omega (arith, e, rules-count (q .0), q .0 .given .admitted .few);
+    few = omega (arith, e, rules-count (q .0 .given), q .0 .given .admitted .few);
     long = q .1;
     priced = record { long = q .1; each = λ r l. absurd (omega arith) };
   }
@@ -148,7 +90,7 @@ module _ {rules forms body masks : List ℕ} {i : ℕ} where
 
       module _ (k : code ≡ nonTerminalKind → ⊥) where
         pub price-asks : AsksNoChain rules forms body masks i r
-        price-asks = asks-no-chain (v .asks) r (omega (arith, v .all, rules-count (v .asks))) (λ e. k (code-is ∙ e))
+        price-asks = asks-no-chain (v .asks) r (omega (arith, v .all, rules-count (v .asks .given))) (λ e. k (code-is ∙ e))
 
         pub price-plain : {c : ℕ} → Matched rules forms body masks i r c → Inv rules forms body masks i n (set costs r c) (r + 1)
         price-plain {c} m =

@@ -1,7 +1,7 @@
 -- Non-terminals that derive a term, found from the rules alone (E9). That these are all of them, in the grammars of a script, is a theorem
 -- (`outcome/specs/Alive: DeadExactly`).
 use Prim.Native.Nat.{ℕ, zero, suc}
-use mathlib.Core.Bool.{Bool, true, false, cond, _&&_, not}
+use mathlib.Core.Bool.{Bool, true, cond, _&&_, not}
 use mathlib.Core.List.{List, [], _∷_}
 use Rattle.forest.specs.Forest.{Forest, none, tree}
 use Rattle.forest.specs.Lists.{among}

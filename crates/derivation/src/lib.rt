@@ -17,10 +17,10 @@ use matching::PER_WEIGHT;
 use terms::ROW;
 
 mod filling;
-mod masks;
-mod matching;
+pub mod masks;
+pub mod matching;
 pub mod productive;
-mod rules;
+pub mod rules;
 mod showing;
 
 // How many numbers a rule has in the table of rules.
@@ -73,7 +73,8 @@ pub fn derive(
     area: &mut [u16],
 ) -> Derived
     requires { ⌜ DerivePre (now rules) (now forms) (now body) function (now area) ⌝ }
-    ensures { λ r. ⌜ Decides (now (rules .entry)) (now (forms .entry)) (now (body .entry)) function (now (area .entry)) (now (area .exit)) (r .found) (r .total) ⌝ }
+    ensures { λ r. ⌜ Decides (now (rules .entry)) (now (forms .entry)) (now (body .entry)) function (now (area .entry)) (now (area .exit))
+        (r .found) (r .total) ⌝ }
 {
     let long = body.len() / ROW * MARKS;
     let mut masks = no_masks();

@@ -25,14 +25,14 @@ fn mark(masks: &[u64], node: usize, column: usize) -> u64
 }
 
 // The mask of a node.
-pub fn mask_at(masks: &[u64], node: usize) -> u64
+pub(crate) fn mask_at(masks: &[u64], node: usize) -> u64
     ensures { λ r. ⌜ r ≡ maskAt (now (masks .entry)) node ⌝ }
 {
     mark(masks, node, MASK)
 }
 
 // The rank of a non-terminal at a node.
-pub fn rank_at(masks: &[u64], node: usize, nonterminal: u64) -> u64
+pub(crate) fn rank_at(masks: &[u64], node: usize, nonterminal: u64) -> u64
     requires { ⌜ nonterminal < mostNonTerminals ⌝ }
     ensures { λ r. ⌜ r ≡ rankAt (now (masks .entry)) node nonterminal ⌝ }
 {

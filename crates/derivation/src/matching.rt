@@ -30,7 +30,7 @@ fn leaf_fits(whole: u64, leaf: u64, code: u64, found: u64) -> bool
 }
 
 // Whether a node of a rule, which is no non-terminal, and a node of the body are alike.
-fn alike(forms: &[u64], place: usize, body: &[u64], here: usize) -> bool
+pub fn alike(forms: &[u64], place: usize, body: &[u64], here: usize) -> bool
     ensures { λ r. ⌜ r ≡ alike (now (forms .entry)) place (now (body .entry)) here ⌝ }
 {
     let code = code_at(forms, place);
@@ -45,7 +45,7 @@ fn alike(forms: &[u64], place: usize, body: &[u64], here: usize) -> bool
 }
 
 // The rank of the least list that a rule, which is no chain rule, begins at a node of the body, given the masks past it; 0 if the rule does not derive the node.
-pub fn rank_of(
+pub(crate) fn rank_of(
     rules: &[u64],
     forms: &[u64],
     body: &[u64],

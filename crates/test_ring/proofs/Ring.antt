@@ -10,9 +10,10 @@ use Rattle.forest.specs.Tables.{rows}
 use Rattle.terms.specs.code.Nodes.{AllPlain, nodeTable}
 use Rattle.derivation.specs.Derivation.{formOf, headOf, weightOf}
 use Rattle.derivation.specs.code.Admitted.{LeavesFit, Proper}
-use Rattle.derivation.specs.code.Tables.{formTable, rightSides, ruleTable}
+use Rattle.derivation.specs.code.Tables.{Given, formTable, rightSides, ruleTable}
 use Rattle.derivation.specs.code.Derive.{DerivePre}
 use Rattle.forest.specs.Limits.{areaSize}
+use Rattle.following.specs.code.Follows.{FollowsPre}
 use Rattle.derivation.proofs.Bench.{ring, ringBody}
 
 low : (r : ℕ) → r < 3 → headOf (ring .rules) r < 16
@@ -43,24 +44,27 @@ light (suc zero) h = omega arith
 light (suc (suc zero)) h = omega arith
 light (suc (suc (suc r))) h = absurd (omega arith)
 
+held : Given (0 ∷ 0 ∷ 0 ∷ 1 ∷ 1 ∷ 0 ∷ 2 ∷ 1 ∷ 0 ∷ []) (5 ∷ 1 ∷ 0 ∷ 1 ∷ 5 ∷ 0 ∷ 0 ∷ 1 ∷ 513 ∷ 0 ∷ 0 ∷ 1 ∷ []) (513 ∷ 0 ∷ 0 ∷ 1 ∷ [])
+unfolding AllPlain LeavesFit formTable count join nodeTable nodesOf rightSides rows ruleTable size
+held = record {
+  G = ring;
+  F = ringBody;
+  holds = record {
+    is-rules = refl;
+    is-forms = refl;
+    is-body = refl;
+    plain = (tt, tt, tt);
+    leaves = (record { declared = omega arith; sort = refl }, tt, tt);
+  };
+  admitted = record { few = omega arith; low = low; proper = proper; single = single; light = light };
+}
+
 pub ring-pre : {k : ℕ} {area : List ℕ} → k < 8 → length area ≡ areaSize
     → DerivePre (0 ∷ 0 ∷ 0 ∷ 1 ∷ 1 ∷ 0 ∷ 2 ∷ 1 ∷ 0 ∷ []) (5 ∷ 1 ∷ 0 ∷ 1 ∷ 5 ∷ 0 ∷ 0 ∷ 1 ∷ 513 ∷ 0 ∷ 0 ∷ 1 ∷ []) (513 ∷ 0 ∷ 0 ∷ 1 ∷ []) k area
-unfolding AllPlain LeavesFit count formTable join nodeTable nodesOf rightSides rows ruleTable size
-ring-pre k sized = record {
-  given = record {
-    G = ring;
-    F = ringBody;
-    holds = record {
-      is-rules = refl;
-      is-forms = refl;
-      is-body = refl;
-      plain = (tt, tt, tt);
-      leaves = (record { declared = omega arith; sort = refl }, tt, tt);
-    };
-    admitted = record { few = omega arith; low = low; proper = proper; single = single; light = light };
-  };
-  one = refl;
-  fits = omega arith;
-  sized = sized;
-  function = k;
-}
+unfolding count held size
+ring-pre k sized = record { given = held; one = refl; fits = omega arith; sized = sized; function = k }
+
+-- and so can what `follows` requires
+pub followed-pre : FollowsPre (0 ∷ 0 ∷ 0 ∷ 1 ∷ 1 ∷ 0 ∷ 2 ∷ 1 ∷ 0 ∷ []) (5 ∷ 1 ∷ 0 ∷ 1 ∷ 5 ∷ 0 ∷ 0 ∷ 1 ∷ 513 ∷ 0 ∷ 0 ∷ 1 ∷ []) (513 ∷ 0 ∷ 0 ∷ 1 ∷ [])
+unfolding count held
+followed-pre = record { given = held; one = refl }

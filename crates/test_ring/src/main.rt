@@ -1,4 +1,5 @@
 //! The Ring case of document 01: A has the rule B; B has A and x. The body x, of function 1, shows the rules 0 and 2.
+//! Of lists that are read, that one alone derives it without using a non-terminal twice.
 ghost use lib.ListN.{length};
 ghost use mathlib.Core.Path.{_≡_};
 
@@ -20,6 +21,35 @@ fn digit(rule: u16) -> u8 {
     b'-'
 }
 
+// Whether a list derives the body, in print.
+fn followed(list: &[u16]) -> u8 {
+    let rules: [u64; 9] = [0, 0, 0, 1, 1, 0, 2, 1, 0];
+    let forms: [u64; 12] = [5, 1, 0, 1, 5, 0, 0, 1, 513, 0, 0, 1];
+    let body: [u64; 4] = [513, 0, 0, 1];
+    if following::follows(&rules, &forms, &body, list) {
+        return b'y';
+    }
+    b'n'
+}
+
+// The shown list; one that goes round the ring; one too short, one too long; one that begins with a rule of B.
+fn show_followed() {
+    let shown: [u16; 2] = [0, 2];
+    let round: [u16; 4] = [0, 1, 0, 2];
+    let short: [u16; 1] = [0];
+    let long: [u16; 3] = [0, 2, 2];
+    let other: [u16; 1] = [2];
+    let line = [
+        followed(&shown),
+        followed(&round),
+        followed(&short),
+        followed(&long),
+        followed(&other),
+        b'\n',
+    ];
+    io::write_all(1, &line);
+}
+
 fn main() {
     let rules: [u64; 9] = [0, 0, 0, 1, 1, 0, 2, 1, 0];
     let forms: [u64; 12] = [5, 1, 0, 1, 5, 0, 0, 1, 513, 0, 0, 1];
@@ -37,4 +67,5 @@ fn main() {
         ];
         io::write_all(1, &line);
     }
+    show_followed();
 }

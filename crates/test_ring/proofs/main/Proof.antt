@@ -58,11 +58,11 @@ slice-aggregate-write-all c = search needs
 write-all-requires : tie.Need-write-all-requires
 write-all-requires c κs = search needs
 
+show-followed-requires : tie.Need-show-followed-requires
+show-followed-requires c κs = search needs
+
 returns : tie.Need-returns
 returns c = search needs
-
-returns-2 : tie.Need-returns-2
-returns-2 c = search needs
 
 pub main-spec : {M : Type 1} → statement M
 main-spec =
@@ -86,5 +86,5 @@ main-spec =
     digit-requires-3
     slice-aggregate-write-all
     write-all-requires
-    returns
-    returns-2)
+    show-followed-requires
+    returns)

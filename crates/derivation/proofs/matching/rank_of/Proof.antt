@@ -2,7 +2,8 @@ use Prim.Native.Nat.{_-_}
 use native.Mathlib.Omega.{arith}
 use borrow.Author.Needs.{needs}
 use Rattle.derivation.proofs.RuleWalk.{end-small}
-use Rattle.derivation.proofs.Pricing.{Inv, inv-start, miss-hole, miss-node, turn-end, turn-here, turn-hole, turn-low, turn-node, turn-over, turn-place, turn-sum, weight-light}
+use Rattle.derivation.proofs.Pricing.{Inv, inv-start, miss-hole, miss-node, turn-end, turn-here, turn-hole, turn-low, turn-node, turn-over, turn-place}
+use Rattle.derivation.proofs.Pricing.{turn-sum, weight-light}
 use Rattle.derivation.proofs.matching.rank_of.Statement.{statement}
 use Rattle.derivation.proofs.matching.rank_of.Tie as tie
 

@@ -6,7 +6,8 @@ use lib.ListN.{length}
 use Rattle.derivation.proofs.RuleWalk.{end-small}
 use Rattle.derivation.proofs.Members.{blank-row}
 use Rattle.derivation.proofs.Whole.{follow-pre, spread-pre, emit-post}
-use Rattle.derivation.proofs.Track.{Inv, spread-start, spread-end, spread-place, spread-here, spread-over, spread-node, spread-after, spread-asks, spread-hole}
+use Rattle.derivation.proofs.Track.{Inv, spread-start, spread-end, spread-place, spread-here, spread-over, spread-node, spread-after, spread-asks}
+use Rattle.derivation.proofs.Track.{spread-hole}
 use borrow.Fn.Kinds.{In}
 use borrow.Fn.PlainCycle.{Measures, is, falls, and}
 use Rattle.derivation.proofs.showing.+emit+spread.{statement}
