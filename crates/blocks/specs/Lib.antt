@@ -1,0 +1,4 @@
+pub mod Blocks
+pub mod Layout
+pub mod Shown
+pub mod code
