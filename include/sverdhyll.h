@@ -170,6 +170,7 @@ enum {
     SVERDHYLL_NUMERAL = 3,
     SVERDHYLL_LITERAL = 4,
     SVERDHYLL_SYMBOL = 5,
+    SVERDHYLL_KEYWORD = 6, /* `:weights` or `:weight` */
     SVERDHYLL_ROW = 5 /* how many numbers a word has in the table */
 };
 

@@ -2,8 +2,8 @@
 """The crate test_decided's tables of decided readings, of limits and of places: tests/decided.py [--check]
 
 Writes crates/test_decided/proofs/Readings.antt from tests/readings.jsonl: the readings whose texts have no fault in a word and at most 200 printable bytes each, without
-comments. Writes proofs/Limits.antt from crates/test_vectors: the records at the limits on commands, arguments, non-terminals, rules, nodes, operands, and digits and widths
-of constants, and one past them. Each is proved of the definitions by its answer's number and the index of the word at its place, of a script also by that of the word
+comments. Writes proofs/Limits.antt from crates/test_vectors: the records at the limits on commands, arguments, non-terminals, rules, nodes, operands, weights, and digits and
+widths of constants, and one past them. Each is proved of the definitions by its answer's number and the index of the word at its place, of a script also by that of the word
 of its second number, 0 for none. Writes proofs/Located.antt from the readings and the records on places (tests/located.py) whose answers carry an end, a line and a
 column, of texts of at most 200 bytes, whatever these are. With --check it says whether these files are what it would write.
 """
@@ -29,10 +29,13 @@ NO_DERIVATION = 13
 
 # The records at a limit on what a script or a response says, and one past it; the table of each kind is proved by itself, since the prover's steps have a limit too.
 AT_LIMIT = re.compile(
-    r"(functions|(?:defined-)?arguments|defined|variables|constraints|assumptions|non-terminals|rules|nodes-\w+|operands-(?:constraint|rule)|digits|constant-width)-\d+")
+    r"(functions|(?:defined-)?arguments|defined|variables|constraints|assumptions|non-terminals|rules|nodes-\w+|operands-(?:constraint|rule)|digits|constant-width|weight)-\d+")
 
 # A word that is too large or of no form.
 FAULTY = re.compile(r"[^ ()]{65,}|(?<![^ ()])[0-9]{10,}|#x[0-9a-fA-F]{17,}|#b[01]{65,}|(?<![^ ()])(#x|#b|#)(?=[ ()]|$)|#[^xb]")
+
+# A byte that the table does not write: `:` stands in the two keywords alone.
+UNWRITTEN = re.compile(rb'["\\|;]|:(?!weights?(?![^ ()]))|(?<=[^ ()]):')
 
 # The crates whose definitions the prover unfolds, without the files that the reader does not reach and single definitions that clash or are not reached.
 UNFOLDED = ("forest", "word_kinds", "words", "operators", "terms", "derivation", "lexemes", "shapes", "term_sorts", "written_sorts", "term_nodes", "names",
@@ -52,8 +55,8 @@ NAMED = {"Rattle.forest.specs.Limits": ["allowed"],
 READINGS_HEAD = "-- Decided readings of document 01 and of the requests, computed from the definitions: one table under one statement. A place is a word.\n"
 
 LIMITS_HEAD = """\
--- "The limit itself passes; one more is refused": texts at the limits on commands, arguments, non-terminals, rules, nodes, operands, and digits and widths of constants
--- and one past them, computed from the definitions. A place is a word.
+-- "The limit itself passes; one more is refused": texts at the limits on commands, arguments, non-terminals, rules, nodes, operands, weights, and digits and widths of
+-- constants and one past them, computed from the definitions. A place is a word.
 """
 
 LOCATED = """\
@@ -160,7 +163,7 @@ def word_starts(text):
 def plain(digits, longest):
     """A text from its bytes in hexadecimal; None where it is long, or has a byte that the table does not write."""
     text = bytes.fromhex(digits)
-    if len(text) > longest or any(not 32 <= byte < 127 for byte in text) or re.search(rb'["\\|:;]', text):
+    if len(text) > longest or any(not 32 <= byte < 127 for byte in text) or UNWRITTEN.search(text):
         return None
     return text.decode()
 

@@ -1,7 +1,7 @@
 """Derivations of the bodies of a response by the grammars of a script, from their lists of words alone.
 
 `least` searches for the list of rule numbers that is shown (E13), and `fault` replays a list; the two share no more than the grammar and what a literal is. Both
-take texts that document 01 passes with request E3: nothing is checked of them here.
+take texts that document 01 passes with requests E3 and E13: nothing is checked of them here.
 """
 import re
 from collections import namedtuple
@@ -75,11 +75,19 @@ def sort_of(tree):
     return 0 if tree.items is None else int(tree.items[2].word)
 
 
+def rule_of(head, tree):
+    """A rule from the tree that is listed: t of `(! t :weight k)`, whose weight is k where it has exactly one such attribute, and else 0 (E13)."""
+    if tree.items is None or tree.items[0].word != b"!":
+        return Rule(head, tree, 0)
+    numerals = tree.items[3::2]
+    return Rule(head, tree.items[1], int(numerals[0].word) if len(numerals) == 1 else 0)
+
+
 def grammar_of(command):
     """The grammar of a `synth-fun`."""
     arguments, predeclared, groups = (command.items[i].items for i in (2, 4, 5))
     names = [pair.items[0].word for pair in predeclared]
-    rules = [Rule(group.items[0].word, form, 0) for group in groups for form in group.items[2].items]
+    rules = [rule_of(group.items[0].word, tree) for group in groups for tree in group.items[2].items]
     return Grammar(names[0], set(names), rules, {pair.items[0].word: sort_of(pair.items[1]) for pair in arguments})
 
 

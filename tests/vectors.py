@@ -2,7 +2,7 @@
 """The records of the program `test_vectors` and what it must write of them: tests/vectors.py [--check]
 
 It takes the readings of readings.jsonl, texts of its own whose words decide, and the cases of cases.py, operands.py, constants.py, signed.py, assumed.py,
-located.py, declared.py, dead.py, least.py and limits.py, and writes crates/test_vectors/stdin and crates/test_vectors/stdout; with --check it only says whether these two files are what it would
+located.py, declared.py, dead.py, least.py, weights.py and limits.py, and writes crates/test_vectors/stdin and crates/test_vectors/stdout; with --check it only says whether these two files are what it would
 write, and replays every list of rules in them (derivations.py), which is the least derivation by a search of its own. What the words of a text are is said by words.py, which is held to each reading whose answer arises
 from words. The checker's answer is that of the reading, or is known from how a text is made; the list shown is the least derivation that there is, with its total weight. The end, the line
 and the column that an answer carries are computed by words.py from its text and its place, and held to what the readings and the cases of located.py say of them.
@@ -27,12 +27,13 @@ from located import all_located
 from nearly import all_nearly
 from operands import all_operands
 from signed import all_signed
+from weights import all_weights
 from words import RESPONSE, SCRIPT
 
 HERE = os.path.dirname(os.path.abspath(__file__))
 CRATE = os.path.join(HERE, "..", "crates", "test_vectors")
 MOST_INPUT = 5000000
-READINGS_FROM_WORDS = 90
+READINGS_FROM_WORDS = 49
 
 # Answers to texts that both pass, and those of them that show derivations.
 JUDGED = (0, 13, 14, 15, 16)
@@ -118,7 +119,8 @@ def texts_of_forms():
     yield from named("symbol", [
         b"a" * 64, b"a" * 65, b"-" * 64, b"-" * 65, b"a" * 65 + b"#", b"a" * 64 + b"#", b"1a", b"a1", b"~!@$%^&*_-+=<>.?/", b"a\xc3\xa9",
         b"a\x00"])
-    yield from named("uncarried", [b'"', b"|", b":", b'""', b'"a b"', b"|a|", b":a", b"a:", b'a"', b"a|", b":" + b"a" * 65, b'"00'])
+    yield from named("uncarried", [b'"', b"|", b":", b'""', b'"a b"', b"|a|", b":a", b"a:", b'a"', b"a|", b":" + b"a" * 65, b'"00', b":Weight", b":weight:", b":weigh", b":weights2", b":w", b'":weight"', b"|:weight|"])
+    yield from named("keyword", [b":weights", b":weight", b":weight:weight", b":weights :weight", b"(:weight 1)", b"a:weight", b":weight;c", b":weight(", b"(:weights)"])
 
 
 def texts_of_comments():
@@ -219,7 +221,8 @@ def records_of_readings():
     """The readings, each with its answer and what that carries."""
     for reading, script, response in readings():
         answer, location = tuple(reading["answer"]), tuple(reading["end_line_column"])
-        yield Case("reading-%s" % reading["item"], script, response, tuple(reading["points"]), reading["budget"], reading["area_len"], answer, location)
+        yield Case("reading-%s" % reading["item"], script, response, tuple(reading["points"]), reading["budget"], reading["area_len"], answer, location,
+                   weights=tuple(reading["weights"]) if "weights" in reading else None)
 
 
 def records_of_words():
@@ -246,6 +249,7 @@ def records():
     yield from all_declared()
     yield from all_dead()
     yield from all_least()
+    yield from all_weights()
     yield from all_limits()
     yield from all_nearly()
 

@@ -16,8 +16,11 @@ Reading = namedtuple("Reading", "number place rows values")
 
 # What a word is: the number of its fault (0: none), its kind, a literal's width, and its value.
 Word = namedtuple("Word", "fault kind width value")
-OPEN, CLOSE, NUMERAL, LITERAL, SYMBOL = 1, 2, 3, 4, 5
+OPEN, CLOSE, NUMERAL, LITERAL, SYMBOL, KEYWORD = 1, 2, 3, 4, 5, 6
 BAD_WORD, PAST_LIMIT, NOT_CARRIED = Word(2, 0, 0, 0), Word(4, 0, 0, 0), Word(6, 0, 0, 0)
+
+# "The words for this leave answer 6" (E13).
+KEYWORDS = (b":weights", b":weight")
 
 PIECE = re.compile(
     rb"(?P<white>[\x09\x0a\x0d\x20]+)"
@@ -46,6 +49,8 @@ def word(w):
         return Word(0, OPEN, 0, 0)
     if w == b")":
         return Word(0, CLOSE, 0, 0)
+    if w in KEYWORDS:
+        return Word(0, KEYWORD, 0, 0)
     if w[:1] in (b'"', b"|", b":"):
         return NOT_CARRIED
     if NUMERAL_FORM.fullmatch(w):

@@ -143,6 +143,26 @@ static void least(void)
     expect("its list", list_size(0) == 2 && area[0] == 1 && area[1] == 5 && list_size(1) == 0 && behind_stays());
 }
 
+/* The least weight comes before the fewest rules, and each function has its total. */
+static void weights(void)
+{
+    const char *script = "(set-logic BV)(set-feature :weights true)"
+        "(synth-fun f () Bool ((A Bool) (B Bool)) ((A Bool ((! true :weight 5) B)) (B Bool ((! true :weight 1)))))"
+        "(synth-fun g () Bool ((A Bool)) ((A Bool ((! true :weight 65535) (! (not A) :weight 65535)))))(check-synth)";
+    const char *response = "((define-fun f () Bool true)(define-fun g () Bool (not (not true))))";
+    const char *unasked = SCRIPT("(synth-fun f () Bool ((A Bool)) ((A Bool ((! true :weight 5)))))"), *past = "(set-logic BV)(set-feature :weights true)"
+        "(synth-fun f () Bool ((A Bool)) ((A Bool ((! true :weight 65536)))))(check-synth)";
+    const uint64_t number = 0;
+    fill(4660);
+    struct answer a = asked(script, strlen(script), response, strlen(response), NULL, 0, 0, area, SVERDHYLL_AREA);
+    expect("the weights of both", is_answer(a, SVERDHYLL_ACCEPTED, SVERDHYLL_NONE, 0, 1, 0) && weighs(a, 1, 3 * 65535));
+    expect("the lists of both", list_size(0) == 2 && area[0] == 1 && area[1] == 2 && list_size(1) == 3 && list_size(2) == 0 && behind_stays());
+    a = asked(script, strlen(script), response, strlen(response), &number, 1, 0, area, SVERDHYLL_AREA);
+    expect("no weights after 16", is_answer(a, SVERDHYLL_BAD_POINTS, SVERDHYLL_POINTS, 1, 0, 0) && weighs(a, 0, 0));
+    refused("a weighted rule without the feature is 6", unasked, response, SVERDHYLL_NOT_CARRIED, SVERDHYLL_SCRIPT, at(unasked, "(synth"), 0);
+    refused("a weight past its limit is 4", past, response, SVERDHYLL_PAST_LIMIT, SVERDHYLL_SCRIPT, at(past, "65536"), 0);
+}
+
 /* Answer 1, and the areas that it leaves unchanged. */
 static void sizes(void)
 {
@@ -193,6 +213,7 @@ int main(void)
     responses();
     points();
     least();
+    weights();
     sizes();
     nothing();
     enquiries();

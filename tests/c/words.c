@@ -55,6 +55,10 @@ int main(void)
     expect("its values", values[0] == 0 && values[1] == 240 && values[2] == 0);
     expect("what is behind them stays", table[15] == UINT32_MAX && values[3] == UINT64_MAX);
 
+    expect("keywords", words(":weights (:weight)", table, 12, values, &place, &count) == 0 && count == 4 && table[0] == SVERDHYLL_KEYWORD &&
+           table[2 * SVERDHYLL_ROW] == SVERDHYLL_KEYWORD && table[2 * SVERDHYLL_ROW + 1] == 10 && table[2 * SVERDHYLL_ROW + 2] == 17);
+    expect("another keyword", words("a :weighted", table, 12, values, &place, &count) == 6 && place == 2 && count == 1);
+
     expect("a bad word", words("(ab 00)", table, 12, values, &place, &count) == 2 && place == 4 && count == 2);
     expect("a bracket closed too often", words("())", table, 12, values, &place, &count) == 3 && place == 2 && count == 2);
     expect("a bracket never closed", words("(()", table, 12, values, &place, &count) == 3 && place == 3 && count == 3);

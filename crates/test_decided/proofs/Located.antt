@@ -425,47 +425,44 @@ places =
     ∷ row "(set-logic BV)(synth-fun f () Bool ((A Bool) (B Bool)) ((A Bool (true #x00)) (B Bool ((not B)))))(check-synth)" 70 74 1 71
     ∷ row "(set-logic BV)(synth-fun f () Bool ((A Bool) (B Bool) (C Bool)) ((A Bool (true)) (B Bool (C)) (C Bool (B))))(check-synth)" 46 47 1 47
     ∷ row "(set-logic BV)(synth-fun f () Bool ((A Bool)) ((A Bool (A))))(declare-sort S 0)" 37 38 1 38
-    ∷ row "(set-logic BV)(set-feature :weights true)(synth-fun f () Bool ((A Bool)) ((A Bool ((! true :weight 5)))))(check-synth)" 27 35 1 28
-    ∷ row "(set-logic BV)(set-feature :weights true)(set-feature :weights true)(synth-fun f () Bool ((A Bool)) ((A Bool (true))))(check-synth)" 27 35 1 28
-    ∷ row "(set-feature :weights true)(set-logic BV)(synth-fun f () Bool ((A Bool)) ((A Bool (true))))(check-synth)" 13 21 1 14
-    ∷ row "(set-logic BV)(declare-var p Bool)(set-feature :weights true)(synth-fun f () Bool ((A Bool)) ((A Bool (true))))(check-synth)" 47 55 1 48
-    ∷ row "(set-logic BV)(set-feature :weights false)(synth-fun f () Bool ((A Bool)) ((A Bool (true))))(check-synth)" 27 35 1 28
-    ∷ row "(set-logic BV)(synth-fun f () Bool ((A Bool)) ((A Bool (true))))(set-feature :weights false)(check-synth)" 77 85 1 78
-    ∷ row "(set-logic BV)(set-feature :weights x)(synth-fun f () Bool ((A Bool)) ((A Bool (true))))(check-synth)" 27 35 1 28
-    ∷ row "(set-logic BV)(set-feature :weights 1)(synth-fun f () Bool ((A Bool)) ((A Bool (true))))(check-synth)" 27 35 1 28
-    ∷ row "(set-logic BV)(set-feature :weight true)(synth-fun f () Bool ((A Bool)) ((A Bool (true))))(check-synth)" 27 34 1 28
+    ∷ row "(set-logic BV)(set-feature :weights true)(set-feature :weights true)(synth-fun f () Bool ((A Bool)) ((A Bool (true))))(check-synth)" 41 42 1 42
+    ∷ row "(set-feature :weights true)(set-logic BV)(synth-fun f () Bool ((A Bool)) ((A Bool (true))))(check-synth)" 0 1 1 1
+    ∷ row "(set-logic BV)(declare-var p Bool)(set-feature :weights true)(synth-fun f () Bool ((A Bool)) ((A Bool (true))))(check-synth)" 34 35 1 35
+    ∷ row "(set-logic BV)(set-feature :weights false)(synth-fun f () Bool ((A Bool)) ((A Bool (true))))(check-synth)" 14 15 1 15
+    ∷ row "(set-logic BV)(synth-fun f () Bool ((A Bool)) ((A Bool (true))))(set-feature :weights false)(check-synth)" 64 65 1 65
+    ∷ row "(set-logic BV)(set-feature :weights x)(synth-fun f () Bool ((A Bool)) ((A Bool (true))))(check-synth)" 14 15 1 15
+    ∷ row "(set-logic BV)(set-feature :weights 1)(synth-fun f () Bool ((A Bool)) ((A Bool (true))))(check-synth)" 14 15 1 15
+    ∷ row "(set-logic BV)(set-feature :weight true)(synth-fun f () Bool ((A Bool)) ((A Bool (true))))(check-synth)" 14 15 1 15
     ∷ row "(set-logic BV)(set-feature :grammars true)(synth-fun f () Bool ((A Bool)) ((A Bool (true))))(check-synth)" 27 36 1 28
-    ∷ row "(set-logic BV)(synth-fun f () Bool ((A Bool)) ((A Bool ((! true :weight 1)))))(check-synth)" 64 71 1 65
-    ∷ row "(set-logic BV)(set-feature :weights true)(synth-fun f () Bool ((A Bool)) ((A Bool ((! true :weight 1 :weight 2)))))(check-synth)" 27 35 1 28
-    ∷ row "(set-logic BV)(set-feature :weights true)(synth-fun f () Bool ((A Bool)) ((A Bool ((! true)))))(check-synth)" 27 35 1 28
-    ∷ row "(set-logic BV)(set-feature :weights true)(synth-fun f () Bool ((A Bool)) ((A Bool ((! true :weight)))))(check-synth)" 27 35 1 28
-    ∷ row "(set-logic BV)(set-feature :weights true)(synth-fun f () Bool ((A Bool)) ((A Bool ((! true :weight true)))))(check-synth)" 27 35 1 28
-    ∷ row "(set-logic BV)(set-feature :weights true)(synth-fun f () Bool ((A Bool)) ((A Bool ((! true :weight 1 2)))))(check-synth)" 27 35 1 28
-    ∷ row "(set-logic BV)(set-feature :weights true)(synth-fun f () Bool ((A Bool)) ((A Bool ((! :weight 1)))))(check-synth)" 27 35 1 28
-    ∷ row "(set-logic BV)(set-feature :weights true)(synth-fun f () Bool ((A Bool)) ((A Bool (true (not (! A :weight 1))))))(check-synth)" 27 35 1 28
-    ∷ row "(set-logic BV)(set-feature :weights true)(synth-fun f () Bool ((A Bool)) ((A Bool ((! (! true :weight 1) :weight 2)))))(check-synth)" 27 35 1 28
-    ∷ row "(set-logic BV)(set-feature :weights true)(synth-fun f () Bool ((A Bool)) ((A Bool (true))))(constraint (! true :weight 1))(check-synth)" 27 35 1 28
-    ∷ row "(set-logic BV)(set-feature :weights true)(synth-fun f () Bool ((A Bool)) ((A Bool (true))))(check-synth)" 27 35 1 28
-    ∷ row "(set-logic BV)(declare-var :weight Bool)(synth-fun f () Bool ((A Bool)) ((A Bool (true))))(check-synth)" 27 34 1 28
-    ∷ row "(set-logic BV)(synth-fun f () Bool ((A Bool)) ((A Bool (true))))(constraint :weight)(check-synth)" 76 83 1 77
+    ∷ row "(set-logic BV)(synth-fun f () Bool ((A Bool)) ((A Bool ((! true :weight 1)))))(check-synth)" 14 15 1 15
+    ∷ row "(set-logic BV)(set-feature :weights true)(synth-fun f () Bool ((A Bool)) ((A Bool ((! true)))))(check-synth)" 41 42 1 42
+    ∷ row "(set-logic BV)(set-feature :weights true)(synth-fun f () Bool ((A Bool)) ((A Bool ((! true :weight)))))(check-synth)" 41 42 1 42
+    ∷ row "(set-logic BV)(set-feature :weights true)(synth-fun f () Bool ((A Bool)) ((A Bool ((! true :weight true)))))(check-synth)" 41 42 1 42
+    ∷ row "(set-logic BV)(set-feature :weights true)(synth-fun f () Bool ((A Bool)) ((A Bool ((! true :weight 1 2)))))(check-synth)" 41 42 1 42
+    ∷ row "(set-logic BV)(set-feature :weights true)(synth-fun f () Bool ((A Bool)) ((A Bool ((! :weight 1)))))(check-synth)" 41 42 1 42
+    ∷ row "(set-logic BV)(set-feature :weights true)(synth-fun f () Bool ((A Bool)) ((A Bool (true (not (! A :weight 1))))))(check-synth)" 41 42 1 42
+    ∷ row "(set-logic BV)(set-feature :weights true)(synth-fun f () Bool ((A Bool)) ((A Bool ((! (! true :weight 1) :weight 2)))))(check-synth)" 41 42 1 42
+    ∷ row "(set-logic BV)(set-feature :weights true)(synth-fun f () Bool ((A Bool)) ((A Bool (true))))(constraint (! true :weight 1))(check-synth)" 91 92 1 92
+    ∷ row "((define-fun f () Bool (! true :weight 1)))" 1 2 1 2
+    ∷ row ":weight" 0 7 1 1
+    ∷ row "(set-logic BV)(declare-var :weight Bool)(synth-fun f () Bool ((A Bool)) ((A Bool (true))))(check-synth)" 14 15 1 15
+    ∷ row "(set-logic BV)(synth-fun f () Bool ((A Bool)) ((A Bool (true))))(constraint :weight)(check-synth)" 64 65 1 65
     ∷ row "(set-logic BV)(set-feature :weights2 true)" 27 36 1 28
-    ∷ row "(set-logic BV)(set-feature :weights true)(synth-fun f () Bool ((A Bool)) ((A Bool ((! (Constant Bool) :weight 1)))))(check-synth)" 27 35 1 28
-    ∷ row "(set-logic BV)(set-feature :weights true)(synth-fun f () Bool ((A Bool)) ((A Bool ((! true :weight 65535)))))(check-synth)" 27 35 1 28
-    ∷ row "(set-logic BV)(set-feature :weights true)(synth-fun f () Bool ((A Bool)) ((A Bool ((! true :weight 65536)))))(check-synth)" 27 35 1 28
-    ∷ row "(set-logic BV)(set-feature :weights true)(synth-fun f () Bool ((A Bool)) ((A Bool ((! true :weight 1234567890)))))(check-synth) 00" 27 35 1 28
-    ∷ row "(set-logic BV)(set-feature :weights true)(synth-fun f () Bool ((A Bool)) ((A Bool ((! true :weight 1 :weight 65536)))))(check-synth)" 27 35 1 28
-    ∷ row "(set-logic BV)(set-feature :weights true)(synth-fun f () Bool ((A Bool)) ((A Bool (! true :weight 1))))(check-synth)" 27 35 1 28
-    ∷ row "(set-logic BV)(set-feature :weights true)(synth-fun f () Bool ((A Bool)) ((A Bool (true (! #x00 :weight 1)))))(check-synth)" 27 35 1 28
-    ∷ row "(set-logic BV)(set-feature :weights true)(synth-fun f () Bool ((A Bool)) ((A Bool (true (! (and A #x00) :weight 1)))))(check-synth)" 27 35 1 28
-    ∷ row "(set-logic BV)(set-feature :weights true)(synth-fun f () Bool ((A Bool)) ((A Bool (true))))(constraint (= (_ weight f) #x00))(check-synth)" 27 35 1 28
-    ∷ row "(set-logic BV)(set-feature :weights true)(declare-weight w)(synth-fun f () Bool ((A Bool)) ((A Bool (true))))(check-synth)" 27 35 1 28
-    ∷ row "(set-logic BV)(synth-fun f () Bool ((A Bool)) ((A Bool ((! true :weight 1) (let ((a true)) a)))))(check-synth)" 64 71 1 65
-    ∷ row "(set-logic BV)(set-feature :weights true)(synth-fun f () Bool ((A Bool)) ((A Bool (true (! A :weight 0)))))(check-synth)" 27 35 1 28
-    ∷ row "(set-feature :weights true)(synth-fun f () Bool ((A Bool)) ((A Bool (true))))(check-synth)" 13 21 1 14
-    ∷ row "(set-logic BV)(set-feature :weights true)(synth-fun f () Bool ((A Bool)) ((A Bool ((! true :weight 1)) x)))(check-synth)" 27 35 1 28
-    ∷ row "(set-logic BV)(set-feature :weights true)(synth-fun f () Bool ((A Bool)) ((A Bool ((! true :weight 1))) x))(check-synth)" 27 35 1 28
-    ∷ row "(set-logic BV)(set-feature :weights true)(synth-fun f () Bool ((A Bool)) ((A Bool ((! true :weight :weight 3)))))(check-synth)" 27 35 1 28
-    ∷ row "(set-logic BV)(set-feature :weights true)(synth-fun f () Bool ((A Bool)) ((A Bool ((! true :weights 3)))))(check-synth)" 27 35 1 28
+    ∷ row "(set-logic BV)(set-feature :weights true)(synth-fun f () Bool ((A Bool)) ((A Bool ((! (Constant Bool) :weight 1)))))(check-synth)" 41 42 1 42
+    ∷ row "(set-logic BV)(set-feature :weights true)(synth-fun f () Bool ((A Bool)) ((A Bool ((! true :weight 65536)))))(check-synth)" 99 104 1 100
+    ∷ row "(set-logic BV)(set-feature :weights true)(synth-fun f () Bool ((A Bool)) ((A Bool ((! true :weight 1234567890)))))(check-synth) 00" 99 109 1 100
+    ∷ row "(set-logic BV)(set-feature :weights true)(synth-fun f () Bool ((A Bool)) ((A Bool ((! true :weight 1 :weight 65536)))))(check-synth)" 109 114 1 110
+    ∷ row "(set-logic BV)(set-feature :weights true)(synth-fun f () Bool ((A Bool)) ((A Bool (! true :weight 1))))(check-synth)" 41 42 1 42
+    ∷ row "(set-logic BV)(set-feature :weights true)(synth-fun f () Bool ((A Bool)) ((A Bool (true (! #x00 :weight 1)))))(check-synth)" 88 89 1 89
+    ∷ row "(set-logic BV)(set-feature :weights true)(synth-fun f () Bool ((A Bool)) ((A Bool (true (! (and A #x00) :weight 1)))))(check-synth)" 91 92 1 92
+    ∷ row "(set-logic BV)(set-feature :weights true)(synth-fun f () Bool ((A Bool)) ((A Bool (true))))(constraint (= (_ weight f) #x00))(check-synth)" 91 92 1 92
+    ∷ row "(set-logic BV)(set-feature :weights true)(declare-weight w)(synth-fun f () Bool ((A Bool)) ((A Bool (true))))(check-synth)" 41 42 1 42
+    ∷ row "(set-logic BV)(synth-fun f () Bool ((A Bool)) ((A Bool ((! true :weight 1) (let ((a true)) a)))))(check-synth)" 14 15 1 15
+    ∷ row "(set-feature :weights true)(synth-fun f () Bool ((A Bool)) ((A Bool (true))))(check-synth)" 0 1 1 1
+    ∷ row "(set-logic BV)(set-feature :weights true)(synth-fun f () Bool ((A Bool)) ((A Bool ((! true :weight 1)) x)))(check-synth)" 41 42 1 42
+    ∷ row "(set-logic BV)(set-feature :weights true)(synth-fun f () Bool ((A Bool)) ((A Bool ((! true :weight 1))) x))(check-synth)" 41 42 1 42
+    ∷ row "(set-logic BV)(set-feature :weights true)(synth-fun f () Bool ((A Bool)) ((A Bool ((! true :weight :weight 3)))))(check-synth)" 41 42 1 42
+    ∷ row "(set-logic BV)(set-feature :weights true)(synth-fun f () Bool ((A Bool)) ((A Bool ((! true :weights 3)))))(check-synth)" 41 42 1 42
     ∷ row "(set-logic BV) ;c" 17 17 1 18
     ∷ row "(set-logic\nBV)" 14 14 2 4
     ∷ row "(set-logic\nBV" 13 13 2 3

@@ -26,14 +26,14 @@ use Rattle.operators.specs.Sorts.{sortBy}
 use Rattle.operators.specs.Values.{chained, groupLeft, groupRight, pairwise, withEach}
 use Rattle.script.specs.Response.{Answered, answered, bodies, inScriptOrder, judgedAll, judgedBody, judgedExtra, refused as refusedBody}
 use Rattle.script.specs.Script.{grammarPlace, judged, Known, knownAfter, limitPlace, namePlace, newNames, nothingKnown, passed, Read, readAll, refused, sortingPlace, termsIn, tested}
-use Rattle.shapes.specs.Carried.{anyUncarried, notCarried}
-use Rattle.shapes.specs.Shapes.{all, commandShape, termShapes}
+use Rattle.shapes.specs.Carried.{anyOf, anyUncarried, before, commandUncarried, notCarried}
+use Rattle.shapes.specs.Shapes.{all, attributesShape, commandShape, termShapes}
 use Rattle.term_faults.specs.Faults.{ruleMisfit, termFault}
 use Rattle.term_nodes.specs.Rules.{nodesPast, rulePast, rulesIn, rulesOf, sides}
 use Rattle.term_nodes.specs.Terms.{constantsPast, nodeWord, rawTerms}
 use Rattle.terms.specs.Sorts.{calledSort, labelSort, sameSorts, sortOver, withSort}
 use Rattle.word_kinds.specs.Decimals.{isDecimal}
-use Rattle.word_kinds.specs.Kinds.{allIn, formed, hashed, kindOf, literal as literalKind, numeral as numeralKind, spelled, symbol as symbolKind}
+use Rattle.word_kinds.specs.Kinds.{allIn, formed, hashed, keywordForm, kindOf, literal as literalKind, marked, numeral as numeralKind, spelled, symbol as symbolKind}
 use Rattle.words.specs.Spans.{runEnd, startsFrom, wordEnd, wordStarts}
 use Rattle.words.specs.Trees.{levelsAt, levelsBefore, treesFrom}
 use Rattle.words.specs.Words.{bytesAt, wordAt, wordsOf}
@@ -491,9 +491,48 @@ readings =
     ∷ row "(set-logic BV)(synth-fun f () Bool ((A Bool) (B Bool)) ((A Bool (true #x00)) (B Bool ((not B)))))(check-synth)" "" (9 ∷ 26 ∷ 0 ∷ [])
     ∷ row "(set-logic BV)(synth-fun f () Bool ((A Bool) (B Bool) (C Bool)) ((A Bool (true)) (B Bool (C)) (C Bool (B))))(check-synth)" "" (9 ∷ 16 ∷ 0 ∷ [])
     ∷ row "(set-logic BV)(synth-fun f () Bool ((A Bool)) ((A Bool (A))))(declare-sort S 0)" "" (9 ∷ 12 ∷ 0 ∷ [])
+    ∷ row "(set-logic BV)(set-feature :weights true)(synth-fun f () Bool ((A Bool)) ((A Bool ((! true :weight 5)))))(check-synth)" "((define-fun f () Bool true))" []
+    ∷ row "(set-logic BV)(set-feature :weights true)(set-feature :weights true)(synth-fun f () Bool ((A Bool)) ((A Bool (true))))(check-synth)" "" (5 ∷ 9 ∷ 0 ∷ [])
+    ∷ row "(set-feature :weights true)(set-logic BV)(synth-fun f () Bool ((A Bool)) ((A Bool (true))))(check-synth)" "" (5 ∷ 0 ∷ 0 ∷ [])
+    ∷ row "(set-logic BV)(declare-var p Bool)(set-feature :weights true)(synth-fun f () Bool ((A Bool)) ((A Bool (true))))(check-synth)" "" (5 ∷ 9 ∷ 0 ∷ [])
+    ∷ row "(set-logic BV)(set-feature :weights false)(synth-fun f () Bool ((A Bool)) ((A Bool (true))))(check-synth)" "" (6 ∷ 4 ∷ 0 ∷ [])
+    ∷ row "(set-logic BV)(synth-fun f () Bool ((A Bool)) ((A Bool (true))))(set-feature :weights false)(check-synth)" "" (6 ∷ 26 ∷ 0 ∷ [])
+    ∷ row "(set-logic BV)(set-feature :weights x)(synth-fun f () Bool ((A Bool)) ((A Bool (true))))(check-synth)" "" (5 ∷ 4 ∷ 0 ∷ [])
+    ∷ row "(set-logic BV)(set-feature :weights 1)(synth-fun f () Bool ((A Bool)) ((A Bool (true))))(check-synth)" "" (5 ∷ 4 ∷ 0 ∷ [])
+    ∷ row "(set-logic BV)(set-feature :weight true)(synth-fun f () Bool ((A Bool)) ((A Bool (true))))(check-synth)" "" (6 ∷ 4 ∷ 0 ∷ [])
+    ∷ row "(set-logic BV)(synth-fun f () Bool ((A Bool)) ((A Bool ((! true :weight 1)))))(check-synth)" "" (6 ∷ 4 ∷ 0 ∷ [])
+    ∷ row "(set-logic BV)(set-feature :weights true)(synth-fun f () Bool ((A Bool)) ((A Bool ((! true :weight 1 :weight 2)))))(check-synth)" "((define-fun f () Bool true))" []
+    ∷ row "(set-logic BV)(set-feature :weights true)(synth-fun f () Bool ((A Bool)) ((A Bool ((! true)))))(check-synth)" "" (5 ∷ 9 ∷ 0 ∷ [])
+    ∷ row "(set-logic BV)(set-feature :weights true)(synth-fun f () Bool ((A Bool)) ((A Bool ((! true :weight)))))(check-synth)" "" (5 ∷ 9 ∷ 0 ∷ [])
+    ∷ row "(set-logic BV)(set-feature :weights true)(synth-fun f () Bool ((A Bool)) ((A Bool ((! true :weight true)))))(check-synth)" "" (5 ∷ 9 ∷ 0 ∷ [])
+    ∷ row "(set-logic BV)(set-feature :weights true)(synth-fun f () Bool ((A Bool)) ((A Bool ((! true :weight 1 2)))))(check-synth)" "" (5 ∷ 9 ∷ 0 ∷ [])
+    ∷ row "(set-logic BV)(set-feature :weights true)(synth-fun f () Bool ((A Bool)) ((A Bool ((! :weight 1)))))(check-synth)" "" (5 ∷ 9 ∷ 0 ∷ [])
+    ∷ row "(set-logic BV)(set-feature :weights true)(synth-fun f () Bool ((A Bool)) ((A Bool (true (not (! A :weight 1))))))(check-synth)" "" (6 ∷ 9 ∷ 0 ∷ [])
+    ∷ row "(set-logic BV)(set-feature :weights true)(synth-fun f () Bool ((A Bool)) ((A Bool ((! (! true :weight 1) :weight 2)))))(check-synth)" "" (6 ∷ 9 ∷ 0 ∷ [])
+    ∷ row "(set-logic BV)(set-feature :weights true)(synth-fun f () Bool ((A Bool)) ((A Bool (true))))(constraint (! true :weight 1))(check-synth)" "" (6 ∷ 31 ∷ 0 ∷ [])
+    ∷ row "(set-logic BV)(set-feature :weights true)(synth-fun f () Bool ((A Bool)) ((A Bool (true))))(check-synth)" "((define-fun f () Bool (! true :weight 1)))" (6 ∷ 1 ∷ [])
+    ∷ row "(set-logic BV)(set-feature :weights true)(synth-fun f () Bool ((A Bool)) ((A Bool (true))))(check-synth)" ":weight" (5 ∷ 0 ∷ [])
+    ∷ row "(set-logic BV)(declare-var :weight Bool)(synth-fun f () Bool ((A Bool)) ((A Bool (true))))(check-synth)" "" (5 ∷ 4 ∷ 0 ∷ [])
+    ∷ row "(set-logic BV)(synth-fun f () Bool ((A Bool)) ((A Bool (true))))(constraint :weight)(check-synth)" "" (5 ∷ 26 ∷ 0 ∷ [])
+    ∷ row "(set-logic BV)(set-feature :weights true)(synth-fun f () Bool ((A Bool)) ((A Bool ((! (Constant Bool) :weight 1)))))(check-synth)" "" (5 ∷ 9 ∷ 0 ∷ [])
+    ∷ row "(set-logic BV)(set-feature :weights true)(synth-fun f () Bool ((A Bool)) ((A Bool ((! true :weight 65535)))))(check-synth)" "((define-fun f () Bool true))" []
+    ∷ row "(set-logic BV)(set-feature :weights true)(synth-fun f () Bool ((A Bool)) ((A Bool ((! true :weight 65536)))))(check-synth)" "" (4 ∷ 30 ∷ 0 ∷ [])
+    ∷ row "(set-logic BV)(set-feature :weights true)(synth-fun f () Bool ((A Bool)) ((A Bool ((! true :weight 1 :weight 65536)))))(check-synth)" "" (4 ∷ 32 ∷ 0 ∷ [])
+    ∷ row "(set-logic BV)(set-feature :weights true)(synth-fun f () Bool ((A Bool)) ((A Bool (! true :weight 1))))(check-synth)" "" (6 ∷ 9 ∷ 0 ∷ [])
+    ∷ row "(set-logic BV)(set-feature :weights true)(synth-fun f () Bool ((A Bool)) ((A Bool (true (! #x00 :weight 1)))))(check-synth)" "" (9 ∷ 27 ∷ 0 ∷ [])
+    ∷ row "(set-logic BV)(set-feature :weights true)(synth-fun f () Bool ((A Bool)) ((A Bool (true (! (and A #x00) :weight 1)))))(check-synth)" "" (8 ∷ 29 ∷ 0 ∷ [])
+    ∷ row "(set-logic BV)(set-feature :weights true)(synth-fun f () Bool ((A Bool)) ((A Bool (true))))(constraint (= (_ weight f) #x00))(check-synth)" "" (6 ∷ 31 ∷ 0 ∷ [])
+    ∷ row "(set-logic BV)(set-feature :weights true)(declare-weight w)(synth-fun f () Bool ((A Bool)) ((A Bool (true))))(check-synth)" "" (6 ∷ 9 ∷ 0 ∷ [])
+    ∷ row "(set-logic BV)(synth-fun f () Bool ((A Bool)) ((A Bool ((! true :weight 1) (let ((a true)) a)))))(check-synth)" "" (6 ∷ 4 ∷ 0 ∷ [])
+    ∷ row "(set-logic BV)(set-feature :weights true)(synth-fun f () Bool ((A Bool)) ((A Bool (true (! A :weight 0)))))(check-synth)" "((define-fun f () Bool true))" []
+    ∷ row "(set-feature :weights true)(synth-fun f () Bool ((A Bool)) ((A Bool (true))))(check-synth)" "" (5 ∷ 0 ∷ 0 ∷ [])
+    ∷ row "(set-logic BV)(set-feature :weights true)(synth-fun f () Bool ((A Bool)) ((A Bool ((! true :weight 1)) x)))(check-synth)" "" (6 ∷ 9 ∷ 0 ∷ [])
+    ∷ row "(set-logic BV)(set-feature :weights true)(synth-fun f () Bool ((A Bool)) ((A Bool ((! true :weight 1))) x))(check-synth)" "" (5 ∷ 9 ∷ 0 ∷ [])
+    ∷ row "(set-logic BV)(set-feature :weights true)(synth-fun f () Bool ((A Bool)) ((A Bool ((! true :weight :weight 3)))))(check-synth)" "" (5 ∷ 9 ∷ 0 ∷ [])
+    ∷ row "(set-logic BV)(set-feature :weights true)(synth-fun f () Bool ((A Bool)) ((A Bool ((! true :weights 3)))))(check-synth)" "" (5 ∷ 9 ∷ 0 ∷ [])
     ∷ []
 
 -- The definitions answer every one of them so.
 pub decided : map defined readings ≡ map (λ (r : Reading). r .answer) readings
-unfolding after all allIn allNumerals answered anyUncarried argumentTokens bytesAt calledSort chained commandShape constantsPast count deadMisfit deadPlace differing earlier formSorts formYields formed formsOf grammarPlace groupLeft groupRight hashed inOrder inScriptOrder inside isDecimal isKnown isNamed isOneOf isReserved item itemSort itemsOf join judged judgedAll judgedBody judgedExtra kindOf knownAfter labelSort lastBefore leastIn levelsAt levelsBefore limitPlace listingMisfit literalKind namePlace named namedBy newNames newPairs nodeWord nodesOf nodesPast notCarried numeralKind onePass operatorAt operatorOf operatorSort operators pairwise passes placeIn rawTerms readAll reservedWords ruleMisfit rulePast rulesIn rulesOf runEnd sameBytes sameSorts sides sortBy sortOver sortingPlace spelled startsFrom symbolKind symbolMeans termFault termShapes termsIn tested totalOf treesFrom unknownIn withEach withSort wordAt wordEnd wordStarts wordsIn wordsOf
+unfolding after all allIn allNumerals answered anyOf anyUncarried argumentTokens attributesShape before bytesAt calledSort chained commandShape commandUncarried constantsPast count deadMisfit deadPlace differing earlier formSorts formYields formed formsOf grammarPlace groupLeft groupRight hashed inOrder inScriptOrder inside isDecimal isKnown isNamed isOneOf isReserved item itemSort itemsOf join judged judgedAll judgedBody judgedExtra keywordForm kindOf knownAfter labelSort lastBefore leastIn levelsAt levelsBefore limitPlace listingMisfit literalKind marked namePlace named namedBy newNames newPairs nodeWord nodesOf nodesPast notCarried numeralKind onePass operatorAt operatorOf operatorSort operators pairwise passes placeIn rawTerms readAll reservedWords ruleMisfit rulePast rulesIn rulesOf runEnd sameBytes sameSorts sides sortBy sortOver sortingPlace spelled startsFrom symbolKind symbolMeans termFault termShapes termsIn tested totalOf treesFrom unknownIn withEach withSort wordAt wordEnd wordStarts wordsIn wordsOf
 decided = refl

@@ -194,6 +194,7 @@ fn limit(word: &str) -> &'static str {
     match bits {
         65.. => "a literal has at most 64 bits",
         _ if numeral && word.len() > 9 => "a numeral has at most 9 digits",
+        _ if numeral && word.len() >= 5 => "a width is at most 64, and a weight at most 65,535",
         _ if numeral => "a width is at most 64",
         _ if word.len() > 64 => "a symbol has at most 64 bytes",
         _ if constant && word.len() > 22 => "a constant has at most 20 digits",
@@ -367,6 +368,10 @@ mod tests {
         for (word, limit) in [
             ("1234567890", "a numeral has at most 9 digits"),
             ("65", "a width is at most 64"),
+            (
+                "65536",
+                "a width is at most 64, and a weight at most 65,535",
+            ),
             ("#x00000000000000000", "a literal has at most 64 bits"),
             (symbol.as_str(), "a symbol has at most 64 bytes"),
             (constant.as_str(), "a constant has at most 20 digits"),

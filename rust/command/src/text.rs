@@ -57,8 +57,8 @@ pub fn write(facts: &Facts, columns: usize, to: &mut impl Write) -> io::Result<(
     }
     for derived in &facts.derived {
         match facts.answer.number {
-            0 => write_derivation(derived, to)?,
-            _ => write_rules(derived, to)?,
+            0 => write_derivation(derived, facts.given.read.weights, to)?,
+            _ => write_rules(derived, facts.given.read.weights, to)?,
         }
     }
     Ok(())
@@ -161,25 +161,36 @@ fn write_judged(facts: &Facts, judged: &Judged, to: &mut impl Write) -> io::Resu
     Ok(())
 }
 
+/// The total weight of a derivation, where rules may have weights.
+fn total(derived: &Derived, weights: bool) -> String {
+    match weights {
+        true => format!(" of weight {}", grouped(derived.weight)),
+        false => String::new(),
+    }
+}
+
 /// Writes a derivation step by step.
-fn write_derivation(derived: &Derived, to: &mut impl Write) -> io::Result<()> {
+fn write_derivation(derived: &Derived, weights: bool, to: &mut impl Write) -> io::Result<()> {
     let steps = counted(derived.steps.len() as u64, "step");
     writeln!(
         to,
-        "\n{}: derived from {} in {steps}, the leftmost non-terminal each time",
-        derived.name, derived.start
+        "\n{}: derived from {} in {steps}{}, the leftmost non-terminal each time",
+        derived.name,
+        derived.start,
+        total(derived, weights)
     )?;
     for (index, step) in derived.steps.iter().enumerate() {
-        write_step(index + 1, step, to)?;
+        write_step(index + 1, step, weights, to)?;
     }
     Ok(())
 }
 
-/// Writes one step: rule, non-terminal, the rule's text and how the body has it, and below it the term so far.
-fn write_step(count: usize, step: &Step, to: &mut impl Write) -> io::Result<()> {
+/// Writes one step: rule, non-terminal, the rule's text and how the body has it, its weight, and below it the term so far.
+fn write_step(count: usize, step: &Step, weights: bool, to: &mut impl Write) -> io::Result<()> {
     let Step {
         number,
         nonterminal,
+        weight,
         rule,
         given,
         written,
@@ -192,11 +203,14 @@ fn write_step(count: usize, step: &Step, to: &mut impl Write) -> io::Result<()> 
     if let Some(written) = written {
         write!(to, ", in the body {written}")?;
     }
+    if weights {
+        write!(to, ", weight {weight}")?;
+    }
     writeln!(to, "\n      {term}")
 }
 
 /// Writes the rule numbers of a derivation.
-fn write_rules(derived: &Derived, to: &mut impl Write) -> io::Result<()> {
+fn write_rules(derived: &Derived, weights: bool, to: &mut impl Write) -> io::Result<()> {
     let numbers: Vec<String> = derived
         .steps
         .iter()
@@ -204,8 +218,9 @@ fn write_rules(derived: &Derived, to: &mut impl Write) -> io::Result<()> {
         .collect();
     writeln!(
         to,
-        "{}: derived by rules {}",
+        "{}: derived by rules {}{}",
         derived.name,
-        numbers.join(" ")
+        numbers.join(" "),
+        total(derived, weights)
     )
 }

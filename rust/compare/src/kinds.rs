@@ -3,14 +3,14 @@
 use simple::commands::{command, Command};
 use simple::eval::whole_points;
 use simple::generate::Case;
-use simple::grammar::Rule;
+use simple::grammar::{derivation, Grammar, Rule};
 use simple::tree::{trees, Tree};
-use simple::{script, words, FIRST_ASSUMPTION};
+use simple::{response, script, words, FIRST_ASSUMPTION};
 use std::collections::HashSet;
 use sverdhyll::Answer;
 
 /// How many kinds there are.
-pub const KINDS: usize = 11;
+pub const KINDS: usize = 13;
 
 /// The names of the kinds.
 pub const NAMES: [&str; KINDS] = [
@@ -20,6 +20,8 @@ pub const NAMES: [&str; KINDS] = [
     "a name that its own command has taken",
     "a non-terminal that derives no term",
     "a non-terminal that derives terms only through others",
+    "a derivation shown for its rule numbers",
+    "a derivation shown for its weight",
     "a place behind the first line",
     "a place behind byte 13 in its line",
     "a place behind a byte above 127 in its line",
@@ -31,6 +33,7 @@ pub const NAMES: [&str; KINDS] = [
 pub fn kinds(case: &Case, answer: &Answer) -> [bool; KINDS] {
     let before_assumption = answer.number == 15 && answer.second >= FIRST_ASSUMPTION as u64;
     let [taken_earlier, taken_within] = taken_kinds(case, answer);
+    let [by_numbers, by_weight] = shown_kinds(case, answer);
     let [later, behind_13, behind_above_127, line_ended, ended] = place_kinds(case, answer);
     [
         points_skipped(case, answer),
@@ -39,6 +42,8 @@ pub fn kinds(case: &Case, answer: &Answer) -> [bool; KINDS] {
         taken_within,
         dead(case, answer),
         leaning(case, answer),
+        by_numbers,
+        by_weight,
         later,
         behind_13,
         behind_above_127,
@@ -101,6 +106,30 @@ fn leaning(case: &Case, answer: &Answer) -> bool {
         let alone: HashSet<usize> = alone.map(|rule| rule.nonterminal).collect();
         alone.len() < none.len()
     })
+}
+
+/// Whether another derivation of a body would be shown if the rules of a grammar were numbered from the last to the first, and if none had a weight.
+fn shown_kinds(case: &Case, answer: &Answer) -> [bool; 2] {
+    if !matches!(answer.number, 0 | 14 | 15) {
+        return [false; 2];
+    }
+    let script = script::read(&case.script).expect("a sound script");
+    let bodies = response::read(&case.response, &script).expect("a sound response");
+    let functions = script.synthesized.iter().zip(&bodies);
+    let mut kinds = [false; 2];
+    for (function, body) in functions {
+        let rules =
+            |grammar: &Grammar| derivation(grammar, &function.arguments, body).map(|one| one.rules);
+        let (mut backwards, mut unweighted) = (function.grammar.clone(), function.grammar.clone());
+        backwards.rules.reverse();
+        unweighted.rules.iter_mut().for_each(|rule| rule.weight = 0);
+        let last = function.grammar.rules.len() as u16 - 1;
+        let shown = rules(&function.grammar);
+        let renumbered = |rules: Vec<u16>| rules.iter().map(|number| last - number).collect();
+        kinds[0] |= rules(&backwards).map(renumbered) != shown;
+        kinds[1] |= rules(&unweighted) != shown;
+    }
+    kinds
 }
 
 /// Of which kinds the place of an answer is that carries a line and a column.

@@ -61,6 +61,24 @@ fn the_least_derivation() {
 }
 
 #[test]
+fn weights() {
+    let mut library = Library::open().expect("a library");
+    let script = b"(set-logic BV)(set-feature :weights true)(synth-fun f () Bool ((A Bool)(B Bool)) ((A Bool ((! true :weight 5) B)) (B Bool ((! true :weight 1)))))
+        (synth-fun g () Bool ((A Bool)) ((A Bool ((! true :weight 7)))))(check-synth)";
+    let response = b"((define-fun f () Bool true)(define-fun g () Bool true))";
+    let mut area = vec![7; AREA_LENGTH];
+    let found = library.check(script, response, &[], 0, &mut area);
+    let expected = Answer {
+        weights: [1, 7, 0, 0, 0, 0, 0, 0],
+        ..answer(0, 3, 0, 1)
+    };
+    assert_eq!(found.expect("an answer"), expected);
+    assert_eq!(area[..3], [1, 2, UNUSED]);
+    let refused = library.check(script, response, &[1], 0, &mut area);
+    assert_eq!(refused.expect("an answer"), answer(16, 2, 1, 0));
+}
+
+#[test]
 fn sizes() {
     let mut library = Library::open().expect("a library");
     let long = vec![b' '; TOO_LONG];

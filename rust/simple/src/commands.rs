@@ -5,9 +5,12 @@ use crate::terms::{
     is_sort, is_term, term_past_limit, width_past_limit, CARRIED_COMMANDS, OTHER_COMMANDS,
 };
 use crate::tree::Tree;
+use crate::words::{ATTRIBUTE, FEATURE};
 
 /// "8 arguments".
 const MOST_ARGUMENTS: usize = 8;
+/// "k to 65,535 (more: answer 4)".
+const MOST_WEIGHT: u32 = 65_535;
 
 /// A name and a sort: `(x σ)`.
 pub struct Pair<'a> {
@@ -50,6 +53,7 @@ pub struct SynthFun<'a> {
 /// A carried command that has its form.
 pub enum Command<'a> {
     SetLogic,
+    SetFeature,
     DeclareVar { name: &'a Tree, sort: &'a Tree },
     DefineFun(DefineFun<'a>),
     SynthFun(SynthFun<'a>),
@@ -65,17 +69,81 @@ pub enum RuleForm<'a> {
     Term(&'a Tree),
 }
 
-/// The command's bracket if it is answer 6: another 2.1 command, or a carried one with another logic, without grammar
-/// or with a list that is not carried.
-pub fn not_carried(command: &Tree) -> Option<usize> {
+/// The command's bracket if it is answer 6: another 2.1 command, or a carried one with another logic or feature, without grammar
+/// or with a list that is not carried, where the feature is set or not.
+pub fn not_carried(command: &Tree, weights: bool) -> Option<usize> {
     let items = command.items()?;
     let head = items.first()?.symbol()?;
     let carried = CARRIED_COMMANDS.contains(&head);
     let fault = OTHER_COMMANDS.contains(&head)
         || is_other_logic(items)
+        || is_other_feature(items)
         || is_without_grammar(items)
-        || carried && items.iter().any(holds_list_not_carried);
+        || carried && !list_not_carried(command, weights).is_empty();
     fault.then(|| command.start())
+}
+
+/// The places of the lists of a carried command that are not carried. "a weighted rule without the feature is answer 6"; with it a rule
+/// that is begun by `!` is tested in its parts alone.
+pub fn list_not_carried(command: &Tree, weights: bool) -> Vec<usize> {
+    let rules = match weights {
+        true => whole_rules(command),
+        false => Vec::new(),
+    };
+    let is_weighted = |rule: &&Tree| is_begun_by_mark(rule);
+    let weighted: Vec<usize> = rules
+        .into_iter()
+        .filter(is_weighted)
+        .map(Tree::start)
+        .collect();
+    let mut places = lists_not_carried(command);
+    places.retain(|place| !weighted.contains(place));
+    places
+}
+
+/// The items that stand as rules in a `synth-fun` of six parts, in the third part of each group of three.
+fn whole_rules(command: &Tree) -> Vec<&Tree> {
+    let groups = match command.items() {
+        Some([head, _, _, _, _, groups]) if head.symbol() == Some("synth-fun") => groups.items(),
+        _ => None,
+    };
+    let groups = groups.into_iter().flatten();
+    groups.filter_map(group_rules).flatten().collect()
+}
+
+/// The third part of a group of three, where it is a list.
+fn group_rules(group: &Tree) -> Option<&[Tree]> {
+    match group.items()? {
+        [_, _, rules] => rules.items(),
+        _ => None,
+    }
+}
+
+/// Whether a tree is a list begun by `!`.
+pub fn is_begun_by_mark(tree: &Tree) -> bool {
+    let first = tree.items().and_then(|items| items.first());
+    first.and_then(Tree::symbol) == Some("!")
+}
+
+/// "set otherwise 6": another feature, or this one set to false.
+fn is_other_feature(items: &[Tree]) -> bool {
+    match set_feature(items) {
+        Some((feature, value)) => feature != FEATURE || value != "true",
+        None => false,
+    }
+}
+
+/// Form of `(set-feature :feature b)`, b being `true` or `false`.
+fn set_feature(items: &[Tree]) -> Option<(&str, &str)> {
+    match items {
+        [head, feature, value] if head.symbol() == Some("set-feature") => {
+            let value = value
+                .symbol()
+                .filter(|value| ["true", "false"].contains(value));
+            Some((feature.keyword()?, value?))
+        }
+        _ => None,
+    }
 }
 
 /// "another logic".
@@ -94,10 +162,10 @@ fn is_without_grammar(items: &[Tree]) -> bool {
 }
 
 /// "any list begun by `let`, `exists`, `forall`, `!`, or by `_` and then neither `BitVec` nor `extract`"; "Answer 6 gives way
-/// to" `bv` with a numeral.
-fn holds_list_not_carried(tree: &Tree) -> bool {
+/// to" `bv` with a numeral. The places of all of them.
+fn lists_not_carried(tree: &Tree) -> Vec<usize> {
     let Some(items) = tree.items() else {
-        return false;
+        return Vec::new();
     };
     let symbol = |index: usize| items.get(index).and_then(Tree::symbol);
     let begun = match symbol(0) {
@@ -108,7 +176,12 @@ fn holds_list_not_carried(tree: &Tree) -> bool {
         }
         _ => false,
     };
-    begun || items.iter().any(holds_list_not_carried)
+    let inner = items.iter().flat_map(lists_not_carried);
+    begun
+        .then(|| tree.start())
+        .into_iter()
+        .chain(inner)
+        .collect()
 }
 
 /// Form of `(x σ)`.
@@ -148,14 +221,55 @@ pub fn define_fun(tree: &Tree) -> Option<DefineFun<'_>> {
     }
 }
 
-/// Form of a rule: "`(Constant σ)`, `(Variable σ)` or a binder-free term".
+/// Form of a rule: "`(Constant σ)`, `(Variable σ)` or a binder-free term", or one "written `(! t :weight k)`".
 pub fn rule_form(rule: &Tree) -> Option<RuleForm<'_>> {
+    if is_begun_by_mark(rule) {
+        return weighted(rule).map(|(term, _)| RuleForm::Term(term));
+    }
     let head = rule.items().and_then(|items| items.first());
     match (head.and_then(Tree::symbol), rule.items()) {
         (Some("Constant"), Some([_, sort])) if is_sort(sort) => Some(RuleForm::Constant(sort)),
         (Some("Variable"), Some([_, sort])) if is_sort(sort) => Some(RuleForm::Variable(sort)),
         _ => is_term(rule).then_some(RuleForm::Term(rule)),
     }
+}
+
+/// Form of `(! t :weight k)`, with one or more such attributes: t, and each k with its value.
+fn weighted(rule: &Tree) -> Option<(&Tree, Vec<(&Tree, u32)>)> {
+    let [mark, term, attributes @ ..] = rule.items()? else {
+        return None;
+    };
+    let fits = mark.symbol() == Some("!") && is_term(term) && !attributes.is_empty();
+    let attributes = fits.then(|| attributes.chunks(2).map(attribute).collect::<Option<_>>());
+    Some((term, attributes??))
+}
+
+/// Form of `:weight k`: k and its value.
+fn attribute(pair: &[Tree]) -> Option<(&Tree, u32)> {
+    match pair {
+        [name, value] if name.keyword() == Some(ATTRIBUTE) => Some((value, value.numeral()?)),
+        _ => None,
+    }
+}
+
+/// The numerals of a rule's attributes, in order, and their values.
+fn attributes(rule: &Tree) -> Vec<(&Tree, u32)> {
+    weighted(rule).map_or(Vec::new(), |(_, attributes)| attributes)
+}
+
+/// "a rule that doesn't carry exactly one such attribute weighs 0".
+pub fn weight(rule: &Tree) -> u64 {
+    match attributes(rule)[..] {
+        [(_, weight)] => weight.into(),
+        _ => 0,
+    }
+}
+
+/// "k to 65,535 (more: answer 4)": the place of the first numeral of a rule's attributes that is more.
+pub fn weight_past_limit(rule: &Tree) -> Option<usize> {
+    let mut attributes = attributes(rule).into_iter();
+    let past = attributes.find(|(_, weight)| *weight > MOST_WEIGHT);
+    past.map(|(numeral, _)| numeral.start())
 }
 
 /// Form of `(A σ (rules))`.
@@ -203,6 +317,7 @@ pub fn command(tree: &Tree) -> Option<Command<'_>> {
     let items = tree.items()?;
     match (items.first()?.symbol()?, items) {
         ("set-logic", [_, logic]) => logic.symbol().map(|_| Command::SetLogic),
+        ("set-feature", _) => set_feature(items).map(|_| Command::SetFeature),
         ("declare-var", [_, name, sort]) => {
             let fits = name.symbol().is_some() && is_sort(sort);
             fits.then_some(Command::DeclareVar { name, sort })

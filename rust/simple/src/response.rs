@@ -45,7 +45,7 @@ fn first_fault(item: &Tree, index: usize, script: &Script) -> Option<Fault> {
     if !is_define_fun(item) {
         return Some(Fault::new(5, item.start()));
     }
-    if let Some(place) = not_carried(item) {
+    if let Some(place) = not_carried(item, false) {
         return Some(Fault::new(6, place));
     }
     let Some(definition) = define_fun(item) else {

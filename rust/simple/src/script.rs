@@ -1,6 +1,8 @@
 //! The script's commands: "the first faulty one, in it 6, then 5, 4, 7, 8, 9, least offset each".
 
-use crate::commands::{command, not_carried, rule_form, Command, Header, RuleForm, SynthFun};
+use crate::commands::{
+    command, not_carried, rule_form, weight, weight_past_limit, Command, Header, RuleForm, SynthFun,
+};
 use crate::grammar::{Form, Grammar, Rule, Sorted};
 use crate::operators::Sort;
 use crate::terms::{
@@ -59,7 +61,10 @@ pub struct Script {
     pub synthesized: Vec<Synthesized>,
     pub constraints: Vec<Constraint>,
     pub assumptions: Vec<Constraint>,
-    logic_set: bool,
+    /// Whether `(set-feature :weights true)` is among them.
+    pub weights: bool,
+    /// How many commands there are.
+    commands: usize,
     ended: bool,
 }
 
@@ -169,7 +174,7 @@ pub fn names_of(seen: &[Name]) -> Vec<&str> {
 impl Script {
     /// The first fault of a command: "in it 6, then 5, 4, 7, 8, 9, least offset each".
     fn first_fault(&self, tree: &Tree) -> Option<Fault> {
-        if let Some(place) = not_carried(tree) {
+        if let Some(place) = not_carried(tree, self.weights) {
             return Some(Fault::new(6, place));
         }
         if let Some(place) = self.shape_unknown(tree) {
@@ -195,13 +200,14 @@ impl Script {
     }
 
     /// 5: "an unknown command, those two out of place (the first command if it isn't `set-logic`; whatever follows
-    /// `check-synth`), any misfit with document 000's forms".
+    /// `check-synth`), any misfit with document 000's forms"; the feature "once and straight after the logic line (elsewhere 5".
     fn shape_unknown(&self, tree: &Tree) -> Option<usize> {
         let fits = match command(tree) {
             None => false,
             Some(_) if self.ended => false,
-            Some(Command::SetLogic) => !self.logic_set,
-            Some(_) if !self.logic_set => false,
+            Some(Command::SetLogic) => self.commands == 0,
+            Some(_) if self.commands == 0 => false,
+            Some(Command::SetFeature) => self.commands == 1,
             Some(Command::CheckSynth) => !self.synthesized.is_empty(),
             Some(_) => true,
         };
@@ -216,7 +222,7 @@ impl Script {
             Command::SynthFun(_) => (self.synthesized.len(), MOST_SYNTHESIZED),
             Command::Constraint(_) => (self.constraints.len(), MOST_CONSTRAINTS),
             Command::Assume(_) => (self.assumptions.len(), MOST_ASSUMPTIONS),
-            Command::SetLogic | Command::CheckSynth => (0, 1),
+            Command::SetLogic | Command::SetFeature | Command::CheckSynth => (0, 1),
         };
         let mut places = Vec::new();
         if count >= most {
@@ -229,7 +235,7 @@ impl Script {
             Command::Constraint(term) | Command::Assume(term) => {
                 places.extend(term_past_limit(term))
             }
-            Command::SetLogic | Command::CheckSynth => {}
+            Command::SetLogic | Command::SetFeature | Command::CheckSynth => {}
         }
         places.into_iter().min()
     }
@@ -262,7 +268,7 @@ impl Script {
             Command::Constraint(term) | Command::Assume(term) => {
                 places.extend(unknown_name(term, &names_of(&self.seen_by_constraint())));
             }
-            Command::SetLogic | Command::CheckSynth => {}
+            Command::SetLogic | Command::SetFeature | Command::CheckSynth => {}
         }
         places
     }
@@ -287,7 +293,7 @@ impl Script {
             Command::Constraint(term) | Command::Assume(term) => {
                 places.extend(body_fault(term, Sort::Bool, &self.seen_by_constraint()));
             }
-            Command::SetLogic | Command::CheckSynth => {}
+            Command::SetLogic | Command::SetFeature | Command::CheckSynth => {}
         }
         places.into_iter().min()
     }
@@ -331,8 +337,10 @@ impl Script {
 
     /// Takes in a command without fault.
     fn enter(&mut self, tree: &Tree) {
+        self.commands += 1;
         match &command(tree).expect("a command") {
-            Command::SetLogic => self.logic_set = true,
+            Command::SetLogic => {}
+            Command::SetFeature => self.weights = true,
             Command::DeclareVar { name, sort } => self.variables.push(sorted(name, sort)),
             Command::DefineFun(definition) => self.definitions.push(Definition {
                 name: symbol(definition.header.name).to_string(),
@@ -430,6 +438,7 @@ fn past_limit_in_synth_fun(synth: &SynthFun) -> Vec<usize> {
             .filter_map(width_past_limit),
     );
     let mut rules = synth.groups.iter().flat_map(|group| group.rules);
+    places.extend(rules.clone().filter_map(weight_past_limit));
     places.extend(rules.nth(MOST_RULES).map(Tree::start));
     places.extend(rule_terms(synth).into_iter().filter_map(term_past_limit));
     places
@@ -500,7 +509,7 @@ pub fn grammar(synth: &SynthFun) -> Grammar {
         rules.extend(group.rules.iter().map(|rule| Rule {
             nonterminal,
             form: form(rule),
-            weight: 0,
+            weight: weight(rule),
         }));
     }
     Grammar {

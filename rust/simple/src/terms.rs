@@ -11,8 +11,9 @@ pub const MOST_WIDTH: u32 = 64;
 const MOST_NODES: usize = 256;
 
 /// The command words that are carried.
-pub const CARRIED_COMMANDS: [&str; 7] = [
+pub const CARRIED_COMMANDS: [&str; 8] = [
     "set-logic",
+    "set-feature",
     "declare-var",
     "define-fun",
     "synth-fun",
@@ -22,12 +23,11 @@ pub const CARRIED_COMMANDS: [&str; 7] = [
 ];
 
 /// "Other 2.1 commands": the other heads of document 000, section 2.9.
-pub const OTHER_COMMANDS: [&str; 21] = [
+pub const OTHER_COMMANDS: [&str; 20] = [
     "chc-constraint",
     "declare-weight",
     "inv-constraint",
     "optimize-synth",
-    "set-feature",
     "oracle-assume",
     "oracle-constraint",
     "declare-oracle-fun",
@@ -119,10 +119,10 @@ pub fn sort(tree: &Tree) -> Sort {
 }
 
 /// The shape of a term; "a term `(_ BitVec n)` or headed by a literal, a numeral, another list or `Constant` or
-/// `Variable`" has none, nor has "`(c)` with no operand".
+/// `Variable`" has none, nor has "`(c)` with no operand"; a keyword fits no form of a term.
 pub fn is_term(tree: &Tree) -> bool {
     let Some(items) = tree.items() else {
-        return true;
+        return tree.keyword().is_none();
     };
     if is_indexed(tree) {
         return true;

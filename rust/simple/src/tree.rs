@@ -66,6 +66,14 @@ impl Tree {
         }
     }
 
+    /// The text of a keyword.
+    pub fn keyword(&self) -> Option<&str> {
+        match self {
+            Tree::Leaf(word) if word.kind == Kind::Keyword => Some(&word.text),
+            _ => None,
+        }
+    }
+
     /// The value of a numeral.
     pub fn numeral(&self) -> Option<u32> {
         match self {

@@ -11,6 +11,12 @@ const MOST_BITS: usize = 64;
 const MOST_BYTES: usize = 64;
 /// "nesting 64".
 const MOST_NESTING: usize = 64;
+/// "The words for this leave answer 6": the feature's, and that of a rule's attribute.
+const KEYWORDS: [&[u8]; 2] = [FEATURE.as_bytes(), ATTRIBUTE.as_bytes()];
+/// `(set-feature :weights true)`.
+pub const FEATURE: &str = ":weights";
+/// `(! t :weight k)`.
+pub const ATTRIBUTE: &str = ":weight";
 
 /// What a sound word is.
 #[derive(Clone, Copy, Debug, PartialEq, Eq)]
@@ -20,6 +26,7 @@ pub enum Kind {
     Numeral(u32),
     Bits { width: u32, value: u64 },
     Symbol,
+    Keyword,
 }
 
 /// A sound word: where it starts, how it is written and what it is.
@@ -107,6 +114,9 @@ fn is_symbol(word: &[u8]) -> bool {
 
 /// What a word is, or the number of its own fault: 6 by its first byte, 2 by its form, 4 by its size.
 fn kind(word: &[u8]) -> Result<Kind, u8> {
+    if KEYWORDS.contains(&word) {
+        return Ok(Kind::Keyword);
+    }
     if matches!(word[0], b'"' | b'|' | b':') {
         return Err(6);
     }

@@ -2,13 +2,16 @@
 
 use super::near::meant;
 use super::{Hint, Reading};
-use simple::commands::rule_form;
+use simple::commands::{is_begun_by_mark, list_not_carried, rule_form};
 use simple::constants::digits_after_bv;
 use simple::terms::{is_sort, is_term, CARRIED_COMMANDS, OTHER_COMMANDS};
 use simple::tree::Tree;
+use simple::words::{ATTRIBUTE, FEATURE};
 
 /// What a sort looks like.
 pub const SORTS: &str = "a sort is `Bool` or `(_ BitVec n)`";
+/// What a weighted rule looks like.
+const WEIGHTED: &str = "a rule with a weight is `(! TERM :weight N)`, where N is a numeral";
 /// A list that is longer is named by its beginning.
 const MOST_SHOWN: usize = 40;
 
@@ -42,22 +45,31 @@ fn not_carried(reading: &Reading, tree: &Tree) -> Option<Hint> {
     if name == "synth-fun" && items.len() == 4 {
         return Some(Hint::at(head, "a `synth-fun` without a grammar is not carried"));
     }
-    let list = items.iter().find_map(list_not_carried)?;
+    let weights = reading.script.weights && !reading.in_response;
+    let Some(place) = list_not_carried(tree, weights).first().copied() else {
+        return other_feature(items);
+    };
+    let list = list_at(tree, place)?;
     Some(Hint::at(list, format!("{} is not carried{}", named(list), instead(reading, list))))
 }
 
-/// The first list in a tree that is not carried.
-fn list_not_carried(tree: &Tree) -> Option<&Tree> {
-    let items = tree.items()?;
-    let symbol = |index: usize| items.get(index).and_then(Tree::symbol);
-    let begun = match symbol(0) {
-        Some("let" | "exists" | "forall" | "!") => true,
-        Some("_") => !matches!(symbol(1), Some("BitVec" | "extract")) && !begins_constant(items),
-        _ => false,
-    };
-    match begun {
+/// What is wrong with a `set-feature` that sets anything but the weights to true.
+fn other_feature(items: &[Tree]) -> Option<Hint> {
+    match items {
+        [_, feature, value] if feature.keyword() == Some(FEATURE) => Some(Hint::at(
+            value,
+            format!("`{FEATURE}` set to `{value}` is not carried: leave the command out, and no rule has a weight"),
+        )),
+        [_, feature, _] => Some(Hint::at(feature, format!("the feature `{feature}` is not carried: the only one is `{FEATURE}`"))),
+        _ => None,
+    }
+}
+
+/// The list that begins at a place of a tree.
+fn list_at(tree: &Tree, place: usize) -> Option<&Tree> {
+    match tree.start() == place {
         true => Some(tree),
-        false => items.iter().find_map(list_not_carried),
+        false => tree.items()?.iter().find_map(|item| list_at(item, place)),
     }
 }
 
@@ -79,8 +91,17 @@ fn instead(reading: &Reading, list: &Tree) -> &'static str {
         (Some("let"), _) => ": write the term out, or as a `define-fun`",
         (Some("_"), Some(name)) if is_numbered(name) => ": in `(_ bvN n)` the number N is `0`, or digits that do not begin with 0",
         (Some("_"), _) => ": docs/LANGUAGE.md says what to write instead",
+        (Some("!"), _) if reading.in_response => "",
+        (Some("!"), _) if reading.script.weights => ": only a whole rule is written `(! TERM :weight N)`",
+        (Some("!"), _) if is_weighted(list) => ": rules have weights after `(set-feature :weights true)`, straight after the logic line",
         _ => "",
     }
+}
+
+/// Whether a list has the keyword of a weight.
+fn is_weighted(list: &Tree) -> bool {
+    let mut items = list.items().into_iter().flatten();
+    items.any(|item| item.keyword() == Some(ATTRIBUTE))
 }
 
 /// Whether a name is `bv` with digits or none.
@@ -117,6 +138,7 @@ fn command(reading: &Reading, tree: &Tree) -> Option<Hint> {
 fn form(name: &str, tree: &Tree, items: &[Tree]) -> Option<Hint> {
     let (form, parts): (&str, &[fn(&Tree) -> Option<Hint>]) = match name {
         "set-logic" => ("(set-logic BV)", &[name_misfit]),
+        "set-feature" => ("(set-feature :weights true)", &[feature_misfit, truth_misfit]),
         "declare-var" => ("(declare-var NAME SORT)", &[name_misfit, sort_misfit]),
         "define-fun" => (
             "(define-fun NAME (ARGUMENTS) SORT TERM)",
@@ -146,6 +168,7 @@ fn out_of_place(reading: &Reading, name: &str, head: &Tree) -> Option<Hint> {
     let message = match name {
         _ if ended => "nothing may follow `(check-synth)`",
         "set-logic" => "`set-logic` stands once, as the first command",
+        "set-feature" => "`set-feature` stands once, straight after `(set-logic BV)`",
         _ if index == 0 => "the first command is `(set-logic BV)`",
         _ => "no `synth-fun` stands before this",
     };
@@ -156,6 +179,18 @@ fn out_of_place(reading: &Reading, name: &str, head: &Tree) -> Option<Hint> {
 fn name_misfit(tree: &Tree) -> Option<Hint> {
     let misfit = tree.symbol().is_none();
     misfit.then(|| Hint::at(tree, "a name is needed here"))
+}
+
+/// What is wrong where a feature stands.
+fn feature_misfit(tree: &Tree) -> Option<Hint> {
+    let misfit = tree.keyword().is_none();
+    misfit.then(|| Hint::at(tree, format!("the feature `{FEATURE}` is needed here")))
+}
+
+/// What is wrong where the value of a feature stands.
+fn truth_misfit(tree: &Tree) -> Option<Hint> {
+    let misfit = !matches!(tree.symbol(), Some("true" | "false"));
+    misfit.then(|| Hint::at(tree, "`true` is needed here"))
 }
 
 /// What is wrong where a sort stands.
@@ -203,6 +238,8 @@ fn rule_misfit(rule: &Tree) -> Option<Hint> {
     match rule.items() {
         Some([head, sort]) if is_any(head) => sort_misfit(sort),
         Some([head, ..]) if is_any(head) => Some(Hint::at(rule, format!("the form is `({head} SORT)`"))),
+        Some([_, term, ..]) if is_begun_by_mark(rule) && !is_term(term) => term_misfit(term),
+        Some(_) if is_begun_by_mark(rule) => Some(Hint::at(rule, WEIGHTED)),
         _ => term_misfit(rule),
     }
 }
@@ -217,7 +254,9 @@ fn term_misfit(term: &Tree) -> Option<Hint> {
     if is_term(term) {
         return None;
     }
-    let items = term.items()?;
+    let Some(items) = term.items() else {
+        return Some(Hint::at(term, format!("`{term}` is no term: {WEIGHTED}")));
+    };
     let inner = items.iter().skip(1).find_map(term_misfit);
     let head = items.first().and_then(Tree::symbol);
     Some(match (head, items.len()) {

@@ -39,12 +39,14 @@ enum Rule {
     Term(Shape),
 }
 
-/// A non-terminal with its rules, of which the ending one needs no other non-terminal, or one that ends without it.
+/// A non-terminal with its rules, of which the ending one needs no other non-terminal, or one that ends without it, and the attributes of each
+/// rule.
 struct Group {
     name: String,
     sort: Sort,
     rules: Vec<Rule>,
     ending: usize,
+    attributes: Vec<Vec<u32>>,
 }
 
 /// A synthesized function with its derived body, and one that is nearly derived where there is one.
@@ -59,6 +61,8 @@ struct Function {
 struct Maker<'a> {
     random: &'a mut Random,
     derived: bool,
+    /// Whether rules may have weights.
+    weights: bool,
     sorts: Vec<Sort>,
     variables: Vec<Name>,
     definitions: Vec<Name>,
@@ -245,6 +249,31 @@ pub fn value(random: &mut Random, sort: Sort) -> u64 {
     }
 }
 
+/// The commands that begin a script, with weights or without.
+pub fn first_commands(weights: bool) -> Vec<String> {
+    words(match weights {
+        true => "( set-logic BV ) ( set-feature :weights true )",
+        false => "( set-logic BV )",
+    })
+}
+
+/// The weights of a rule's attributes, mostly one or none; few different ones, so that sums are often equal.
+pub fn attributes(random: &mut Random) -> Vec<u32> {
+    let count = random.pick(&[0, 0, 1, 1, 1, 1, 1, 2, 3]);
+    let weights = [0, 0, 1, 1, 1, 2, 2, 3, 5, 65_534, 65_535];
+    (0..count).map(|_| random.pick(&weights)).collect()
+}
+
+/// The words of a rule with these attributes.
+pub fn weighed(rule: Vec<String>, attributes: &[u32]) -> Vec<String> {
+    if attributes.is_empty() {
+        return rule;
+    }
+    let attribute = |weight: &u32| words(&format!(":weight {weight}"));
+    let attributes = attributes.iter().flat_map(attribute).collect();
+    list([words("!"), rule, attributes].concat())
+}
+
 /// A random sort.
 fn sort(random: &mut Random) -> Sort {
     match random.below(4) {
@@ -257,10 +286,12 @@ fn sort(random: &mut Random) -> Sort {
 /// A random draft, its bodies derived or with a term put in that need not be; one in twenty has many of everything.
 pub fn draft(random: &mut Random, derived: bool) -> Draft {
     let many = random.percent(5);
+    let weights = random.percent(40);
     let sorts = (0..3).map(|_| sort(random)).collect();
     let mut maker = Maker {
         random,
         derived,
+        weights,
         sorts,
         variables: Vec::new(),
         definitions: Vec::new(),
@@ -268,7 +299,7 @@ pub fn draft(random: &mut Random, derived: bool) -> Draft {
         constraints: 0,
         assumptions: 0,
         rules_left: 0,
-        script: words("( set-logic BV )"),
+        script: first_commands(weights),
     };
     maker.commands(many);
     maker.script.extend(words("( check-synth )"));
@@ -427,7 +458,8 @@ impl Maker<'_> {
         let mut in_scope = vec![name.clone()];
         in_scope.extend(arguments.iter().map(|one| one.name.clone()));
         let nonterminals = self.nonterminals(sort, in_scope);
-        let groups = self.groups(&arguments, &nonterminals);
+        let mut groups = self.groups(&arguments, &nonterminals);
+        self.weigh(&mut groups);
         let pair = |one: &Name| joined([words(&one.name), sort_words(one.sort)]);
         self.script.extend(joined([
             words("synth-fun"),
@@ -446,6 +478,17 @@ impl Maker<'_> {
             body,
             slipped,
         });
+    }
+
+    /// Gives rules that are terms attributes, where there may be some.
+    fn weigh(&mut self, groups: &mut [Group]) {
+        for group in groups {
+            let weighed = |rule: &Rule| match rule {
+                Rule::Term(_) if self.weights => attributes(self.random),
+                _ => Vec::new(),
+            };
+            group.attributes = group.rules.iter().map(weighed).collect();
+        }
     }
 
     /// The non-terminals of a grammar, of which the start has a sort and others often too.
@@ -515,6 +558,7 @@ impl Maker<'_> {
                 sort: nonterminal.sort,
                 rules,
                 ending,
+                attributes: Vec::new(),
             });
         }
         groups
@@ -541,6 +585,7 @@ impl Maker<'_> {
             sort: own.sort,
             rules,
             ending,
+            attributes: Vec::new(),
         }
     }
 
@@ -1060,15 +1105,16 @@ fn header_words(name: &str, arguments: &[Name], sort: Sort) -> Vec<String> {
 
 /// The words of a listed non-terminal.
 fn group_words(group: &Group) -> Vec<String> {
-    let rule = |rule: &Rule| match rule {
+    let rule = |(rule, attributes): (&Rule, &Vec<u32>)| match rule {
         Rule::Constant(sort) => joined([words("Constant"), sort_words(*sort)]),
         Rule::Variable(sort) => joined([words("Variable"), sort_words(*sort)]),
-        Rule::Term(term) => term.words(),
+        Rule::Term(term) => weighed(term.words(), attributes),
     };
+    let rules = group.rules.iter().zip(&group.attributes);
     joined([
         words(&group.name),
         sort_words(group.sort),
-        joined(group.rules.iter().map(rule)),
+        joined(rules.map(rule)),
     ])
 }
 

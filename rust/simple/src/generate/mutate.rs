@@ -1,6 +1,6 @@
 //! Mutations of a draft, word by word, tree by tree and command by command, and of a text, byte by byte.
 
-use super::draft::{literal, sort_words, spelt, words, Draft};
+use super::draft::{attributes, literal, sort_words, spelt, weighed, words, Draft};
 use super::noise::tree;
 use super::random::Random;
 use crate::eval::{literal_value, Value};
@@ -15,10 +15,11 @@ const WORDS: &str = "( ) 0 1 8 64 65 999999999 1000000000 00 07 #x #b2 #xG #xAB 
     #x00000000000000000 true false Bool BitVec _ ! let exists forall Constant Variable extract
     and not ite bvadd concat bvult = set-logic check-synth assume define-fun synth-fun declare-var
     constraint define-fun-rec BV LIA Int x y A B f nosuch \"s |q| :k a'b é -5 or xor => distinct
-    bv bv0 bv5 bv05 bv256 bv111111111111111111111 bvsl bvslte bvnand";
+    bv bv0 bv5 bv05 bv256 bv111111111111111111111 bvsl bvslte bvnand :weight :weights :weights2
+    set-feature 65535 65536";
 
 /// Trees that tend to break a rule wherever they stand.
-const TREES: [&str; 38] = [
+const TREES: [&str; 50] = [
     "( )",
     "( true )",
     "( x )",
@@ -57,6 +58,31 @@ const TREES: [&str; 38] = [
     "( bvsge true true )",
     "( bvashr )",
     "( bvnand #x00 #x00 )",
+    "( ! true :weight 1 )",
+    "( ! true :weight 65536 )",
+    "( ! true :weight 1 :weight 2 )",
+    "( ! true :weight )",
+    "( ! true :weight true )",
+    "( ! true :weight 1 2 )",
+    "( ! true :weight :weight 3 )",
+    "( ! true :weights 3 )",
+    "( ! :weight 1 )",
+    "( ! ( Constant Bool ) :weight 1 )",
+    "( ! ( ! true :weight 1 ) :weight 2 )",
+    "( :weight 1 )",
+];
+
+/// What may stand in the place of `true` or behind it where the feature is set.
+const FEATURES: [&str; 9] = [
+    ":weights false",
+    ":weights x",
+    ":weights 1",
+    ":weights",
+    "",
+    ":weight true",
+    ":weights2 true",
+    ":weights true true",
+    ":weights true",
 ];
 
 /// Lists that are nearly a constant `(_ bvN n)`, and such a constant where it may not stand.
@@ -78,8 +104,10 @@ const NEAR_CONSTANTS: [&str; 14] = [
 ];
 
 /// Commands to be put in.
-const COMMANDS: [&str; 23] = [
+const COMMANDS: [&str; 25] = [
     "( set-logic BV )",
+    "( set-feature :weights true )",
+    "( set-feature :weights false )",
     "( set-logic LIA )",
     "( declare-var w Bool )",
     "( declare-var w ( _ BitVec 4 ) )",
@@ -176,7 +204,9 @@ fn reserved_word(random: &mut Random) -> String {
 
 /// Changes a draft in one place.
 pub fn mutate(random: &mut Random, draft: &mut Draft) {
-    match random.below(38) {
+    match random.below(42) {
+        38 => mutate_feature(random, &mut draft.script),
+        39 | 40 => mutate_weight(random, &mut draft.script),
         0 | 1 => mutate_points(random, &mut draft.points),
         2 => draft.response = words(random.pick(&RESPONSES)),
         3 => mutate_operator(random, &mut draft.response),
@@ -188,7 +218,7 @@ pub fn mutate(random: &mut Random, draft: &mut Draft) {
         15 | 16 => mutate_literal(random, &mut draft.script),
         17..=20 => mutate_operands(random, &mut draft.script),
         21 => cut_off(random, draft),
-        22..=24 => take_name(random, &mut draft.script),
+        22..=24 | 41 => take_name(random, &mut draft.script),
         25..=27 => starve(random, &mut draft.script),
         _ => mutate_words(random, &mut draft.script),
     }
@@ -295,7 +325,8 @@ fn mutate_words(random: &mut Random, words: &mut Vec<String>) {
         5 => rename_in_command(random, words),
         6 => mutate_count(random, words),
         7 => mutate_operator(random, words),
-        8 | 9 => mutate_grammar(random, words),
+        8 => mutate_grammar(random, words),
+        9 => mutate_weight(random, words),
         10..=12 => mutate_term(random, words),
         13 => mutate_numeral(random, words),
         14 => regroup(random, words),
@@ -319,6 +350,7 @@ fn mutate_within_shape(random: &mut Random, words: &mut Vec<String>) {
         13 | 14 => mutate_operands(random, words),
         15..=17 => take_name(random, words),
         18..=20 => starve(random, words),
+        21 => mutate_weight(random, words),
         _ => mutate_grammar(random, words),
     }
 }
@@ -640,6 +672,50 @@ fn mutate_grammar(random: &mut Random, list: &mut Vec<String>) {
         3 => insert(list, other.end, list[one].to_vec()),
         4 => swap(list, one, other),
         _ => replace(list, one, literal(random, Sort::BitVec(8))),
+    }
+}
+
+/// Takes the feature away, says it otherwise, or says it at another place or once more.
+fn mutate_feature(random: &mut Random, list: &mut Vec<String>) {
+    let places = commands(list);
+    let feature = places.iter().find(|one| list[one.start + 1] == "set-feature");
+    match feature.cloned() {
+        Some(place) if random.percent(30) => drop(list.drain(place)),
+        Some(place) if random.percent(60) => {
+            replace(list, place.start + 2..place.end - 1, words(random.pick(&FEATURES)));
+        }
+        _ if places.is_empty() => {}
+        _ => {
+            let at = random.pick(&places);
+            insert(list, at.end, words("( set-feature :weights true )"));
+        }
+    }
+}
+
+/// Gives a rule weights, about the limit too, or changes, adds or takes away a part of a rule that has some.
+fn mutate_weight(random: &mut Random, list: &mut Vec<String>) {
+    let mut places = commands(list);
+    places.retain(|command| list[command.start + 1] == "synth-fun");
+    let groups = places.iter().flat_map(|command| listed(list, command));
+    let rules: Vec<Range<usize>> = groups.flat_map(|[_, _, rules]| items(list, &rules)).collect();
+    if rules.is_empty() {
+        return;
+    }
+    let rule = random.pick(&rules);
+    let parts = items(list, &rule);
+    if list.get(rule.start + 1).is_some_and(|head| head != "!") || parts.len() < 3 {
+        let mut weights = attributes(random);
+        weights.push(random.pick(&[1, 65_535, 65_536, 65_536, 999_999_999]));
+        replace(list, rule.clone(), weighed(list[rule].to_vec(), &weights));
+        return;
+    }
+    let part = random.pick(&parts);
+    match random.below(5) {
+        0 => drop(list.drain(part)),
+        1 => insert(list, part.end, words(":weight 65536")),
+        2 => insert(list, part.end, list[part].to_vec()),
+        3 => replace(list, part, vec![odd_word(random)]),
+        _ => replace(list, parts[parts.len() - 1].clone(), words(random.pick(&["65535", "65536", "x", "#x01"]))),
     }
 }
 

@@ -11,8 +11,11 @@ const FUNCTION: &str = "(synth-fun f ((x Bool)) Bool ((A Bool)) ((A Bool (x (d A
 /// A response to a script with that function.
 pub const RESPONSE: &[u8] = b"((define-fun f ((x Bool)) Bool (d (not x))))";
 /// The heads of commands and of lists within them.
-const HEADS: [&str; 13] = [
+const HEADS: [&str; 16] = [
     "set-logic",
+    "set-feature",
+    "!",
+    ":weight",
     "declare-var",
     "define-fun",
     "synth-fun",

@@ -1,6 +1,7 @@
-//! A draft whose bodies have many derivations: chains and rings of non-terminals, and rules that are equal or derive the same terms.
+//! A draft whose bodies have many derivations: chains and rings of non-terminals, and rules that are equal or derive the same terms, mostly with weights, of which few
+//! differ.
 
-use super::draft::{list, sort_words, words, Draft};
+use super::draft::{attributes, first_commands, list, sort_words, weighed, words, Draft};
 use super::random::Random;
 use crate::operators::Sort;
 
@@ -28,15 +29,18 @@ struct Maker<'a> {
     heads: [&'static str; 2],
     leaves: [&'static str; 3],
     nonterminals: usize,
+    /// Whether rules may have weights.
+    weights: bool,
 }
 
 /// A draft of one or two functions with such grammars, and bodies derived from them.
 pub fn tangled(random: &mut Random) -> Draft {
-    let mut script = words("( set-logic BV )");
+    let weights = random.percent(75);
+    let mut script = first_commands(weights);
     let mut response = Vec::new();
     for name in ["f", "g"].into_iter().take(random.between(1, 2)) {
         let nonterminals = random.pick(&[1, 2, 3, 3, 4, 6, 16]);
-        let mut maker = Maker::new(random, nonterminals);
+        let mut maker = Maker::new(random, nonterminals, weights);
         let rules: Vec<Rules> = (0..nonterminals).map(|index| maker.rules(index)).collect();
         let rules = maker.tangle(rules);
         let body = maker.body(&rules);
@@ -56,7 +60,7 @@ pub fn tangled(random: &mut Random) -> Draft {
 
 impl Maker<'_> {
     /// A maker of terms of Bool or of bits.
-    fn new(random: &mut Random, nonterminals: usize) -> Maker<'_> {
+    fn new(random: &mut Random, nonterminals: usize, weights: bool) -> Maker<'_> {
         let is_bool = random.percent(50);
         let (sort, heads, leaves) = match is_bool {
             true => (Sort::Bool, ["not", "and"], ["x", "y", "true"]),
@@ -68,6 +72,7 @@ impl Maker<'_> {
             heads,
             leaves,
             nonterminals,
+            weights,
         }
     }
 
@@ -192,14 +197,26 @@ impl Maker<'_> {
         }
     }
 
+    /// The words of a rule, with its weights where it may have some.
+    fn rule_words(&mut self, rule: &Form) -> Vec<String> {
+        let attributes = match rule {
+            Form::Constant | Form::Variable => Vec::new(),
+            _ if !self.weights => Vec::new(),
+            _ => attributes(self.random),
+        };
+        weighed(self.words(rule), &attributes)
+    }
+
     /// The words of the predeclaration and the listing.
-    fn grammar(&self, rules: &[Rules]) -> Vec<String> {
-        let name = |index| [words(&self.name(index)), sort_words(self.sort)].concat();
-        let predeclared = (0..rules.len()).flat_map(|index| list(name(index)));
-        let groups = rules.iter().enumerate().flat_map(|(index, rules)| {
-            let rules = rules.iter().flat_map(|rule| self.words(rule)).collect();
-            list([name(index), list(rules)].concat())
-        });
-        [list(predeclared.collect()), list(groups.collect())].concat()
+    fn grammar(&mut self, rules: &[Rules]) -> Vec<String> {
+        let (mut predeclared, mut groups) = (Vec::new(), Vec::new());
+        for (index, rules) in rules.iter().enumerate() {
+            let name = [words(&self.name(index)), sort_words(self.sort)].concat();
+            let rules = rules.iter().flat_map(|rule| self.rule_words(rule));
+            let rules = list(rules.collect());
+            predeclared.extend(list(name.clone()));
+            groups.extend(list([name, rules].concat()));
+        }
+        [list(predeclared), list(groups)].concat()
     }
 }

@@ -1,5 +1,5 @@
 //! Document 01 run: the readings, the vectors, the bench, constants, signed operators, assumptions, ends, lines and columns, names that are taken, non-terminals that
-//! derive no term, the least of several derivations, the texts' own answers, every limit and every row of the table of answers.
+//! derive no term, the least of several derivations, weights, the texts' own answers, every limit and every row of the table of answers.
 
 mod answers;
 mod assumptions;
@@ -18,6 +18,7 @@ mod reserved;
 mod signed;
 mod texts;
 mod vectors;
+mod weights;
 mod words;
 
 use simple::{check, replay, AREA_LENGTH, LIST_LENGTH, UNUSED};

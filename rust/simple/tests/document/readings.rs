@@ -37,11 +37,14 @@ fn case(line: &str) -> Case {
     }
 }
 
-/// The numbers of the answer, with end, line and column where the line has them.
+/// The numbers of the answer, with end, line and column and then the weights where the line has them.
 fn answer(line: &str) -> Vec<u64> {
     let mut answer = numbers(field(line, "answer"));
     if line.contains("\"end_line_column\": ") {
         answer.extend(numbers(field(line, "end_line_column")));
+    }
+    if line.contains("\"weights\": ") {
+        answer.extend(numbers(field(line, "weights")));
     }
     answer
 }
