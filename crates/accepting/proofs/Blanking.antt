@@ -1,4 +1,4 @@
--- An area of right size is blanked, entry by entry.
+-- An area that shows nothing: one of right size is blanked, entry by entry.
 use Prim.Native.Nat.{ℕ, _+_, _≤_, _<_}
 use native.Mathlib.Omega.{arith}
 use mathlib.Core.Path.{_≡_, refl, sym, ap, _∙_}
@@ -11,6 +11,11 @@ use Rattle.forest.specs.Limits.{areaSize}
 use Rattle.outcome.specs.Checked.{unshown}
 use Rattle.outcome.specs.Derived.{blankArea}
 use Rattle.outcome.proofs.Areas.{unshown-blank}
+
+-- an area whose entries are all unused
+pub blank-is : replicate areaSize unused ≡ blankArea
+unfolding blankArea
+blank-is = refl
 
 -- the first i entries of an area of right size are unused, and the others are as they were
 pub record Blanking (area shown : List ℕ) (i : ℕ) : Type 0 where

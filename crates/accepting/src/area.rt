@@ -3,6 +3,7 @@ use derivation::UNUSED;
 use forest::limits::AREA;
 ghost use mathlib.Core.Path.{_≡_};
 ghost use Rattle.outcome.specs.Checked.{unshown};
+ghost use Rattle.outcome.specs.Derived.{blankArea};
 
 // Makes every entry of an area unused; one of wrong size is left as it is.
 pub fn blank_area(shown: &mut [u16])
@@ -16,4 +17,11 @@ pub fn blank_area(shown: &mut [u16])
         shown[i] = UNUSED;
         i += 1;
     }
+}
+
+// An area that shows nothing.
+pub fn no_lists() -> [u16; AREA]
+    ensures { λ r. ⌜ r ≡ blankArea ⌝ }
+{
+    [UNUSED; AREA]
 }

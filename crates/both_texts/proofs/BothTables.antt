@@ -12,7 +12,7 @@ use Rattle.script.specs.Outcome.{given, responseWithin}
 use Rattle.texts.specs.code.Responses.{ResponseTold}
 use Rattle.outcome.specs.code.Assured.{Assured}
 use Rattle.outcome.specs.code.Held.{Held}
-use Rattle.both_texts.proofs.ResponseFits.{response-fits}
+use Rattle.outcome.proofs.ResponseFits.{response-fits}
 
 -- They hold what the script says and the bodies that the response gives.
 pub held : (limits : Limits) (response : List ℕ) (v : Verdict) {names places nodes forms placesAfter nodesAfter : List ℕ} {p : Progress} {k : Known} {bs : List Body} → Assured k

@@ -1,3 +1,2 @@
-pub mod ResponseFits
 pub mod BothTables
 pub mod Reading

@@ -3,3 +3,5 @@ pub mod Judgements
 pub mod Locating
 pub mod Sizing
 pub mod EightTotals
+pub mod StepsHeld
+pub mod StepsAnswer

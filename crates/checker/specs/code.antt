@@ -1,3 +1,4 @@
 pub mod Sizes
 pub mod Judge
 pub mod Located
+pub mod Stepping

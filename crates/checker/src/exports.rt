@@ -2,7 +2,9 @@
 use crate::answer;
 use crate::check;
 use crate::read;
+use crate::stepping::step_list;
 use outcome::Answer;
+use runner::run_steps;
 use words::positions::position;
 use words::word_at;
 ghost use mathlib.Core.Path.{_≡_};
@@ -11,6 +13,8 @@ ghost use Rattle.words.specs.Words.{enquired};
 ghost use Rattle.words.specs.Positions.{Positioned};
 ghost use Rattle.outcome.specs.Checked.{Answered};
 ghost use Rattle.outcome.specs.Located.{AnswerForC, TextsAnswerForC, answerNumbers};
+ghost use Rattle.outcome.specs.StepList.{StepsForC};
+ghost use Rattle.runner.specs.Running.{RanForC};
 
 // `check` for C: returns the answer's number and puts its text, its place, its second number and its units where the caller lends room for them.
 #[no_mangle]
@@ -99,6 +103,46 @@ pub extern "C" fn sverdhyll_read(script: &[u8], response: &[u8], numbers: &mut [
     let told = read(script, response);
     write_answer(told, numbers);
     told.outcome.number as u8
+}
+
+// `step_list` for C: returns the answer's number, and puts the count of steps and the sixteen numbers where the caller lends room for them.
+#[no_mangle]
+pub extern "C" fn sverdhyll_steps(
+    script: &[u8],
+    response: &[u8],
+    points: &[u64],
+    budget: u64,
+    function: u64,
+    area: &mut [u64],
+    count: &mut usize,
+    numbers: &mut [u64; 16],
+) -> u8
+    ensures { λ r. ⌜ StepsForC (now (script .entry)) (now (response .entry)) (now (points .entry)) budget function (now (area .entry)) r
+        (now (numbers .exit)) (now (count .exit)) (now (area .exit)) ⌝ }
+{
+    let listed = step_list(script, response, points, budget, function as usize, area);
+    write_answer(listed.answer, numbers);
+    *count = listed.count;
+    listed.answer.outcome.number as u8
+}
+
+// `run_steps` for C: returns the answer's number and puts its place, and the value and its sort, where the caller lends room for them.
+#[no_mangle]
+pub extern "C" fn sverdhyll_run(
+    sorts: &[u64],
+    arguments: &[u64],
+    steps: &[u64],
+    place: &mut u64,
+    value: &mut u64,
+    sort: &mut u64,
+) -> u8
+    ensures { λ r. ⌜ RanForC (now (sorts .entry)) (now (arguments .entry)) (now (steps .entry)) r (now (place .exit)) (now (value .exit)) (now (sort .exit)) ⌝ }
+{
+    let ran = run_steps(sorts, arguments, steps);
+    *place = ran.place as u64;
+    *value = ran.value.number;
+    *sort = ran.value.sort;
+    ran.number as u8
 }
 
 // The line and the column of a place of a text, for C: they are put where the caller says.

@@ -45,7 +45,7 @@ fn judge_points(
 }
 
 // The answer for texts, points and an area of right sizes, where the area shows nothing, in tables with room for the nodes and the forms of both texts.
-fn judge_in(
+pub(crate) fn judge_in(
     script: &[u8],
     response: &[u8],
     points: &[u64],

@@ -5,6 +5,7 @@ pub mod judge;
 mod located;
 mod reading;
 mod sizes;
+pub mod stepping;
 
 use crate::judge::judge_texts;
 use crate::located::locate;

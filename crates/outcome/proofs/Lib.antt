@@ -32,3 +32,6 @@ pub mod Scoped
 pub mod Second
 pub mod NameTable
 pub mod Alive
+pub mod ResponseFits
+pub mod StepsOnce
+pub mod StepsRun

@@ -30,7 +30,7 @@ defined-signatures : (defs : List Defined) → signatures (definitionsOf defs) �
 defined-signatures defs = map-map (λ (d : Definition). d .signature) (λ (d : Defined). d .definition) defs
 
 -- A term that has its function's sort has it where all `define-fun`s are seen.
-seen-by-all : (defs : List Defined) (f : Function) (t : Terms) → termSorts (scopeOf (responseView defs f) .terms) t ≡ some (f .result ∷ [])
+pub seen-by-all : (defs : List Defined) (f : Function) (t : Terms) → termSorts (scopeOf (responseView defs f) .terms) t ≡ some (f .result ∷ [])
     → BodySorted (definitionsOf defs) (record { signature = signatureOf f; body = t })
 seen-by-all defs f t h =
     let later = length defs - f .before in

@@ -10,4 +10,5 @@ pub mod Agreed
 pub mod Units
 pub mod Demands
 pub mod Table
+pub mod StepList
 pub mod code
