@@ -18,9 +18,11 @@ ROOT = os.path.join(HERE, "..")
 PAPER = os.path.join(ROOT, "docs", "AUDIT.md")
 
 # The calls that are sold, with those for C in the same files, and how many steps are enough for the reader of words.
-CHECKER = (("checker", "lib", ("check", "answer", "read")), ("checker", "exports", ()))
+CHECKER = (("checker", "lib", ("check", "answer", "read")), ("checker", "stepping", ("step_list",)), ("checker", "exports", ()))
 RUNNER = (("runner", "lib", ("run_steps",)),)
 READER = (("words", "lib", ("read_words", "word_at")), ("words", "positions", ("position", "end_of")))
+# The calls on the evidence file, of which those that are sold will be made.
+EVIDENCE = (("blocks", "reading", ("file_fault", "copy_part", "copy_list")), ("blocks", "writing", ("write_file", "file_length", "rules_in")))
 READER_STEPS = 2
 
 # The module in which the definitions find the types of src/.
@@ -267,7 +269,7 @@ def wrong_of(files, types, paper):
     """All that is wrong but for counts and places."""
     steps, listed = steps_of(paper), types_listed(paper)
     sold = reached(files, types, roots_of(files, contracts(READER)))
-    found = sold | reached(files, types, roots_of(files, [*statements(paper), *contracts(CHECKER), *contracts(RUNNER)]))
+    found = sold | reached(files, types, roots_of(files, [*statements(paper), *contracts(CHECKER), *contracts(RUNNER), *contracts(EVIDENCE)]))
     yield from unlisted(found, steps, listed, "docs/AUDIT.md")
     yield from unlisted(sold, steps[:READER_STEPS], listed, "the steps of the reader of words")
     yield from unreached(files, found, steps, listed)

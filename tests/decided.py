@@ -304,7 +304,9 @@ def files():
     """The text of each file."""
     imports, names = unfolded()
     uses = "".join("use %s.{%s}\n" % (module, ", ".join(sorted(imports[module], key=lambda name: (name.lower(), name)))) for module in sorted(imports))
-    decided = table("The readings.", "readings", "decided", readings(), names)
+    weighted = [case for case in readings() if ":weight" in case[0] + case[1]]
+    decided = table("The readings.", "readings", "decided", [case for case in readings() if case not in weighted], names)
+    decided += table("Those with the words of request E13.", "weighted", "weighted-decided", weighted, names)
     held = "".join(table("The limit on %s." % kind.replace("-", " "), kind + "-texts", kind + "-held", cases, names) for kind, cases in limits().items())
     own = "use Rattle.test_decided.proofs.Readings.{Reading, bodiesAnswer, bothAnswer, defined, row, textsAnswer}\n"
     located = LOCATED % "\n    ∷ ".join(["row %s %d %d %d %d" % place for place in places()] + ["[]"])

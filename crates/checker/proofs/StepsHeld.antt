@@ -7,7 +7,7 @@ use mathlib.Core.Bool.{Bool, true, false}
 use mathlib.Core.List.{List, [], _∷_}
 use lib.ListN.{drop, length}
 use Rattle.forest.proofs.Nodes.{length-nodes}
-use Rattle.forest.specs.Forest.{join, tree}
+use Rattle.forest.specs.Forest.{join}
 use Rattle.forest.specs.Limits.{mostFunctions, mostNodes}
 use Rattle.forest.specs.code.Cursors.{from, size}
 use Rattle.words.specs.Limits.{responseLimits}
@@ -16,7 +16,6 @@ use Rattle.terms.specs.Labels.{Terms}
 use Rattle.terms.specs.code.Nodes.{rowWidth, sizeAt}
 use Rattle.evaluation.specs.code.Tables.{TermStands}
 use Rattle.steps.specs.Stack.{nodeCount}
-use Rattle.steps.specs.Steps.{stepsOf, usesDefined}
 use Rattle.steps.specs.code.List.{Listable, TermsStand, UsesTold, Listed as StepsListed}
 use Rattle.names.specs.Scopes.{Defined, Function}
 use Rattle.script.specs.Response.{Body, inScriptOrder}

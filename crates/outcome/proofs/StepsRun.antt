@@ -1,11 +1,11 @@
 -- Running the list of steps of an accepted body: the body has a value for arguments of the right sorts, and the run ends with it alone on the stack.
-use Prim.Native.Nat.{ℕ, zero, suc, _+_, _*_, _≤_, _<_}
+use Prim.Native.Nat.{ℕ, suc, _+_, _*_, _≤_, _<_}
 use native.Mathlib.Nat.{zero-add}
 use native.Mathlib.Omega.{arith}
 use mathlib.Core.Bool.{true, false}
 use mathlib.Core.List.{List, [], _∷_}
-use mathlib.Core.Option.{Option, none as nothing, some}
-use mathlib.Core.Path.{_≡_, refl, sym, ap, subst, subst₂, _∙_}
+use mathlib.Core.Option.{Option, some}
+use mathlib.Core.Path.{_≡_, refl, sym, ap, subst₂, _∙_}
 use borrow.Author.Tests.{eq-eqb, ne-eqb}
 use lib.ListN.{drop, length, take}
 use lib.Seq.{drop-at, sets, sets-eq, take-at}
@@ -18,7 +18,7 @@ use Rattle.operators.specs.Sorts.AllFit.{no-more, also}
 use Rattle.terms.proofs.Sound.{OneValue, one-value}
 use Rattle.terms.specs.Labels.{Terms}
 use Rattle.terms.specs.Sorts.{Definition, sameSorts, sortsOf as termSorts}
-use Rattle.terms.specs.Values.{called, definedValue, functionValue, meaningAt, numbersIn, resultOf, sortsIn, valuesIn}
+use Rattle.terms.specs.Values.{called, definedValue, functionValue, meaningAt, numbersIn, resultOf, sortsIn}
 use Rattle.terms.specs.code.Sorted.{FunctionsSorted}
 use Rattle.terms.specs.declared.Value.{Value}
 use Rattle.steps.proofs.Ends.{stated}
@@ -33,7 +33,7 @@ use Rattle.script.specs.Response.{Body, inScriptOrder, responseView}
 use Rattle.outcome.specs.Checked.{Passing}
 use Rattle.outcome.specs.Derived.{termsOf}
 use Rattle.outcome.specs.Evaluated.{completed, functionsWith}
-use Rattle.outcome.specs.StepList.{AcceptedFor, FunctionAt, ListStated, Runs, StepList, area-missized, here, later, listed, no-function, not-accepted}
+use Rattle.outcome.specs.StepList.{FunctionAt, ListStated, Runs, StepList, area-missized, here, later, listed, no-function, not-accepted}
 use Rattle.outcome.specs.StepList.{stepNumbers, uses-define}
 use Rattle.outcome.specs.code.Assured.{BodiesFit}
 use Rattle.outcome.specs.declared.Answer.{Answer}

@@ -24,7 +24,7 @@ use Rattle.names.specs.Scopes.{formsOf, inOrder, isKnown, isNamed, symbolMeans,
 use Rattle.names.specs.Unknown.{unknownIn}
 use Rattle.operators.specs.Operators.{named, operatorAt, operatorOf, operators, operatorSort, operatorValue}
 use Rattle.operators.specs.Sorts.{sortBy}
-use Rattle.shapes.specs.Carried.{anyUncarried, notCarried}
+use Rattle.shapes.specs.Carried.{anyUncarried, commandUncarried, notCarried}
 use Rattle.shapes.specs.Shapes.{all, commandShape, termShapes}
 use Rattle.term_faults.specs.Faults.{ruleMisfit, termFault}
 use Rattle.term_nodes.specs.Rules.{nodesPast, rulePast, rulesIn, rulesOf, sides}
@@ -170,7 +170,7 @@ overX nonTerminals grammar =
 
 -- What a script of `define-fun`s and one function says.
 abbrev saying : List Defined → Function → Known
-saying defined f = record { logic = true; ended = true; variables = []; defined = defined; functions = f ∷ []; constraints = []; assumptions = [] }
+saying defined f = record { logic = true; weights = false; ended = true; variables = []; defined = defined; functions = f ∷ []; constraints = []; assumptions = [] }
 
 abbrev swapFunction : Function
 swapFunction = overX (record { name = spelling "BV32"; at = 24; sort = 32 } ∷ record { name = spelling "BV16"; at = 32; sort = 16 } ∷ []) swap
@@ -180,7 +180,7 @@ ringFunction = overX (record { name = spelling "A"; at = 24; sort = 32 } ∷ rec
 
 -- The swap case.
 swap-settled : Shown (spelling swapScript) (spelling swapResponse) (7 ∷ 15 ∷ 3 ∷ 8 ∷ [])
-unfolding after all allIn allNumerals answered anyUncarried argumentTokens bytesAt calledSort commandShape constantsPast count deadMisfit deadPlace depthAfter differing faultAt formSorts formYields formed formsOf foundFrom grammarPlace hashed inOrder inScriptOrder inside isKnown isNamed isOneOf isReserved item itemSort itemsOf join judged judgedAll judgedBody judgedExtra kindOf knownAfter labelSort leastIn levelsAt levelsBefore limitPlace listingMisfit literalKind namePlace named namedBy newPairs nodeWord nodesOf nodesPast notCarried numeralKind onePass operatorAt operatorOf operatorSort operators passes placeIn rawTerms readAll readingOf reservedWords responseWithin ruleMisfit rulePast rulesIn rulesOf runEnd sameBytes sameSorts scriptOutcome sides sortBy sortOver sortingPlace spelled startsFrom symbolKind symbolMeans termFault termShapes termsIn tested treesFrom unknownIn withSort wordAt wordEnd wordStarts wordsIn wordsOf
+unfolding after all allIn allNumerals answered anyUncarried argumentTokens bytesAt calledSort commandShape commandUncarried constantsPast count deadMisfit deadPlace depthAfter differing faultAt formSorts formYields formed formsOf foundFrom grammarPlace hashed inOrder inScriptOrder inside isKnown isNamed isOneOf isReserved item itemSort itemsOf join judged judgedAll judgedBody judgedExtra kindOf knownAfter labelSort leastIn levelsAt levelsBefore limitPlace listingMisfit literalKind namePlace named namedBy newPairs nodeWord nodesOf nodesPast notCarried numeralKind onePass operatorAt operatorOf operatorSort operators passes placeIn rawTerms readAll readingOf reservedWords responseWithin ruleMisfit rulePast rulesIn rulesOf runEnd sameBytes sameSorts scriptOutcome sides sortBy sortOver sortingPlace spelled startsFrom symbolKind symbolMeans termFault termShapes termsIn tested treesFrom unknownIn withSort wordAt wordEnd wordStarts wordsIn wordsOf
 swap-settled =
     record {
       k = saying [] swapFunction;
@@ -195,7 +195,7 @@ swap-settled =
 
 -- The ring.
 ring-settled : Shown (spelling ringScript) (spelling ringResponse) (0 ∷ 2 ∷ [])
-unfolding after all allIn allNumerals answered anyUncarried argumentTokens bytesAt calledSort commandShape constantsPast count deadMisfit deadPlace depthAfter differing faultAt formSorts formYields formed formsOf foundFrom grammarPlace hashed inOrder inScriptOrder inside isKnown isNamed isOneOf isReserved item itemSort itemsOf join judged judgedAll judgedBody judgedExtra kindOf knownAfter labelSort leastIn levelsAt levelsBefore limitPlace listingMisfit literalKind namePlace named namedBy newPairs nodeWord nodesOf nodesPast notCarried numeralKind onePass operatorAt operatorOf operatorSort operators passes placeIn rawTerms readAll readingOf reservedWords responseWithin ruleMisfit rulePast rulesIn rulesOf runEnd sameBytes sameSorts scriptOutcome sides sortBy sortOver sortingPlace spelled startsFrom symbolKind symbolMeans termFault termShapes termsIn tested treesFrom unknownIn withSort wordAt wordEnd wordStarts wordsIn wordsOf
+unfolding after all allIn allNumerals answered anyUncarried argumentTokens bytesAt calledSort commandShape commandUncarried constantsPast count deadMisfit deadPlace depthAfter differing faultAt formSorts formYields formed formsOf foundFrom grammarPlace hashed inOrder inScriptOrder inside isKnown isNamed isOneOf isReserved item itemSort itemsOf join judged judgedAll judgedBody judgedExtra kindOf knownAfter labelSort leastIn levelsAt levelsBefore limitPlace listingMisfit literalKind namePlace named namedBy newPairs nodeWord nodesOf nodesPast notCarried numeralKind onePass operatorAt operatorOf operatorSort operators passes placeIn rawTerms readAll readingOf reservedWords responseWithin ruleMisfit rulePast rulesIn rulesOf runEnd sameBytes sameSorts scriptOutcome sides sortBy sortOver sortingPlace spelled startsFrom symbolKind symbolMeans termFault termShapes termsIn tested treesFrom unknownIn withSort wordAt wordEnd wordStarts wordsIn wordsOf
 ring-settled =
     record {
       k = saying [] ringFunction;
@@ -227,7 +227,7 @@ always =
 
 -- The costs.
 costs-settled : Costing (spelling costScript) (3 ∷ 9 ∷ 21 ∷ [])
-unfolding after all allIn allNumerals answered anyUncarried argumentTokens bytesAt calledSort commandShape constantsPast count deadMisfit deadPlace depthAfter differing faultAt formSorts formYields formed formsOf foundFrom grammarPlace hashed inOrder inScriptOrder inside isKnown isNamed isOneOf isReserved item itemSort itemsOf join judged judgedAll judgedBody judgedExtra kindOf knownAfter labelSort leastIn levelsAt levelsBefore limitPlace listingMisfit literalKind namePlace named namedBy newPairs nodeWord nodesOf nodesPast notCarried numeralKind onePass operatorAt operatorOf operatorSort operators passes placeIn rawTerms readAll readingOf reservedWords responseWithin ruleMisfit rulePast rulesIn rulesOf runEnd sameBytes sameSorts scriptOutcome sides sortBy sortOver sortingPlace spelled startsFrom symbolKind symbolMeans termFault termShapes termsIn tested treesFrom unknownIn withSort wordAt wordEnd wordStarts wordsIn wordsOf summedCosts definedCost
+unfolding after all allIn allNumerals answered anyUncarried argumentTokens bytesAt calledSort commandShape commandUncarried constantsPast count deadMisfit deadPlace depthAfter differing faultAt formSorts formYields formed formsOf foundFrom grammarPlace hashed inOrder inScriptOrder inside isKnown isNamed isOneOf isReserved item itemSort itemsOf join judged judgedAll judgedBody judgedExtra kindOf knownAfter labelSort leastIn levelsAt levelsBefore limitPlace listingMisfit literalKind namePlace named namedBy newPairs nodeWord nodesOf nodesPast notCarried numeralKind onePass operatorAt operatorOf operatorSort operators passes placeIn rawTerms readAll readingOf reservedWords responseWithin ruleMisfit rulePast rulesIn rulesOf runEnd sameBytes sameSorts scriptOutcome sides sortBy sortOver sortingPlace spelled startsFrom symbolKind symbolMeans termFault termShapes termsIn tested treesFrom unknownIn withSort wordAt wordEnd wordStarts wordsIn wordsOf summedCosts definedCost
 costs-settled = record { k = saying (called "d2" 56 d2 ∷ called "d1" 30 d1 ∷ called "d0" 6 d0 ∷ []) always; says = refl; costs-are = refl }
 
 -- A value that is computed.
