@@ -3,12 +3,13 @@
    Every function may be called with any bytes and any numbers. A text or a list is a pointer and a length; where the length is 0 the pointer is not read.
 
    A call keeps nothing for the next one, so that several may run at once. It runs on the caller's stack: sverdhyll_answer and sverdhyll_check take up to
-   1.91 MiB of it, whatever they are given (measured at the limits of all inputs, docs/MEASUREMENTS.md), and sverdhyll_read, which evaluates nothing, and
-   sverdhyll_run take less. A thread of 2 MiB suffices; one of 1 MiB does not for every input, and a call that needs more than there is ends the program.
+   1.93 MiB of it, whatever they are given (measured at the limits of all inputs, docs/MEASUREMENTS.md), and sverdhyll_steps, which checks first, up to 2 MiB less
+   6 KiB; sverdhyll_read, which evaluates nothing, and sverdhyll_run take less. A thread of 2 MiB suffices; one of 1 MiB does not for every input, and a call that
+   needs more than there is ends the program.
 
    Which static library has which function (`rt staticlib NAME` makes target/staticlib/libNAME.a; link one of them):
 
-     libchecker.a   sverdhyll_answer, sverdhyll_check, sverdhyll_read, sverdhyll_word, sverdhyll_position
+     libchecker.a   sverdhyll_answer, sverdhyll_check, sverdhyll_read, sverdhyll_word, sverdhyll_position, sverdhyll_steps, sverdhyll_run
      libwords.a     sverdhyll_words, sverdhyll_word, sverdhyll_position
      librunner.a    sverdhyll_run
 
@@ -43,6 +44,8 @@ enum {
     SVERDHYLL_FALSE = 14,
     SVERDHYLL_BUDGET_ENDED = 15,
     SVERDHYLL_BAD_POINTS = 16,
+    SVERDHYLL_AREA_MISSIZED = 17,
+    SVERDHYLL_NO_STEPS = 18,
     SVERDHYLL_BAD_STEP = 19,
     SVERDHYLL_BAD_ARGUMENT = 20
 };
@@ -60,6 +63,7 @@ enum {
     SVERDHYLL_AREA = 32768,         /* how many entries the area must have */
     SVERDHYLL_LIST = 4096,          /* how many of them are for the list of one function */
     SVERDHYLL_UNUSED = 65535,       /* an entry that no list uses */
+    SVERDHYLL_STEPS_AREA = 1024,    /* how many numbers the area for steps must have */
     SVERDHYLL_MOST_SCRIPT = 65536,  /* bytes */
     SVERDHYLL_MOST_RESPONSE = 8192, /* bytes */
     SVERDHYLL_MOST_POINTS = 1024,   /* numbers */
@@ -186,7 +190,7 @@ enum {
 uint8_t sverdhyll_words(const uint8_t *text, size_t text_len, uint32_t bytes, uint32_t words, uint32_t nesting, uint32_t *table, size_t table_len,
                         uint64_t *values, size_t values_len, size_t *place, size_t *count);
 
-/* Numbers of the steps of `sverdhyll_run`. */
+/* Numbers of steps, for a small stack controller. */
 enum {
     SVERDHYLL_PUSH_ARGUMENT = 1,
     SVERDHYLL_PUSH_CONSTANT = 2,
@@ -195,7 +199,28 @@ enum {
     SVERDHYLL_MOST_VALUES = 256 /* how many values the stack holds */
 };
 
-/* Runs a list of steps, wherever it comes from, on arguments of the sorts given along: the stack controller, in a library of its own for those who build one.
+/* Turns the body of an accepted response into steps for a stack controller, which sverdhyll_run describes. `function` is the number of the function, from 0 in
+   the order of the script; `area` is lent, and `area_len` must be 1,024. Returns the answer's number, puts its sixteen numbers where `answer` points and the
+   number of steps where `count` points (neither of which may be NULL). The answer is the first of these:
+
+   | No.  | When                                                         | Text | Place              | Other numbers | Steps                |
+   |------|--------------------------------------------------------------|------|--------------------|---------------|----------------------|
+   | 17   | the area does not have 1,024 numbers                         | 3    | `area_len`         | 0             | 0                    |
+   | 1-16 | sverdhyll_answer, with an area of its own, does not accept   | as sverdhyll_answer has them              | 0                    |
+   |      | the response at these points within this budget              |                                           |                      |
+   | 18   | the script has no such function, or its body uses a          | 3    | the number of the  | 0             | 0                    |
+   |      | `define-fun`                                                 |      | function           |               |                      |
+   | 0    | the list is written                                          | as sverdhyll_answer has them              | the nodes of the     |
+   |      |                                                              |                                           | body, at most 256    |
+
+   The list has four numbers a step, from area[0] on: operands in their order, the operator after them. area[4 * count] and what is behind it stay as they were
+   lent; so does the whole area after any answer but 0. Run on arguments of the function's sorts, in their order, the list ends with the body's value alone on
+   the stack, and never has more than 256 values on it. */
+uint8_t sverdhyll_steps(const uint8_t *script, size_t script_len, const uint8_t *response, size_t response_len, const uint64_t *points, size_t points_len,
+                        uint64_t budget, uint64_t function, uint64_t *area, size_t area_len, size_t *count, uint64_t answer[SVERDHYLL_ANSWER]);
+
+/* Runs a list of steps, wherever it comes from, on arguments of the sorts given along: the stack controller, in libchecker.a and in a library of its own for
+   those who build one.
 
    A sort is 0 for Bool, else a width from 1 to 64; sorts[k] is the sort of arguments[k], and a Bool is 0 or 1. There may be any number of arguments and of
    steps; the stack, which is empty at first, holds at most 256 values. A step has four numbers:

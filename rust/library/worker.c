@@ -4,7 +4,9 @@
    "check", script, response, points, budget, area: the sixteen numbers of the answer, and the area, a frame each;
    "read", script, response: the sixteen numbers of the texts' own answer;
    "word", text, offset: the length of the word that starts there;
-   "position", text, offset: the offset past the word that starts there, the line and the column, in one frame.
+   "position", text, offset: the offset past the word that starts there, the line and the column, in one frame;
+   "steps", script, response, points, budget and function, area: the sixteen numbers of the answer, the number of steps, and the area, a frame each;
+   "run", sorts, arguments, steps: the answer's number, its place, the value and its sort, in one frame.
    It ends as soon as nobody can write to standard input any more, also in the middle of a check: however the process that started it ends, it ends too.
    Its machine is x86-64, so numbers in memory have their low byte first, as in the frames. */
 #include <poll.h>
@@ -110,13 +112,46 @@ static int position(void)
     return 1;
 }
 
+/* Reads what the steps of a body take, and answers; returns 0 where standard input ends. */
+static int steps(void)
+{
+    static struct frame script, response, points, chosen, area;
+    uint64_t answer[SVERDHYLL_ANSWER], number;
+    size_t count;
+
+    if (!receive(&script) || !receive(&response) || !receive(&points) || !receive(&chosen) || !receive(&area)) return 0;
+    if (chosen.length != 2 * sizeof(uint64_t)) return 0;
+    sverdhyll_steps(script.bytes, script.length, response.bytes, response.length, points.bytes, points.length / sizeof(uint64_t),
+                    ((uint64_t *)chosen.bytes)[0], ((uint64_t *)chosen.bytes)[1], area.bytes, area.length / sizeof(uint64_t), &count, answer);
+    number = count;
+    send(answer, sizeof answer);
+    send(&number, sizeof number);
+    send(area.bytes, area.length);
+    return 1;
+}
+
+/* Runs a list of steps; returns 0 where standard input ends. */
+static int run(void)
+{
+    static struct frame sorts, arguments, list;
+    uint64_t found[4];
+
+    if (!receive(&sorts) || !receive(&arguments) || !receive(&list)) return 0;
+    found[0] = sverdhyll_run(sorts.bytes, sorts.length / sizeof(uint64_t), arguments.bytes, arguments.length / sizeof(uint64_t), list.bytes,
+                             list.length / sizeof(uint64_t), &found[1], &found[2], &found[3]);
+    send(found, sizeof found);
+    return 1;
+}
+
 /* Answers a request; returns 0 where it is none, or standard input ends. */
 static int served(const struct frame *request)
 {
     if (is(request, "check")) return check();
     if (is(request, "read")) return read_texts();
     if (is(request, "word")) return word();
-    return is(request, "position") && position();
+    if (is(request, "position")) return position();
+    if (is(request, "steps")) return steps();
+    return is(request, "run") && run();
 }
 
 /* Ends the process when standard input has nobody left who can write to it. */

@@ -66,6 +66,35 @@ static inline struct answer read_all(const char *script, size_t script_size, con
     return formed(number, n);
 }
 
+/* The area of every call for steps, with two numbers behind it. */
+static uint64_t listed[SVERDHYLL_STEPS_AREA + 2];
+
+/* Lends the area for steps with this number everywhere. */
+static inline void lend(uint64_t lent)
+{
+    for (size_t i = 0; i < sizeof listed / sizeof *listed; i++) listed[i] = lent;
+}
+
+/* Whether the area for steps has the number that it was lent with, from here on. */
+static inline int is_lent(size_t from, uint64_t lent)
+{
+    for (size_t i = from; i < sizeof listed / sizeof *listed; i++)
+        if (listed[i] != lent) return 0;
+    return 1;
+}
+
+/* The steps of a function's body, by `sverdhyll_steps`, at no points; `size` is said to be that of the area. */
+static inline struct answer steps_all(const char *script, size_t script_size, const char *response, size_t response_size, uint64_t budget, uint64_t function,
+                                      size_t size, size_t *count)
+{
+    uint64_t n[SVERDHYLL_ANSWER];
+    memset(n, 99, sizeof n);
+    *count = 99;
+    const uint8_t number = sverdhyll_steps((const uint8_t *)script, script_size, (const uint8_t *)response, response_size, NULL, 0, budget, function, listed,
+                                           size, count, n);
+    return formed(number, n);
+}
+
 /* A call with two texts, no points and the area. */
 static inline struct answer check_texts(const char *script, const char *response, uint64_t budget)
 {
@@ -82,6 +111,12 @@ static inline int is_answer(struct answer a, uint8_t number, uint8_t text, uint6
 static inline int is_at(struct answer a, uint64_t end, uint64_t line, uint64_t column)
 {
     return a.end == end && a.line == line && a.column == column;
+}
+
+/* Whether two answers are the same. */
+static inline int is_same(struct answer a, struct answer b)
+{
+    return is_answer(a, b.number, b.text, b.place, b.second, b.units) && is_at(a, b.end, b.line, b.column) && !memcmp(a.weights, b.weights, sizeof a.weights);
 }
 
 /* Whether the weights of an answer are those of the first two functions, and 0. */

@@ -1,5 +1,5 @@
 /* How much stack a call of the checker needs at the limits of all inputs: calls on a thread of 2 MiB, each of which must give its answer. Prints for each how much
-   of the stack was touched, by `sverdhyll_check`, by `sverdhyll_answer` and by `sverdhyll_read`. */
+   of the stack was touched, by `sverdhyll_check`, by `sverdhyll_answer`, by `sverdhyll_read` and by `sverdhyll_steps`. */
 #include <pthread.h>
 
 #include "calls.h"
@@ -32,6 +32,14 @@ static void *read_texts(void *unused)
     return unused;
 }
 
+/* The fourth call, on the thread. */
+static void *steps(void *unused)
+{
+    size_t count;
+    given = steps_all(script.bytes, script.size, response.bytes, response.size, UINT64_MAX, 0, SVERDHYLL_STEPS_AREA, &count);
+    return unused;
+}
+
 /* Makes a call on a painted stack; returns how much of it was touched. */
 static size_t touched(void *(*call)(void *))
 {
@@ -46,19 +54,22 @@ static size_t touched(void *(*call)(void *))
     return STACK - untouched;
 }
 
-/* Makes the three calls, prints how much of the stack each touched, and says whether the first two answer this number with so many units, and the texts' own
-   answer is that both pass. */
-static int measure(const char *what, uint8_t number, uint64_t units)
+/* Makes the four calls, prints how much of the stack each touched, and says whether the first two answer this number with so many units, the texts' own
+   answer is that both pass, and the fourth answers this one. */
+static int measure(const char *what, uint8_t number, uint64_t units, uint8_t stepped)
 {
     const size_t first = touched(check);
     const struct answer one = given;
     const size_t second = touched(answer);
     const struct answer two = given;
     const size_t third = touched(read_texts);
-    printf("%s (%zu and %zu words): answer %d, units %llu, stack used %zu, %zu and, by reading alone, %zu KiB of %d KiB\n", what, script.words, response.words,
-           two.number, (unsigned long long)two.units, first / 1024, second / 1024, third / 1024, STACK / 1024);
-    const int answered = one.number == number && one.units == units && two.number == number && two.units == units && passes(given);
-    return answered && first < STACK && second < STACK && third < STACK;
+    const struct answer own = given;
+    const size_t fourth = touched(steps);
+    printf("%s (%zu and %zu words): answer %d, units %llu, stack used %zu, %zu, by reading alone %zu, and for steps (answer %d) %zu KiB of %d KiB\n", what,
+           script.words, response.words, two.number, (unsigned long long)two.units, first / 1024, second / 1024, third / 1024, given.number, fourth / 1024,
+           STACK / 1024);
+    const int answered = one.number == number && one.units == units && two.number == number && two.units == units && passes(own) && given.number == stepped;
+    return answered && first < STACK && second < STACK && third < STACK && fourth < STACK;
 }
 
 /* Begins both texts. */
@@ -118,7 +129,8 @@ static int deepest(void)
     negated(&response, DEEPEST - 1, name);
     add(&response, ")");
     end();
-    return measure("the deepest evaluation", nots % 2 == 0 ? SVERDHYLL_ACCEPTED : SVERDHYLL_FALSE, nots + DEFINED + 2) && script.words <= MOST_WORDS;
+    const uint8_t number = nots % 2 == 0 ? SVERDHYLL_ACCEPTED : SVERDHYLL_FALSE;
+    return measure("the deepest evaluation", number, nots + DEFINED + 2, nots % 2 == 0 ? SVERDHYLL_NO_STEPS : number) && script.words <= MOST_WORDS;
 }
 
 /* Adds a name under so many `distinct`s of eight operands, of which it is the last: OPERANDS nodes and OPERANDS + 2 words each. */
@@ -156,7 +168,7 @@ static int widest(void)
     distinguished(&response, LEVELS, name);
     add(&response, ")");
     end();
-    return measure("the widest evaluation", SVERDHYLL_ACCEPTED, units + 2 * LEVELS * OPERANDS + 2);
+    return measure("the widest evaluation", SVERDHYLL_ACCEPTED, units + 2 * LEVELS * OPERANDS + 2, SVERDHYLL_NO_STEPS);
 }
 
 /* As many words as both texts may have: eight functions, and constraints of 512 words and one of what is left. */
@@ -181,7 +193,7 @@ static int most_words(void)
         units += 2 * leaves - 1;
     }
     end();
-    return measure("the most words", SVERDHYLL_ACCEPTED, units) && script.words == MOST_WORDS && response.words == MOST_ANSWERED;
+    return measure("the most words", SVERDHYLL_ACCEPTED, units, SVERDHYLL_ACCEPTED) && script.words == MOST_WORDS && response.words == MOST_ANSWERED;
 }
 
 /* As many functions, non-terminals and rules as there may be: every non-terminal is a chain rule of the one before it. */
@@ -199,7 +211,7 @@ static int most_rules(void)
         add(&response, ")");
     }
     end();
-    return measure("the most functions, non-terminals and rules", SVERDHYLL_ACCEPTED, 0) && list_size(FUNCTIONS - 1) == NON_TERMINALS * (2 * LEAVES - 1);
+    return measure("the most functions, non-terminals and rules", SVERDHYLL_ACCEPTED, 0, SVERDHYLL_ACCEPTED) && list_size(FUNCTIONS - 1) == NON_TERMINALS * (2 * LEAVES - 1);
 }
 
 int main(void)

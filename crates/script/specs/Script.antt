@@ -71,7 +71,7 @@ argumentsOf c = namedBy (inside 2 c)
 abbrev pub viewOf : Known → Items → View
 viewOf k c = ruleView k (argumentsOf c) (namedBy (inside 4 c))
 
--- Whether the logic line, and no other command, has been read: where it is, each other command that passes is known.
+-- Whether no command has passed but, perhaps, the logic line: each other that may stand before `check-synth` leaves something known.
 abbrev pub afterLogic : Known → Bool
 afterLogic k =
     not (k .weights)

@@ -58,7 +58,7 @@ attributesShape named none = not named
 attributesShape true (tree l ops more) = isNumeral l && attributesShape false more
 attributesShape false (tree l ops more) = isKey ":weight" l && attributesShape true more
 
--- "rules written `(! t :weight k)`" (E13); document 000: "(! t A+)", where t is a term and each attribute of the rule is a weight.
+-- "rules written `(! t :weight k)`" (E13): in document 000 a term with one attribute or more; here each attribute is a weight.
 abbrev pub annotatedShape : Items → Bool
 annotatedShape ops = leb 4 (count ops) && termShape (item 1 ops) (inside 1 ops) && attributesShape false (attributesOf ops)
 

@@ -5,7 +5,7 @@ use mathlib.Core.Bool.{Bool, _||_, _&&_}
 use lib.Dec.{eqb, leb}
 use Rattle.forest.specs.Lists.{among, spelling}
 
--- "A word that begins with `"`, `|` or `:` is answer 6."
+-- "A word that begins with `"`, `|` or `:` is answer 6." Of these words request E13 carries two: `keywordForm`.
 abbrev pub uncarried : ℕ → Bool
 uncarried b = eqb b (code "\"") || eqb b (code "|") || eqb b (code ":")
 

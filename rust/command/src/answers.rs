@@ -16,7 +16,7 @@ const NOT_THOROUGH: u8 = 4;
 const MOST_WRITTEN_OUT: u32 = 22;
 
 /// The meaning of each number, by document 01's table.
-const MEANINGS: [&str; 17] = [
+const MEANINGS: [&str; 21] = [
     "accepted",
     "too long",
     "bad word",
@@ -34,6 +34,10 @@ const MEANINGS: [&str; 17] = [
     "constraint false",
     "budget ended",
     "point list not whole points, or value outside its sort",
+    "area of wrong size",
+    "function not in the script, or its body uses a define-fun",
+    "step refused, or list not ending with one value",
+    "arguments of wrong count or range",
 ];
 
 /// What an answer comes to.
@@ -52,7 +56,7 @@ pub enum Verdict {
 pub fn verdict(number: u8) -> Verdict {
     match number {
         0 => Verdict::Accepted,
-        10..=14 => Verdict::Rejected,
+        10..=14 | 18 => Verdict::Rejected,
         15 => Verdict::Undecided,
         _ => Verdict::Refused,
     }
@@ -155,6 +159,7 @@ pub fn sentence(facts: &Facts) -> String {
             format!("the budget of {budget} ends before {named} at point {place}")
         }
         16 => bad_points(facts),
+        18 => no_steps(facts),
         number => format!("unknown answer {number}"),
     }
 }
@@ -329,6 +334,25 @@ fn too_long(facts: &Facts) -> String {
     }
 }
 
+/// Answer 18 in words.
+fn no_steps(facts: &Facts) -> String {
+    let functions = &facts.given.read.synthesized;
+    let number = facts.answer.place;
+    match usize::try_from(number)
+        .ok()
+        .and_then(|index| functions.get(index))
+    {
+        Some(function) => format!(
+            "the body of {} uses a define-fun: it has no steps for the controller",
+            function.name
+        ),
+        None => {
+            let count = counted(functions.len() as u64, "function");
+            format!("the script has no function {number}: it has {count}, counted from 0")
+        }
+    }
+}
+
 /// Answer 16 in words.
 fn bad_points(facts: &Facts) -> String {
     let numbers = &facts.given.points.listed;
@@ -358,6 +382,8 @@ mod tests {
         assert_eq!(rejected.collect::<Vec<u8>>(), [10, 11, 12, 13, 14, 15]);
         assert_eq!((verdict(1).word(), verdict(16).status()), ("refused", 2));
         assert_eq!(verdict(15).word(), "undecided");
+        let steps = [17, 18, 19, 20].map(|number| verdict(number).status());
+        assert_eq!(steps, [2, 1, 2, 2]);
     }
 
     #[test]

@@ -2,7 +2,9 @@
 
 use crate::answers::grouped;
 use crate::failure::Failure;
+use crate::listing::Chosen;
 use crate::points::{number, Wanted, SEED};
+use crate::ran;
 use crate::source::Source;
 use std::ffi::{OsStr, OsString};
 
@@ -10,6 +12,10 @@ use std::ffi::{OsStr, OsString};
 pub const BUDGET: u64 = 1_000_000_000;
 /// The word that asks for the question for an SMT solver.
 const QUESTION: &str = "smt2";
+/// The word that asks for the steps of a body.
+const STEPS: &str = "steps";
+/// The word that asks for the run of a list of steps.
+const RUN: &str = "run";
 /// At most so many points are made at random.
 const MOST_RANDOM: u64 = 1 << 22;
 
@@ -28,6 +34,19 @@ pub enum Asked {
         script: Source,
         response: Source,
     },
+    /// To write the steps of a body, once the response is accepted.
+    Steps(Stepwise),
+    /// To run a list of steps.
+    Run(ran::Wanted),
+}
+
+/// A check whose response, once it is accepted, gives the steps of a body.
+#[derive(Clone, Debug, PartialEq, Eq)]
+pub struct Stepwise {
+    pub request: Request,
+    pub function: Option<Chosen>,
+    /// Whether the bare numbers are wanted.
+    pub numbers: bool,
 }
 
 /// The SMT solver to ask: by the command that is given, or else one that is installed.
@@ -67,6 +86,10 @@ struct Given {
     quiet: bool,
     strict: bool,
     refute: Option<Solver>,
+    function: Option<Chosen>,
+    numbers: bool,
+    sorts: Option<Vec<u64>>,
+    arguments: Option<Vec<u64>>,
 }
 
 /// What the arguments ask for.
@@ -121,15 +144,41 @@ impl Given {
                 Ok(())
             }
             "--refute" => once(&mut self.refute, name, solver(&text)?),
+            "--function" => once(&mut self.function, name, function(&value(&text, rest)?)),
+            "--numbers" if name == text => {
+                self.numbers = true;
+                Ok(())
+            }
+            "--sorts" => once(&mut self.sorts, name, list(name, &value(&text, rest)?)?),
+            "--arguments" => once(&mut self.arguments, name, list(name, &value(&text, rest)?)?),
             _ => Err(usage(format!("unknown option {text}"))),
         }
     }
 
-    /// What the arguments ask for: the question for a solver where a third file, named first, is `smt2`.
+    /// Whether a word stands where the first file does, and so many files behind it.
+    fn begins(&self, word: &str, files: usize) -> bool {
+        self.files.len() == files + 1 && self.files[0] == Source::named(OsStr::new(word))
+    }
+
+    /// What the arguments ask for, by a word that stands before the files: `smt2` or `steps` before two, `run` before one; else a check.
     fn asked(mut self) -> Result<Asked, Failure> {
-        if self.files.len() != 3 || self.files[0] != Source::named(OsStr::new(QUESTION)) {
-            return self.request().map(Asked::Check);
+        if self.begins(STEPS, 2) {
+            self.files.remove(0);
+            return self.stepwise();
         }
+        if self.begins(RUN, 1) {
+            self.files.remove(0);
+            return self.run();
+        }
+        self.only_of_check()?;
+        if self.begins(QUESTION, 2) {
+            return self.question();
+        }
+        self.request().map(Asked::Check)
+    }
+
+    /// The question for a solver.
+    fn question(mut self) -> Result<Asked, Failure> {
         if self
             != (Given {
                 files: self.files.clone(),
@@ -143,6 +192,50 @@ impl Given {
             script, response, ..
         } = self.request()?;
         Ok(Asked::Question { script, response })
+    }
+
+    /// Refuses options that a check does not have.
+    fn only_of_check(&self) -> Result<(), Failure> {
+        let options = [
+            (self.function.is_some(), "--function", STEPS),
+            (self.numbers, "--numbers", STEPS),
+            (self.sorts.is_some(), "--sorts", RUN),
+            (self.arguments.is_some(), "--arguments", RUN),
+        ];
+        match options.into_iter().find(|(given, ..)| *given) {
+            Some((_, option, word)) => Err(usage(format!("{option} is an option of {word}"))),
+            None => Ok(()),
+        }
+    }
+
+    /// The steps of a body that the arguments ask for.
+    fn stepwise(mut self) -> Result<Asked, Failure> {
+        let (function, numbers) = (self.function.take(), std::mem::take(&mut self.numbers));
+        self.only_of_check()?;
+        Ok(Asked::Steps(Stepwise {
+            request: self.request()?,
+            function,
+            numbers,
+        }))
+    }
+
+    /// The run that the arguments ask for.
+    fn run(mut self) -> Result<Asked, Failure> {
+        let (sorts, arguments) = (self.sorts.take(), self.arguments.take());
+        let json = std::mem::take(&mut self.json);
+        self.quiet = false;
+        let wanted = ran::Wanted {
+            steps: self.files.remove(0),
+            sorts: sorts.unwrap_or_default(),
+            arguments: arguments.unwrap_or_default(),
+            json,
+        };
+        match self == Given::default() {
+            true => Ok(Asked::Run(wanted)),
+            false => Err(usage(format!(
+                "{RUN} has the options --sorts, --arguments and --json"
+            ))),
+        }
     }
 
     /// The request that the arguments make.
@@ -244,6 +337,30 @@ fn solver(option: &str) -> Result<Solver, Failure> {
     }
 }
 
+/// The function that a value names: by its number, or by its name, which does not begin with a digit.
+fn function(value: &OsStr) -> Chosen {
+    let text = value.to_string_lossy();
+    match number(text.as_bytes()) {
+        Some(number) => Chosen::Number(number),
+        None => Chosen::Name(text.into_owned()),
+    }
+}
+
+/// The numbers of a value, separated by commas; none where it is empty.
+fn list(option: &str, value: &OsStr) -> Result<Vec<u64>, Failure> {
+    let text = value.to_string_lossy();
+    if text.trim().is_empty() {
+        return Ok(Vec::new());
+    }
+    let numbers = text.split(',').map(|one| number(one.trim().as_bytes()));
+    let numbers: Option<Vec<u64>> = numbers.collect();
+    numbers.ok_or_else(|| {
+        usage(format!(
+            "{option} {text} is no list of numbers such as 8,0x20"
+        ))
+    })
+}
+
 /// The budget that a value says.
 fn budget(value: &OsStr) -> Result<u64, Failure> {
     let text = value.to_string_lossy();
@@ -321,6 +438,40 @@ mod tests {
     }
 
     #[test]
+    fn steps_and_runs() {
+        let source = |name: &str| Source::named(OsStr::new(name));
+        let Ok(Asked::Steps(steps)) = asked("steps a b --function f --numbers --points=p") else {
+            panic!("steps");
+        };
+        assert_eq!(steps.request.script, source("a"));
+        assert_eq!(steps.request.points, Wanted::Read(source("p")));
+        assert_eq!(steps.function, Some(Chosen::Name("f".to_string())));
+        assert!(steps.numbers);
+        let Ok(Asked::Steps(steps)) = asked("steps --function=3 a b --json") else {
+            panic!("steps");
+        };
+        assert_eq!(steps.function, Some(Chosen::Number(3)));
+        assert_eq!(steps.request.form, Form::Json);
+        assert_eq!(request("steps b").script, source("steps"));
+        let wanted = ran::Wanted {
+            steps: source("-"),
+            sorts: vec![8, 32],
+            arguments: vec![15, 7],
+            json: false,
+        };
+        let run = asked("run - --sorts 8,32 --arguments=0x0f,7");
+        assert_eq!(run, Ok(Asked::Run(wanted.clone())));
+        let none = ran::Wanted {
+            sorts: Vec::new(),
+            arguments: Vec::new(),
+            json: true,
+            ..wanted
+        };
+        assert_eq!(asked("run - --json --sorts="), Ok(Asked::Run(none)));
+        assert_eq!(request("./run b").script, source("./run"));
+    }
+
+    #[test]
     fn json_is_asked_for_also_by_wrong_arguments() {
         for (words, asked) in [
             ("--json --fast", true),
@@ -367,6 +518,22 @@ mod tests {
             ("a b --refute=", "--refute= names no command"),
             ("a b --refute --refute", "--refute is given twice"),
             ("smt2 a b --strict", "smt2 has no options"),
+            ("a b --numbers", "--numbers is an option of steps"),
+            ("smt2 a b --function f", "--function is an option of steps"),
+            ("steps a b --sorts 8", "--sorts is an option of run"),
+            (
+                "run a --strict",
+                "run has the options --sorts, --arguments and --json",
+            ),
+            (
+                "run a --sorts 8,,8",
+                "--sorts 8,,8 is no list of numbers such as 8,0x20",
+            ),
+            (
+                "run a --arguments 1 --arguments 2",
+                "--arguments is given twice",
+            ),
+            ("steps a b c", "there is one argument too many: b"),
             ("- b --points -", "standard input can be read only once"),
         ] {
             let failure = asked(words).expect_err(words);

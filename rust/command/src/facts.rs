@@ -4,6 +4,7 @@ use crate::derivation::{steps, Step};
 use crate::evaluation::{differing, is_signed};
 use crate::failure::Failure;
 use crate::guards::Guard;
+use crate::listing::Listed;
 use crate::notes::{cause, Cause, Hint};
 use crate::place::{place, Place};
 use crate::refute::Claim;
@@ -12,6 +13,7 @@ use crate::source::Text;
 use crate::stated::Stated;
 use simple::eval::Value;
 use simple::grammar::Sorted;
+use std::fmt;
 use std::ops::Range;
 use sverdhyll::{Answer, Library, Position, LIST_LENGTH, UNUSED};
 
@@ -23,11 +25,19 @@ pub struct Located {
 
 impl Located {
     /// The place of some bytes of a text, which stands there.
-    fn new(text: &Text, at: Range<usize>, position: Position) -> Located {
+    pub fn new(text: &Text, at: Range<usize>, position: Position) -> Located {
         Located {
             file: text.name.clone(),
             place: place(&text.bytes, at, position),
         }
+    }
+}
+
+impl fmt::Display for Located {
+    /// The place as `file:line:column`.
+    fn fmt(&self, to: &mut fmt::Formatter) -> fmt::Result {
+        let Position { line, column, .. } = self.place.position;
+        write!(to, "{}:{line}:{column}", self.file)
     }
 }
 
@@ -85,6 +95,8 @@ pub struct Facts {
     pub guards: Vec<(Guard, Position)>,
     /// What a solver that was asked says.
     pub claim: Option<Claim>,
+    /// The steps that were asked for, after 0.
+    pub listed: Option<Listed>,
     pub strict: bool,
 }
 
@@ -111,6 +123,7 @@ pub fn gather(
         done: run.done,
         guards: guards(library, &given, run.guards)?,
         claim: run.claim,
+        listed: None,
         strict,
         answer,
         given,

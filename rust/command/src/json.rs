@@ -6,13 +6,15 @@ use crate::evaluation::whole;
 use crate::facts::{Derived, Facts, Judged, Located, Note};
 use crate::failure::{Failure, FAILED};
 use crate::guards::Guard;
+use crate::listing::{words, Listed};
+use crate::ran;
 use crate::refute::Claim;
 use crate::source::Text;
 use simple::eval::Value;
 use simple::grammar::Sorted;
 use std::fmt;
 use sverdhyll::digest::sha256;
-use sverdhyll::Position;
+use sverdhyll::{Position, STEP};
 
 /// The name of the format, and its version: a later one keeps the keys of an earlier one.
 const FORMAT: [(&str, Json); 2] = [
@@ -86,8 +88,85 @@ pub fn object(facts: &Facts, library: &str) -> String {
             "functions",
             List(facts.derived.iter().map(function).collect()),
         ),
+        ("steps", or_null(facts.listed.as_ref(), steps)),
+        ("value", Null),
     ];
     Object(FORMAT.into_iter().chain(facts).collect()).to_string()
+}
+
+/// The object of the run of a list, by the library with this digest: the keys are the same, and there are no texts.
+pub fn run(outcome: &ran::Outcome, library: &str) -> String {
+    let answer = outcome.answer;
+    let none = |key: &'static str| (key, Null);
+    let empty = |key: &'static str| (key, List(Vec::new()));
+    let facts = vec![
+        ("answer", Number(answer.number.into())),
+        ("meaning", text(meaning(answer.number))),
+        ("verdict", text(verdict(answer.number).word())),
+        ("status", Number(outcome.status().into())),
+        ("message", text(&outcome.sentence)),
+        ("text", text(text_name(answer.text))),
+        ("place", Number(answer.place)),
+        ("second", Number(answer.second)),
+        ("units", Number(answer.units)),
+        ("budget", Number(0)),
+        ("library", Object(vec![("sha256", text(library))])),
+        none("script"),
+        none("response"),
+        none("points"),
+        ("location", or_null(outcome.located.as_ref(), location)),
+        none("declared"),
+        none("note"),
+        empty("notes"),
+        none("constraint"),
+        empty("guards"),
+        none("refute"),
+        empty("functions"),
+        ("steps", given_steps(outcome)),
+        ("value", or_null(outcome.value.as_ref(), |one| value(*one))),
+    ];
+    Object(FORMAT.into_iter().chain(facts).collect()).to_string()
+}
+
+/// The steps of a function's body.
+fn steps(listed: &Listed) -> Json {
+    Object(vec![
+        ("file", Null),
+        ("function", text(&listed.name)),
+        ("number", Number(listed.number)),
+        ("list", steps_in(&listed.numbers, &listed.arguments)),
+    ])
+}
+
+/// The steps of a list that was given.
+fn given_steps(outcome: &ran::Outcome) -> Json {
+    Object(vec![
+        ("file", file(&outcome.list.text)),
+        ("function", Null),
+        ("number", Null),
+        ("list", steps_in(&outcome.list.numbers, &[])),
+    ])
+}
+
+/// Steps in words and numbers.
+fn steps_in(numbers: &[u64], arguments: &[Sorted]) -> Json {
+    let step = |step: &[u64]| {
+        let numbers = step.iter().map(|&number| Number(number)).collect();
+        Object(vec![
+            ("does", text(words(step, arguments))),
+            ("numbers", List(numbers)),
+        ])
+    };
+    List(numbers.chunks(STEP).map(step).collect())
+}
+
+/// The value of a run, and its sort.
+fn value(value: Value) -> Json {
+    Object(vec![
+        ("value", text(value.to_string())),
+        ("number", Number(value.number())),
+        ("sort", text(value.sort().to_string())),
+    ])
 }
 
 /// A text's name and length, and its digest where it was read whole.

@@ -15,12 +15,14 @@ mod facts;
 mod failure;
 mod guards;
 mod json;
+mod listing;
 mod notes;
 mod pieces;
 mod place;
 mod points;
 mod program;
 mod progress;
+mod ran;
 mod random;
 mod refute;
 mod run;
@@ -32,12 +34,12 @@ mod stated;
 mod text;
 mod trials;
 
-use answers::{status, MOST_RESPONSE_BYTES, MOST_SCRIPT_BYTES};
-use arguments::{Asked, Form, Request, BUDGET};
+use answers::{status, thorough, MOST_RESPONSE_BYTES, MOST_SCRIPT_BYTES};
+use arguments::{Asked, Form, Request, Stepwise, BUDGET};
 use facts::Facts;
 use failure::{said, Failure, FAILED};
 use points::{Points, Wanted};
-use run::Given;
+use run::{Given, Run};
 use source::Source;
 use std::ffi::OsString;
 use std::io::{self, BufWriter, ErrorKind, Write};
@@ -89,6 +91,8 @@ fn run(asked: Asked) -> Result<u8, Failure> {
         }
         Asked::Check(request) => check(&request, ""),
         Asked::Question { script, response } => question(&script, &response),
+        Asked::Steps(stepwise) => steps(&stepwise),
+        Asked::Run(wanted) => ran(&wanted),
         Asked::Example => check(
             &Request {
                 script: EXAMPLE_SCRIPT,
@@ -120,18 +124,65 @@ fn version() -> String {
 
 /// Checks and says the outcome, after an opening.
 fn check(request: &Request, opening: &str) -> Result<u8, Failure> {
-    let mut given = read(&request.script, &request.response)?;
     let mut library = open()?;
-    given.points = request.points.given(&mut library)?;
-    given.budget = request.budget;
-    let mut run = run::run(&mut library, &mut given, &request.points)?;
-    if let Some(solver) = &request.refute {
-        run.refute(&mut library, &given, solver)?;
-    }
+    let (given, run) = checked(&mut library, request)?;
     let facts = facts::gather(&mut library, given, run, request.strict)?;
     print(status(&facts), |to| {
         to.write_all(opening.as_bytes())?;
         write(&facts, library.digest(), request.form, to)
+    })
+}
+
+/// What is given, and what the checker answers at all points.
+fn checked(library: &mut Library, request: &Request) -> Result<(Given, Run), Failure> {
+    let mut given = read(&request.script, &request.response)?;
+    given.points = request.points.given(library)?;
+    given.budget = request.budget;
+    let mut run = run::run(library, &mut given, &request.points)?;
+    if let Some(solver) = &request.refute {
+        run.refute(library, &given, solver)?;
+    }
+    Ok((given, run))
+}
+
+/// Checks, and says the steps of a body where the response is accepted as it is asked; else the outcome of the check.
+fn steps(wanted: &Stepwise) -> Result<u8, Failure> {
+    let request = &wanted.request;
+    let mut library = open()?;
+    let (given, mut run) = checked(&mut library, request)?;
+    let mut listed = None;
+    if run.answer.number == 0 {
+        let function = listing::number(&given.read, wanted.function.as_ref())?;
+        listed = run.steps(&mut library, &given, function)?;
+    }
+    let mut facts = facts::gather(&mut library, given, run, request.strict)?;
+    let accepted = facts.answer.number == 0 && (thorough(&facts) || !request.strict);
+    facts.listed = listed.filter(|_| accepted);
+    match (&facts.listed, request.form) {
+        (Some(listed), Form::Full | Form::Quiet) if wanted.numbers => {
+            print(status(&facts), |to| text::write_numbers(listed, to))
+        }
+        (None, Form::Full | Form::Quiet) if wanted.numbers => {
+            text::write_line(&facts, &mut io::stderr())?;
+            Ok(status(&facts))
+        }
+        _ => print(status(&facts), |to| {
+            write(&facts, library.digest(), request.form, to)
+        }),
+    }
+}
+
+/// Runs a list of steps and says what comes of it.
+fn ran(wanted: &ran::Wanted) -> Result<u8, Failure> {
+    let mut library = open()?;
+    let outcome = ran::run(&mut library, wanted)?;
+    print(outcome.status(), |to| {
+        if wanted.json {
+            return writeln!(to, "{}", json::run(&outcome, library.digest()));
+        }
+        let mut text = Vec::new();
+        outcome.write(text::columns(), &mut text)?;
+        write_painted(&text, to)
     })
 }
 
@@ -170,7 +221,7 @@ fn open() -> Result<Library, Failure> {
     Library::open().map_err(unready)
 }
 
-/// Writes the outcome in a form; to a terminal in colour.
+/// Writes the outcome in a form.
 fn write(facts: &Facts, library: &str, form: Form, to: &mut impl Write) -> io::Result<()> {
     let mut text = Vec::new();
     match form {
@@ -178,9 +229,14 @@ fn write(facts: &Facts, library: &str, form: Form, to: &mut impl Write) -> io::R
         Form::Quiet => text::write_line(facts, &mut text)?,
         Form::Json => return writeln!(to, "{}", json::object(facts, library)),
     }
+    write_painted(&text, to)
+}
+
+/// Writes a text; to a terminal in colour.
+fn write_painted(text: &[u8], to: &mut impl Write) -> io::Result<()> {
     match colour::wanted() {
-        true => to.write_all(colour::painted(&String::from_utf8_lossy(&text)).as_bytes()),
-        false => to.write_all(&text),
+        true => to.write_all(colour::painted(&String::from_utf8_lossy(text)).as_bytes()),
+        false => to.write_all(text),
     }
 }
 

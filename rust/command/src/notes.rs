@@ -1,6 +1,7 @@
 //! What the command finds of an answer's cause by its own reading: a sentence that knows it, and notes behind the answer. The verdict, its number and its place
 //! are the checker's, and nothing here takes part in them.
 
+mod defined;
 mod encodings;
 mod grammars;
 mod headers;
@@ -101,6 +102,9 @@ pub fn cause(given: &Given, answer: Answer, point: &[u64]) -> Cause {
             sentence: None,
             hints: values::hints(given, answer.second as usize, point),
         };
+    }
+    if answer.number == 18 {
+        return defined::hint(given, answer.place).into();
     }
     let (text, most_words) = match answer.text {
         0 => (&given.script, MOST_SCRIPT_WORDS),

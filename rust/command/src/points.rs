@@ -428,11 +428,42 @@ fn nth_point(variables: &[Sorted], index: u64) -> Vec<u64> {
     point
 }
 
-/// The numbers of a text, separated by white space, with comments from `;` to the end of a line.
+/// The points that a text has.
 fn read(library: &mut Library, text: Text) -> Result<Points, Failure> {
+    let Numbers {
+        text,
+        numbers,
+        spans,
+    } = numbers_of(library, text, "points")?;
+    Ok(Points {
+        origin: Origin::File(text.name.clone()),
+        listed: numbers,
+        text: Some((text, spans)),
+        edges: Vec::new(),
+    })
+}
+
+/// The numbers of a text, and where each stands in it.
+pub struct Numbers {
+    pub text: Text,
+    pub numbers: Vec<u64>,
+    pub spans: Vec<Range<usize>>,
+}
+
+/// The numbers of a source, which are of this kind.
+pub fn located_numbers(
+    library: &mut Library,
+    source: &Source,
+    kind: &str,
+) -> Result<Numbers, Failure> {
+    numbers_of(library, source.read(MOST_BYTES)?, kind)
+}
+
+/// The numbers of a text, separated by white space, with comments from `;` to the end of a line.
+fn numbers_of(library: &mut Library, text: Text, kind: &str) -> Result<Numbers, Failure> {
     if text.bytes.len() > MOST_BYTES {
         return Err(Failure(format!(
-            "{} has more than {MOST_BYTES} bytes of points",
+            "{} has more than {MOST_BYTES} bytes of {kind}",
             text.name
         )));
     }
@@ -444,15 +475,14 @@ fn read(library: &mut Library, text: Text) -> Result<Points, Failure> {
             None => return Err(no_number(library, &text, at.clone())),
         }
     }
-    Ok(Points {
-        origin: Origin::File(text.name.clone()),
-        listed: numbers,
-        text: Some((text, spans)),
-        edges: Vec::new(),
+    Ok(Numbers {
+        text,
+        numbers,
+        spans,
     })
 }
 
-/// The message for a word that is no point number.
+/// The message for a word that is no number.
 fn no_number(library: &mut Library, text: &Text, at: Range<usize>) -> Failure {
     let Position { line, column, .. } = match library.position(&text.bytes, at.start) {
         Ok(position) => position,
@@ -466,7 +496,7 @@ fn no_number(library: &mut Library, text: &Text, at: Range<usize>) -> Failure {
     ))
 }
 
-/// Where the words of a text of points stand.
+/// Where the words of a text of numbers stand.
 fn spans_of(text: &[u8]) -> Vec<Range<usize>> {
     let mut spans = Vec::new();
     let mut start = None;

@@ -4,6 +4,7 @@
 use crate::arguments::Solver;
 use crate::failure::Failure;
 use crate::guards::{Count, Guard};
+use crate::listing::{self, Listed};
 use crate::points::{Origin, Parts, Points, Subject, Wanted, MOST_NUMBERS};
 use crate::program::program;
 use crate::progress::Progress;
@@ -34,6 +35,8 @@ pub struct Run {
     pub done: u64,
     /// The derivations that the checker shows.
     pub area: Vec<u16>,
+    /// The numbers of the first call with points.
+    pub first: Vec<u64>,
     /// The point that answer 14 or 15 names.
     pub point: Vec<u64>,
     /// After answer 0.
@@ -48,6 +51,7 @@ pub fn texts(library: &mut Library, given: &Given) -> Result<Run, Failure> {
         answer: Answer::default(),
         done: u64::from(given.read.variables.is_empty()),
         area: vec![0; AREA_LENGTH],
+        first: Vec::new(),
         point: Vec::new(),
         guards: Vec::new(),
         claim: None,
@@ -79,6 +83,22 @@ pub fn run(library: &mut Library, given: &mut Given, wanted: &Wanted) -> Result<
 }
 
 impl Run {
+    /// Asks for the steps of a function's body once the response is accepted, at the points of the first call; where the body has none, that is the answer.
+    pub fn steps(
+        &mut self,
+        library: &mut Library,
+        given: &Given,
+        function: u64,
+    ) -> Result<Option<Listed>, Failure> {
+        let texts = [&given.script.bytes[..], &given.response.bytes];
+        let mut area = listing::area();
+        let stepped = library.steps(texts, &self.first, given.budget, function, &mut area)?;
+        if stepped.answer.number != 0 {
+            self.answer = stepped.answer;
+        }
+        Ok(Listed::new(&given.read, function, &area, stepped.count))
+    }
+
     /// Asks a solver for a point at which a constraint is false, where the checker has found none and has not seen every point; the point that a solver gives
     /// comes after all others, and the answer there is the checker's own.
     pub fn refute(
@@ -163,6 +183,9 @@ impl Run {
                 break;
             }
             self.call(library, given, &numbers, given.budget - units)?;
+            if self.first.is_empty() {
+                self.first.clone_from(&numbers);
+            }
             units += self.answer.units;
             self.answer.units = units;
             if self.answer.number != 0 {

@@ -4,6 +4,7 @@ use crate::answers::{counted, file, grouped, sentence, verdict};
 use crate::derivation::Step;
 use crate::evaluation::shown;
 use crate::facts::{Derived, Facts, Judged, Located, Note};
+use crate::listing::Listed;
 use crate::refute::Claim;
 use std::env;
 use std::io::{self, IsTerminal, Write};
@@ -22,7 +23,7 @@ pub fn columns() -> usize {
 pub fn write_line(facts: &Facts, to: &mut impl Write) -> io::Result<()> {
     let answer = facts.answer;
     match &facts.located {
-        Some(located) => write!(to, "{}: ", placed(located))?,
+        Some(located) => write!(to, "{located}: ")?,
         None => write!(to, "{}: ", file(facts))?,
     }
     let verdict = verdict(answer.number).word();
@@ -54,6 +55,9 @@ pub fn write(facts: &Facts, columns: usize, to: &mut impl Write) -> io::Result<(
         writeln!(to, "points: {}", facts.given.points.origin)?;
         write_guards(facts, to)?;
         write_claim(facts, to)?;
+    }
+    if let Some(listed) = &facts.listed {
+        return write_list(listed, to);
     }
     for derived in &facts.derived {
         match facts.answer.number {
@@ -112,7 +116,7 @@ fn write_note(note: &Note, columns: usize, to: &mut impl Write) -> io::Result<()
     let Some(located) = &note.located else {
         return writeln!(to, "note: {}", note.message);
     };
-    writeln!(to, "{}: note: {}", placed(located), note.message)?;
+    writeln!(to, "{located}: note: {}", note.message)?;
     write_source(located, columns, to)
 }
 
@@ -121,13 +125,8 @@ fn at(file: &str, position: Position) -> String {
     format!("{file}:{}:{}", position.line, position.column)
 }
 
-/// A place as `file:line:column`.
-fn placed(located: &Located) -> String {
-    at(&located.file, located.place.position)
-}
-
 /// Writes the line of a place, and carets under its word.
-fn write_source(located: &Located, columns: usize, to: &mut impl Write) -> io::Result<()> {
+pub fn write_source(located: &Located, columns: usize, to: &mut impl Write) -> io::Result<()> {
     let line = format!("{:>5} | ", located.place.position.line);
     let (source, carets) = located.place.within(columns.saturating_sub(line.len()));
     writeln!(to, "{line}{source}")?;
@@ -207,6 +206,38 @@ fn write_step(count: usize, step: &Step, weights: bool, to: &mut impl Write) -> 
         write!(to, ", weight {weight}")?;
     }
     writeln!(to, "\n      {term}")
+}
+
+/// Writes steps: the number of each, what it does, and its four numbers.
+fn write_list(listed: &Listed, to: &mut impl Write) -> io::Result<()> {
+    let lines = listed.lines();
+    let steps = counted(lines.len() as u64, "step");
+    let values = counted(listed.height(), "value");
+    writeln!(
+        to,
+        "\n{}: {steps}, at most {values} on the stack",
+        listed.name
+    )?;
+    let width = lines.iter().map(|(words, _)| words.len()).max();
+    for (index, (words, numbers)) in lines.iter().enumerate() {
+        let numbers = spaced(numbers);
+        writeln!(to, "{index:>4}. {words:<0$}  {numbers}", width.unwrap_or(0))?;
+    }
+    Ok(())
+}
+
+/// Writes the numbers of steps alone, a step to a line.
+pub fn write_numbers(listed: &Listed, to: &mut impl Write) -> io::Result<()> {
+    let lines = listed.lines();
+    lines
+        .iter()
+        .try_for_each(|(_, numbers)| writeln!(to, "{}", spaced(numbers)))
+}
+
+/// Numbers with single spaces.
+fn spaced(numbers: &[u64]) -> String {
+    let numbers: Vec<String> = numbers.iter().map(u64::to_string).collect();
+    numbers.join(" ")
 }
 
 /// Writes the rule numbers of a derivation.

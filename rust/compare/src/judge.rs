@@ -2,7 +2,7 @@
 
 use crate::kinds::{kinds, KINDS};
 use crate::trial::Trial;
-use crate::{enquiries, texts};
+use crate::{controller, enquiries, texts};
 use std::{fmt, io};
 use sverdhyll::{Answer, Library};
 
@@ -11,13 +11,15 @@ pub struct Agreed {
     pub answer: Answer,
     /// Of which kinds it is that must come out.
     pub kinds: [bool; KINDS],
+    /// What came out of the calls for steps and their runs.
+    pub controlled: [u64; controller::KINDS],
 }
 
 /// Where the proved checker and the simple one part.
 pub struct Disagreement {
     pub proved: Answer,
     pub simple: Answer,
-    /// What is wrong: with the area, an enquiry or the texts' own answer where the answers are the same.
+    /// What is wrong: with the area, an enquiry, the texts' own answer, steps or their run where the answers are the same.
     pub fault: String,
 }
 
@@ -88,16 +90,17 @@ pub fn judged(library: &mut Library, trial: &Trial) -> io::Result<Result<Agreed,
         false => Some("the answers differ".to_string()),
         true => area_fault(&area, &simple_area),
     };
-    let fault = match fault {
-        Some(fault) => Some(fault),
-        None => other_fault(library, trial, &proved)?,
+    let controlled = match fault {
+        Some(fault) => Err(fault),
+        None => other_calls(library, trial, &proved)?,
     };
-    Ok(match fault {
-        None => Ok(Agreed {
+    Ok(match controlled {
+        Ok(controlled) => Ok(Agreed {
             kinds: kinds(case, &proved),
             answer: proved,
+            controlled,
         }),
-        Some(fault) => Err(Disagreement {
+        Err(fault) => Err(Disagreement {
             proved,
             simple,
             fault,
@@ -105,15 +108,19 @@ pub fn judged(library: &mut Library, trial: &Trial) -> io::Result<Result<Agreed,
     })
 }
 
-/// What is wrong with the proved checker's other calls, if anything.
-fn other_fault(
+/// What comes out of the calls for steps and their runs, or what is wrong with these or another call of the proved checker.
+fn other_calls(
     library: &mut Library,
     trial: &Trial,
     answer: &Answer,
-) -> io::Result<Option<String>> {
-    match texts::fault(library, trial, answer)? {
-        Some(fault) => Ok(Some(fault)),
-        None => enquiries::fault(library, trial, answer),
+) -> io::Result<controller::Counted> {
+    let fault = match texts::fault(library, trial, answer)? {
+        Some(fault) => Some(fault),
+        None => enquiries::fault(library, trial, answer)?,
+    };
+    match fault {
+        Some(fault) => Ok(Err(fault)),
+        None => controller::counted(library, trial),
     }
 }
 

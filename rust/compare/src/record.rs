@@ -28,11 +28,13 @@ fn numbers(trial: &Trial) -> String {
     let (case, area) = (&trial.case, &trial.area);
     let lent = area.first().map_or(0, |&entry| entry);
     format!(
-        "points {:?}\nbudget {}\narea of {} entries, each {lent}\nenquiries at {:?}\n",
+        "points {:?}\nbudget {}\narea of {} entries, each {lent}\nenquiries at {:?}\nsteps of function {} to an area of {} numbers\n",
         case.points,
         case.budget,
         area.len(),
-        trial.enquiries
+        trial.enquiries,
+        trial.asked.function,
+        trial.asked.area.len()
     )
 }
 

@@ -1,5 +1,6 @@
 //! How often each answer came out.
 
+use crate::controller;
 use crate::judge::Agreed;
 use crate::kinds::{KINDS, NAMES};
 use std::fmt;
@@ -27,11 +28,12 @@ const SPOKEN_OF: [&[u8]; 17] = [
     &[2],
 ];
 
-/// How often each answer came out of each text, and how often each kind did.
+/// How often each answer came out of each text, how often each kind did, and what came out of the calls for steps and their runs.
 #[derive(Default)]
 pub struct Tally {
     answers: [[u64; 4]; 17],
     kinds: [u64; KINDS],
+    controlled: [u64; controller::KINDS],
 }
 
 impl Tally {
@@ -42,12 +44,17 @@ impl Tally {
         for (count, &is_one) in self.kinds.iter_mut().zip(&agreed.kinds) {
             *count += u64::from(is_one);
         }
+        for (count, more) in self.controlled.iter_mut().zip(agreed.controlled) {
+            *count += more;
+        }
     }
 
     /// Adds another tally.
     pub fn add(&mut self, other: &Tally) {
         let counts = self.answers.iter_mut().flatten().chain(&mut self.kinds);
+        let counts = counts.chain(&mut self.controlled);
         let others = other.answers.iter().flatten().chain(&other.kinds);
+        let others = others.chain(&other.controlled);
         for (count, others) in counts.zip(others) {
             *count += others;
         }
@@ -60,6 +67,7 @@ impl Tally {
         let none = all.filter(|&(number, text)| self.answers[number][usize::from(text)] == 0);
         let name = |(number, text)| format!("answer {number} about {}", TEXTS[usize::from(text)]);
         let kinds = NAMES.iter().zip(self.kinds);
+        let kinds = kinds.chain(controller::NAMES.iter().zip(self.controlled));
         let kinds = kinds.filter(|&(_, count)| count == 0);
         let kinds = kinds.map(|(name, _)| name.to_string());
         none.map(name).chain(kinds).collect()
@@ -75,6 +83,9 @@ impl fmt::Display for Tally {
         }
         for (name, count) in NAMES.iter().zip(self.kinds) {
             writeln!(to, "{name}: {count} cases")?;
+        }
+        for (name, count) in controller::NAMES.iter().zip(self.controlled) {
+            writeln!(to, "{name}: {count}")?;
         }
         Ok(())
     }

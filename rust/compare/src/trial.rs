@@ -1,5 +1,6 @@
 //! A case with its lent area, from a seed and a number.
 
+use crate::controller::Asked;
 use simple::generate::random::Random;
 use simple::generate::{crowded, mutated, noise, sized, tangled, valid, Case};
 use simple::AREA_LENGTH;
@@ -11,6 +12,8 @@ pub struct Trial {
     pub area: Vec<u16>,
     /// A place of the script and one of the response where enquiries are made.
     pub enquiries: [usize; 2],
+    /// What is asked about steps.
+    pub asked: Asked,
 }
 
 /// Makes a case from a seed.
@@ -54,6 +57,7 @@ pub fn trial(seed: u64, number: u64) -> Trial {
         case,
         area: vec![lent; length],
         enquiries,
+        asked: Asked::new(&mut random),
     }
 }
 

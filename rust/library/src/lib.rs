@@ -3,6 +3,7 @@
 //! [`Library::check`] takes a SyGuS script, the response that a solver printed, points and a budget, and gives one [`Answer`]; [`Answer::outcome`] says what it
 //! means as an enum, whose documentation is the table of answers. [`Library::read`] gives the answer of the two texts alone, where there are no points yet.
 //! [`Library::word`] and [`Library::position`] say of any place of a text which word starts there, and in which line and column it stands.
+//! [`Library::steps`] turns the body of an accepted response into steps for a small stack controller, and [`Library::run`] runs any list of such steps.
 //!
 //! ```no_run
 //! use sverdhyll::{Library, Outcome, AREA_LENGTH};
@@ -57,6 +58,10 @@ pub const UNUSED: u16 = 65_535;
 pub const FIRST_ASSUMPTION: u64 = 64;
 /// "8 synthesized functions".
 pub const FUNCTIONS: usize = 8;
+/// "an area not of 1,024 64-bit numbers (answer 17 ...)".
+pub const STEPS_LENGTH: usize = 1_024;
+/// A step has so many numbers.
+pub const STEP: usize = 4;
 /// So many numbers make an answer.
 const NUMBERS: usize = 16;
 
@@ -92,6 +97,42 @@ pub struct Position {
     pub line: u64,
     /// From 1, in bytes.
     pub column: u64,
+}
+
+/// What the steps of a body come to.
+#[derive(Clone, Copy, Debug, PartialEq, Eq, Hash)]
+pub struct Stepped {
+    pub answer: Answer,
+    /// How many steps were written; 0 after any answer but 0.
+    pub count: usize,
+}
+
+/// What a run of steps comes to: after answer 0 a value and its sort.
+#[derive(Clone, Copy, Debug, PartialEq, Eq, Hash)]
+pub struct Ran {
+    /// Its number is 0, 19 or 20, its text 3, and no number of it but the place is other than 0.
+    pub answer: Answer,
+    /// The value, 0 or 1 for a Bool; 0 where the answer is not 0.
+    pub value: u64,
+    /// Its sort: 0 for Bool, else the width; 0 where the answer is not 0.
+    pub sort: u64,
+}
+
+impl Ran {
+    /// What the runner gives: the answer's number, its place, the value and its sort.
+    fn of([number, place, value, sort]: [u64; 4]) -> Ran {
+        let answer = Answer {
+            number: number as u8,
+            text: 3,
+            place,
+            ..Answer::default()
+        };
+        Ran {
+            answer,
+            value,
+            sort,
+        }
+    }
 }
 
 impl Answer {
@@ -178,6 +219,29 @@ impl Library {
     /// Where a place of any text stands; one past its end has the line and the column of the end. Fails only where the worker has gone.
     pub fn position(&mut self, text: &[u8], place: usize) -> io::Result<Position> {
         self.held.position(text, place)
+    }
+
+    /// The steps of the body of a function, from 0 in the order of the script, for a script and a response in this order. Fails only where the worker has gone.
+    ///
+    /// `area` is lent, and must have [`STEPS_LENGTH`] numbers, else the answer is 17. Where [`Library::check`] accepts the response at these points within this
+    /// budget, and the script has the function, and its body uses no `define-fun`, the answer is that of the check, and the list stands in the first
+    /// [`STEP`] · `count` numbers of the area; else the answer is that of the check or 18. What no step uses stays as it was lent.
+    pub fn steps(
+        &mut self,
+        texts: [&[u8]; 2],
+        points: &[u64],
+        budget: u64,
+        function: u64,
+        area: &mut [u64],
+    ) -> io::Result<Stepped> {
+        self.held.steps(texts, points, budget, function, area)
+    }
+
+    /// Runs a list of steps, wherever it comes from, on arguments of the sorts given along: 0 for Bool, else a width. Fails only where the worker has gone.
+    ///
+    /// The answer is 0 with the value that the list ends with, 20 at the argument or its sort that is at fault, or 19 at the step that is refused.
+    pub fn run(&mut self, sorts: &[u64], arguments: &[u64], steps: &[u64]) -> io::Result<Ran> {
+        self.held.run(sorts, arguments, steps)
     }
 
     /// The SHA-256 of the static library that answers, in hexadecimal.

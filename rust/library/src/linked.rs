@@ -2,7 +2,7 @@
 
 #![allow(unsafe_code)]
 
-use crate::{Answer, Position, NUMBERS};
+use crate::{Answer, Position, Ran, Stepped, NUMBERS};
 use std::io;
 
 // As include/sverdhyll.h declares them.
@@ -38,6 +38,34 @@ extern "C" {
         line: *mut u64,
         column: *mut u64,
     );
+    /// The steps of a body: returns the answer's number, writes the list to the area, and puts the number of steps and the numbers of the answer where the last
+    /// two pointers lead.
+    fn sverdhyll_steps(
+        script: *const u8,
+        script_len: usize,
+        response: *const u8,
+        response_len: usize,
+        points: *const u64,
+        points_len: usize,
+        budget: u64,
+        function: u64,
+        area: *mut u64,
+        area_len: usize,
+        count: *mut usize,
+        answer: *mut u64,
+    ) -> u8;
+    /// The runner: returns the answer's number, and puts the place, the value and its sort where the last three pointers lead.
+    fn sverdhyll_run(
+        sorts: *const u64,
+        sorts_len: usize,
+        arguments: *const u64,
+        arguments_len: usize,
+        steps: *const u64,
+        steps_len: usize,
+        place: *mut u64,
+        value: *mut u64,
+        sort: *mut u64,
+    ) -> u8;
 }
 
 /// The linked library, which keeps nothing between calls.
@@ -106,6 +134,58 @@ impl Held {
         unsafe { sverdhyll_position(text.as_ptr(), text.len(), place, &mut line, &mut column) };
         let end = (place + self.word(text, place)?) as u64;
         Ok(Position { end, line, column })
+    }
+
+    /// Calls `sverdhyll_steps`.
+    pub fn steps(
+        &mut self,
+        texts: [&[u8]; 2],
+        points: &[u64],
+        budget: u64,
+        function: u64,
+        area: &mut [u64],
+    ) -> io::Result<Stepped> {
+        let [script, response] = texts;
+        let (mut count, mut numbers) = (0, [0; NUMBERS]);
+        // SAFETY: each pointer is that of a slice with its length, of the count or of the sixteen numbers, and the library keeps none of them.
+        unsafe {
+            sverdhyll_steps(
+                script.as_ptr(),
+                script.len(),
+                response.as_ptr(),
+                response.len(),
+                points.as_ptr(),
+                points.len(),
+                budget,
+                function,
+                area.as_mut_ptr(),
+                area.len(),
+                &mut count,
+                numbers.as_mut_ptr(),
+            )
+        };
+        let answer = Answer::of(numbers);
+        Ok(Stepped { answer, count })
+    }
+
+    /// Calls `sverdhyll_run`.
+    pub fn run(&mut self, sorts: &[u64], arguments: &[u64], steps: &[u64]) -> io::Result<Ran> {
+        let (mut place, mut value, mut sort) = (0, 0, 0);
+        // SAFETY: the first three pointers are those of slices with their lengths, which are only read, and the others are those of numbers that are written.
+        let number = unsafe {
+            sverdhyll_run(
+                sorts.as_ptr(),
+                sorts.len(),
+                arguments.as_ptr(),
+                arguments.len(),
+                steps.as_ptr(),
+                steps.len(),
+                &mut place,
+                &mut value,
+                &mut sort,
+            )
+        };
+        Ok(Ran::of([number.into(), place, value, sort]))
     }
 
     /// The digest of the library that was linked, by build.rs.

@@ -54,6 +54,10 @@ impl fmt::Display for Position {
 /// | 14 | `ConstraintFalse` | a constraint is false at a point | point, constraint, units |
 /// | 15 | `BudgetEnded` | the budget does not suffice for a constraint or an assumption at a point | point, constraint, or [`FIRST_ASSUMPTION`] and the assumption, units |
 /// | 16 | `BadPoints` | the points are not whole, or a number is outside its sort | the list's length, or the number's index |
+/// | 17 | `AreaMissized` | an area for steps that is not of its size | its length |
+/// | 18 | `NoSteps` | the script has no function of this number, or its body uses a `define-fun` | the function |
+/// | 19 | `BadStep` | a step that is malformed or cut short, or cannot be run; a list that does not end with one value | the step, or the number of steps |
+/// | 20 | `BadArgument` | arguments that are not as many as sorts, a number that is no sort, or an argument outside its sort | the number of arguments, or the index |
 #[derive(Clone, Copy, Debug, PartialEq, Eq, Hash)]
 #[non_exhaustive]
 pub enum Outcome {
@@ -132,6 +136,14 @@ pub enum Outcome {
     },
     /// 16: points that are not whole, or a number outside its sort.
     BadPoints { at: u64 },
+    /// 17: an area for steps that is not of its size.
+    AreaMissized { length: u64 },
+    /// 18: a function that the script lacks, or whose body uses a `define-fun`.
+    NoSteps { function: u64 },
+    /// 19: a step that is refused, or the number of steps where the list does not end with one value.
+    BadStep { step: u64 },
+    /// 20: arguments of wrong count or range.
+    BadArgument { at: u64 },
     /// A number that this version of the crate does not know.
     Other(Answer),
 }
@@ -194,6 +206,10 @@ impl From<Answer> for Outcome {
                 units,
             },
             16 => Outcome::BadPoints { at },
+            17 => Outcome::AreaMissized { length: place },
+            18 => Outcome::NoSteps { function: place },
+            19 => Outcome::BadStep { step: place },
+            20 => Outcome::BadArgument { at },
             _ => Outcome::Other(answer),
         }
     }
@@ -230,6 +246,10 @@ impl fmt::Display for Outcome {
                 write!(to, "the budget ends before {kind} {number} at point {point}; units spent: {units}")
             }
             Outcome::BadPoints { at } => write!(to, "the points are not whole, or number {at} is outside its sort"),
+            Outcome::AreaMissized { length } => write!(to, "the area for steps has {length} numbers, not {}", crate::STEPS_LENGTH),
+            Outcome::NoSteps { function } => write!(to, "function {function} has no steps: the script lacks it, or its body uses a define-fun"),
+            Outcome::BadStep { step } => write!(to, "step {step} cannot be run, or the list does not end there with one value"),
+            Outcome::BadArgument { at } => write!(to, "there are not as many arguments as sorts, or number {at} is no sort or outside its sort"),
             Outcome::Other(Answer { number, .. }) => write!(to, "answer {number}, which this version does not know"),
         }
     }
@@ -257,7 +277,7 @@ mod tests {
 
     #[test]
     fn every_number_has_its_own_outcome() {
-        let outcomes: Vec<Outcome> = (0..=16).map(|number| answer(number, 0).into()).collect();
+        let outcomes: Vec<Outcome> = (0..=20).map(|number| answer(number, 0).into()).collect();
         for (number, outcome) in outcomes.iter().enumerate() {
             assert!(!matches!(outcome, Outcome::Other(_)), "{number}");
             assert_eq!(
@@ -268,7 +288,7 @@ mod tests {
                 1
             );
         }
-        assert_eq!(Outcome::from(answer(17, 3)), Outcome::Other(answer(17, 3)));
+        assert_eq!(Outcome::from(answer(21, 3)), Outcome::Other(answer(21, 3)));
     }
 
     #[test]

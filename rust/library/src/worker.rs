@@ -1,7 +1,7 @@
 //! The static library in a worker process. Both sides send frames: eight bytes with a length, low byte first, then so many bytes. All numbers have their
 //! low byte first.
 
-use crate::{Answer, Position};
+use crate::{Answer, Position, Ran, Stepped};
 use std::env;
 use std::io::{self, Read, Write};
 use std::path::PathBuf;
@@ -25,6 +25,10 @@ const READ: &[u8] = b"read";
 const WORD: &[u8] = b"word";
 /// The frame that begins an enquiry for a place.
 const POSITION: &[u8] = b"position";
+/// The frame that asks for the steps of a body.
+const STEPS: &[u8] = b"steps";
+/// The frame that asks for a run of steps.
+const RUN: &[u8] = b"run";
 /// How many bytes a number has.
 const BYTES: usize = 8;
 
@@ -97,7 +101,7 @@ impl Held {
         budget: u64,
         shown: &mut [u16],
     ) -> io::Result<Answer> {
-        let points: Vec<u8> = points.iter().flat_map(|one| one.to_le_bytes()).collect();
+        let points = bytes(points);
         let mut area: Vec<u8> = shown.iter().flat_map(|one| one.to_le_bytes()).collect();
         let budget = budget.to_le_bytes();
         self.send(&[CHECK, script, response, &points, &budget, &area])?;
@@ -127,6 +131,35 @@ impl Held {
         self.send(&[POSITION, text, &(place as u64).to_le_bytes()])?;
         let [end, line, column] = self.receive_numbers()?;
         Ok(Position { end, line, column })
+    }
+
+    /// Asks the worker for `sverdhyll_steps`.
+    pub fn steps(
+        &mut self,
+        texts: [&[u8]; 2],
+        points: &[u64],
+        budget: u64,
+        function: u64,
+        area: &mut [u64],
+    ) -> io::Result<Stepped> {
+        let [script, response] = texts;
+        let (points, mut lent) = (bytes(points), bytes(area));
+        let chosen = bytes(&[budget, function]);
+        self.send(&[STEPS, script, response, &points, &chosen, &lent])?;
+        let answer = Answer::of(self.receive_numbers()?);
+        let [count] = self.receive_numbers()?;
+        self.receive(&mut lent)?;
+        for (number, bytes) in area.iter_mut().zip(lent.chunks_exact(BYTES)) {
+            *number = u64::from_le_bytes(bytes.try_into().expect("the bytes of a number"));
+        }
+        let count = count as usize;
+        Ok(Stepped { answer, count })
+    }
+
+    /// Asks the worker for `sverdhyll_run`.
+    pub fn run(&mut self, sorts: &[u64], arguments: &[u64], steps: &[u64]) -> io::Result<Ran> {
+        self.send(&[RUN, &bytes(sorts), &bytes(arguments), &bytes(steps)])?;
+        Ok(Ran::of(self.receive_numbers()?))
     }
 
     /// Sends frames.
@@ -178,6 +211,12 @@ impl Held {
         }
         self.answers.read_exact(frame).map_err(|_| self.gone())
     }
+}
+
+/// Numbers as bytes.
+fn bytes(numbers: &[u64]) -> Vec<u8> {
+    let bytes = numbers.iter().flat_map(|one| one.to_le_bytes());
+    bytes.collect()
 }
 
 impl Drop for Held {

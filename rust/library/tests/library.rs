@@ -1,6 +1,9 @@
-//! The library through its Rust interface: the swap case, refusals, the texts' own answers, names that are taken, places, the enquiries, its digest, and many checks by one process.
+//! The library through its Rust interface: the swap case, refusals, the texts' own answers, names that are taken, places, the enquiries, steps and
+//! their runs, its digest, and many checks by one process.
 
-use sverdhyll::{Answer, Library, Outcome, Position, Text, AREA_LENGTH, UNUSED};
+use sverdhyll::{
+    Answer, Library, Outcome, Position, Stepped, Text, AREA_LENGTH, STEP, STEPS_LENGTH, UNUSED,
+};
 
 /// The script of the shipped example.
 const SCRIPT: &[u8] = include_bytes!("../../../examples/swap.sy");
@@ -238,4 +241,76 @@ fn many_checks_by_one_process() {
         assert_eq!(answer.number, if budget < 24 { 15 } else { 0 });
         assert_eq!(answer.units, 8 * (budget / 8).min(3));
     }
+}
+
+/// The steps of the shipped example's body, with what stands behind them.
+fn stepped(
+    library: &mut Library,
+    budget: u64,
+    function: u64,
+    length: usize,
+) -> (Stepped, Vec<u64>) {
+    let mut area = vec![7; length];
+    let stepped = library.steps([SCRIPT, RESPONSE], &[], budget, function, &mut area);
+    (stepped.expect("an answer"), area)
+}
+
+#[test]
+fn steps_of_a_body() {
+    let mut library = Library::open().expect("a library");
+    let (stepped, area) = stepped(&mut library, 24, 0, STEPS_LENGTH);
+    let accepted = Answer {
+        units: 24,
+        ..answer(0, 3, 0, 1)
+    };
+    assert_eq!((stepped.answer, stepped.count), (accepted, 4));
+    let (list, rest) = area.split_at(STEP * stepped.count);
+    let expected = [1, 0, 0, 0, 3, 22, 15, 0, 2, 0, 16, 0, 3, 21, 2, 0];
+    assert_eq!(list, expected);
+    assert!(rest.iter().all(|&number| number == 7));
+    let ran = library.run(&[32], &[0xdead_beef], list).expect("a run");
+    assert_eq!((ran.answer, ran.value), (answer(0, 3, 0, 0), 0xbeef_0000));
+    assert_eq!(ran.sort, 32);
+}
+
+#[test]
+fn bodies_without_steps() {
+    let mut library = Library::open().expect("a library");
+    let ended = Answer {
+        units: 16,
+        ..answer(15, 2, 0, 2)
+    };
+    for (budget, function, length, expected) in [
+        (23, 0, STEPS_LENGTH, ended),
+        (24, 1, STEPS_LENGTH, answer(18, 3, 1, 0)),
+        (24, u64::MAX, STEPS_LENGTH, answer(18, 3, u64::MAX, 0)),
+        (23, 1, 3, answer(17, 3, 3, 0)),
+        (23, 1, STEPS_LENGTH + 1, answer(17, 3, 1_025, 0)),
+    ] {
+        let (stepped, area) = stepped(&mut library, budget, function, length);
+        assert_eq!((stepped.answer, stepped.count), (expected, 0));
+        assert!(area.iter().all(|&number| number == 7));
+    }
+}
+
+#[test]
+fn runs_that_are_refused() {
+    let mut library = Library::open().expect("a library");
+    for (sorts, arguments, steps, number, place) in [
+        (&[8][..], &[1, 2][..], &[][..], 20, 2),
+        (&[8, 65], &[1, 2], &[9], 20, 1),
+        (&[], &[], &[2, 1, 8, 0, 3, 13, 2, 0], 19, 1),
+        (&[], &[], &[2, 1, 8, 0, 2], 19, 1),
+        (&[], &[], &[], 19, 0),
+    ] {
+        let ran = library.run(sorts, arguments, steps).expect("a run");
+        assert_eq!(ran.answer, answer(number, 3, place, 0));
+        assert_eq!((ran.value, ran.sort), (0, 0));
+    }
+    let outcome = library
+        .run(&[0], &[2], &[])
+        .expect("a run")
+        .answer
+        .outcome();
+    assert_eq!(outcome, Outcome::BadArgument { at: 0 });
 }

@@ -323,7 +323,7 @@ fn modulo(width: u32, result: u128) -> Value {
 }
 
 /// `(_ extract i j)` of a value.
-fn extract(i: u32, j: u32, value: Value) -> Value {
+pub(crate) fn extract(i: u32, j: u32, value: Value) -> Value {
     match value {
         Value::Bits { bits, .. } => modulo(i - j + 1, u128::from(bits >> j)),
         Value::Bool(_) => unreachable!("extract of a Bool"),
@@ -357,7 +357,7 @@ fn pairwise_distinct(operands: &[Value]) -> Value {
 
 /// The value of an operator other than extract, "As in SMT-LIB"; "`and or xor` group from the left, `=>` from the right, `=`
 /// chains, `distinct` is pairwise".
-fn apply(operator: &str, operands: &[Value]) -> Value {
+pub(crate) fn apply(operator: &str, operands: &[Value]) -> Value {
     use Value::{Bits, Bool};
     match (operator, operands) {
         ("not", [Bool(a)]) => Bool(!a),

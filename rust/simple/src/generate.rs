@@ -1,7 +1,8 @@
 //! Random cases from a seed, for tests that compare two checkers: sound ones, such whose bodies have many derivations, mutations of them, cases about the limits,
-//! and noise.
+//! and noise; and lists of steps.
 
 mod draft;
+mod foreign;
 mod mutate;
 mod noise;
 pub mod random;
@@ -14,7 +15,9 @@ use crate::{
     check, response, script, words, AREA_LENGTH, FIRST_ASSUMPTION, MOST_RESPONSE_BYTES,
     MOST_SCRIPT_BYTES,
 };
+pub use draft::value;
 use draft::{draft, tower, Draft};
+pub use foreign::{foreign, Run};
 use random::Random;
 
 /// The units that an evaluation may take, whatever the budget of a case.

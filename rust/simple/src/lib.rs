@@ -2,7 +2,8 @@
 //!
 //! `check` is the whole of it, and `read` what the two texts answer by themselves. Its parts are there for other programs that read the same texts: the words of
 //! a text (`words`), their ends with lines and columns (`places`), trees of words (`tree`), sorts (`operators`), the forms of commands, terms and constants
-//! (`commands`, `terms`, `constants`), what a script and a response say (`script`, `response`, `grammar`), and values and costs of terms (`eval`).
+//! (`commands`, `terms`, `constants`), what a script and a response say (`script`, `response`, `grammar`), values and costs of terms (`eval`), and the steps of
+//! a body with the controller that runs them (`steps`).
 
 pub mod commands;
 pub mod constants;
@@ -15,6 +16,7 @@ pub mod replay;
 pub mod response;
 pub mod script;
 mod signed;
+pub mod steps;
 pub mod terms;
 pub mod tree;
 pub mod words;

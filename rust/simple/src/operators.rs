@@ -122,6 +122,12 @@ pub fn operator(name: &str) -> Option<&'static Operator> {
     OPERATORS.iter().find(|operator| operator.name == name)
 }
 
+/// "operator's number in the table", which counts from 0.
+pub fn operator_number(name: &str) -> Option<u64> {
+    let index = OPERATORS.iter().position(|one| one.name == name)?;
+    Some(index as u64)
+}
+
 impl Operator {
     /// Whether it may have so many operands.
     pub fn takes(&self, count: usize) -> bool {

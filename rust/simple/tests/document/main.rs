@@ -1,5 +1,5 @@
 //! Document 01 run: the readings, the vectors, the bench, constants, signed operators, assumptions, ends, lines and columns, names that are taken, non-terminals that
-//! derive no term, the least of several derivations, weights, the texts' own answers, every limit and every row of the table of answers.
+//! derive no term, the least of several derivations, weights, the texts' own answers, steps for the controller, every limit and every row of the table of answers.
 
 mod answers;
 mod assumptions;
@@ -16,6 +16,7 @@ mod places;
 mod readings;
 mod reserved;
 mod signed;
+mod steps;
 mod texts;
 mod vectors;
 mod weights;
