@@ -1,13 +1,21 @@
 -- The answer of the list of steps, from the checker's own answer and the steps of the function's body.
-use Prim.Native.Nat.{ℕ}
+use Prim.Native.Nat.{ℕ, zero, suc, _+_, _*_}
 use native.Mathlib.Omega.{arith}
 use mathlib.Core.Path.{_≡_, refl, sym, ap, subst, _∙_}
+use mathlib.Core.Bool.{Bool, true, false, _&&_}
 use mathlib.Core.List.{List}
+use borrow.Author.Tests.{eqb-true, eqb-false}
+use lib.Dec.{eqb, leb}
 use lib.ListN.{length}
+use Rattle.forest.specs.Limits.{areaSize}
+use Rattle.words.specs.Limits.{responseLimits}
+use Rattle.words.specs.declared.Limits.{Limits}
 use Rattle.script.specs.Script.{Known}
 use Rattle.script.specs.Response.{Body}
 use Rattle.script.specs.Outcome.{given, responseOutcome, said, scriptOutcome}
-use Rattle.outcome.specs.Checked.{Checked, refusal, unshown}
+use Rattle.script.specs.code.Answers.{pointsAnswer}
+use Rattle.outcome.specs.Accepted.{Declined}
+use Rattle.outcome.specs.Checked.{Checked, judged, missized, refusal, unshown}
 use Rattle.outcome.specs.Demands.{BodiesDerived, Showing, accepted, showing}
 use Rattle.outcome.specs.Derived.{blankArea, noTotals}
 use Rattle.outcome.specs.Located.{located, noLocation}
@@ -18,11 +26,21 @@ use Rattle.outcome.specs.declared.Outcome.{Outcome}
 use Rattle.outcome.specs.declared.Weighed.{Weighed}
 use Rattle.outcome.proofs.Areas.{blank-long, unshown-blank}
 use Rattle.outcome.proofs.Exact.{exact}
-use Rattle.checker.specs.code.Judge.{Judging}
+use Rattle.terms.specs.code.Nodes.{rowWidth as nodeWidth}
+use Rattle.texts.specs.code.Texts.{shortResponse, shortScript}
+use Rattle.names.specs.code.Lookup.{Names}
+use Rattle.script.specs.code.Places.{placesLength}
+use Rattle.both_texts.specs.code.Both.{Lent}
+use Rattle.both_texts.proofs.Reading.{short-rooms}
+use Rattle.verdicts.specs.code.Evaluate.{Evaluable, Evaluates}
+use Rattle.accepting.specs.code.Bodies.{AllDerived, TextsAnswered}
+use Rattle.accepting.specs.declared.TextsWeighed.{TextsWeighed}
+use Rattle.checker.specs.code.Judge.{PointsJudged}
 use Rattle.checker.specs.code.Sizes.{SizesTold}
-use Rattle.checker.specs.code.Stepping.{AnsweredAlone, BodySteps, BothPass, TextsListed, applying, lacking, written}
+use Rattle.checker.specs.code.Stepping.{AnsweredAlone, AnsweredFrom, BodiesAnswered, BodySteps, HeldAnswer, HeldJudged, Judgeable, ListGiven, TextsListed, applying, lacking, written}
 use Rattle.checker.specs.declared.stepping.Listed.{Listed}
-use Rattle.checker.proofs.Sizing.{size-refused, sizes-right}
+use Rattle.checker.proofs.TextsAnswer.{lent}
+use Rattle.checker.proofs.Judgements.{all-derive, declined-checked, evaluable}
 
 -- an answer that speaks of no text
 pub refused-is : {number place : ℕ} {o : Outcome} {weights : List ℕ} → o ≡ refusal number 3 place → weights ≡ noTotals
@@ -30,33 +48,156 @@ pub refused-is : {number place : ℕ} {o : Outcome} {weights : List ℕ} → o �
     (record { answer = stepRefusal number place; count = 0 })
 refused-is e none = rw (e, none)
 
-module _ {script response points shown : List ℕ} (blank : shown ≡ blankArea) {r : Outcome} (told : SizesTold script response points (length shown) r) where
-  -- an area that shows nothing is as if it were made so
-  stays : shown ≡ unshown shown
-  stays = blank ∙ sym (unshown-blank shown (ap length blank ∙ blank-long))
+-- an area that shows nothing is of its size
+right-size : length blankArea ≡ areaSize
+right-size = blank-long
 
+module _ {script response points names places nodes : List ℕ} {o : Outcome} (sizes : SizesTold script response points areaSize o) {r : TextsWeighed} where
   -- a size is not right
-  pub size-declined : {budget : ℕ} {w : Weighed} → (r .number ≡ 0 → ⊥) → w ≡ record { outcome = r; totals = noTotals }
-      → Checked script response points budget shown (w .outcome) shown (w .totals)
-  size-declined other e = size-refused shown told stays other e
-
-  -- every size is
-  pub to-judge : r .number ≡ 0 → Judging script response points shown
-  to-judge none = sizes-right shown told stays none
-
-module _ {script response points : List ℕ} {budget : ℕ} where
-  -- the answer in an area of its own
-  pub alone : {shown after weights : List ℕ} {o : Outcome} {l : Location} → shown ≡ blankArea → Checked script response points budget shown o after weights
-      → l ≡ located script response o → AnsweredAlone script response points budget (record { outcome = o; location = l; totals = weights })
-  alone {after = after} {weights} {o} blank checked carried =
+  pub size-declined : (o .number ≡ 0 → ⊥) → r .weighed ≡ record { outcome = o; totals = noTotals } → BodiesAnswered script response points names places nodes r
+  size-declined other e =
       record {
-        shown = after;
-        given = record {
-          checked = subst (λ (area : List ℕ). Checked script response points budget area o after weights) blank checked;
-          carried = carried;
-        };
+        all! = λ zero. absurd (other (sym (ap (λ (w : Weighed). w .outcome .number) e) ∙ zero));
+        declined! = λ some budget.
+            subst (λ (w : Weighed). Checked script response points budget blankArea (w .outcome) blankArea (w .totals)) (sym e)
+            (subst (λ (shown : List ℕ). Checked script response points budget blankArea o shown noTotals) (unshown-blank blankArea right-size)
+            (missized (sizes .refused other blankArea right-size)));
       }
 
+  -- every size is, and the texts and their bodies are answered
+  pub bodies-answered : {limits : Limits} {forms shown between : List ℕ} → o .number ≡ 0 → limits ≡ responseLimits → shown ≡ blankArea
+      → TextsAnswered limits script response names places nodes forms r between → length between ≡ length shown
+      → BodiesAnswered script response points names places nodes r
+  bodies-answered {limits} {forms} {shown} {between} none e blank told long =
+      let sized = sizes .passes none blankArea right-size in
+      record {
+        all! = λ zero.
+            record {
+              forms = forms;
+              shown = between;
+              sized = sized;
+              long = long ∙ ap length blank;
+              all = subst (λ (l : Limits). AllDerived l script response names places nodes forms (r .progress) between (r .weighed .totals)) e (told .all! zero);
+            };
+        declined! = λ other budget.
+            let declined = subst (λ (l : Limits). Declined l script response (r .weighed .outcome)) e (told .declined! other) in
+            rw (told .unweighed! other) (declined-checked sized declined);
+      }
+
+module _ {script response points names places nodes : List ℕ} {told : TextsWeighed} (answered : BodiesAnswered script response points names places nodes told)
+  where
+    -- what the evaluation asks
+    pub judgeable : Judgeable names places nodes told
+    judgeable = record { evaluable! = λ z. evaluable (answered .all! z .all) }
+
+    module _ {budget : ℕ} {w : Weighed} (judged-so : HeldJudged names places nodes told points budget w) where
+      -- an answer on the bodies stays
+      stays : (told .weighed .outcome .number ≡ 0 → ⊥) → Checked script response points budget blankArea (w .outcome) blankArea (w .totals)
+      stays other =
+          subst (λ (x : Weighed). Checked script response points budget blankArea (x .outcome) blankArea (x .totals)) (sym (judged-so .declined! other))
+          (answered .declined! other budget)
+
+      module _ (zero : told .weighed .outcome .number ≡ 0) where
+        -- the points, where every body is derived
+        points-judged : {after : List ℕ}
+            → PointsJudged names places nodes (told .progress) points budget (answered .all! zero .shown) (w .outcome) after
+            → Checked script response points budget blankArea (w .outcome) after (w .totals)
+        points-judged p =
+            let d = answered .all! zero in
+            let passing = d .all .both .passing in
+            judged (record { sized = d .sized; says = passing .says; gives = passing .gives })
+            (all-derive (d .all) (d .long) p (judged-so .bad! zero) (judged-so .other! zero))
+
+        -- after 16 the area would show nothing
+        after-16 : w .outcome .number ≡ pointsAnswer
+            → PointsJudged names places nodes (told .progress) points budget (answered .all! zero .shown) (w .outcome) (unshown (answered .all! zero .shown))
+        after-16 e = record { given = judged-so .given! zero; bad! = λ n. refl; other! = λ other. absurd (other e) }
+
+        -- after any other it would be as it was
+        after-other : (w .outcome .number ≡ pointsAnswer → ⊥)
+            → PointsJudged names places nodes (told .progress) points budget (answered .all! zero .shown) (w .outcome) (answered .all! zero .shown)
+        after-other other = record { given = judged-so .given! zero; bad! = λ n. absurd (other n); other! = λ n. refl }
+
+      module _ {l : Location} (carried : l ≡ located script response (w .outcome)) where
+        -- the checker's own answer
+        pub answered-from : AnsweredFrom script response points budget told (record { outcome = w .outcome; location = l; totals = w .totals })
+        answered-from = go (told .weighed .outcome .number) refl
+          where
+            at : (zero : told .weighed .outcome .number ≡ 0) (b : Bool) → eqb (w .outcome .number) pointsAnswer ≡ b
+                → AnsweredAlone script response points budget (record { outcome = w .outcome; location = l; totals = w .totals })
+            at z true e = record { shown = _; given = record { checked = points-judged z (after-16 z (eqb-true _ _ e)); carried = carried } }
+            at z false e =
+                record { shown = _; given = record { checked = points-judged z (after-other z (eqb-false _ _ e)); carried = carried } }
+
+            go : (n : ℕ) → told .weighed .outcome .number ≡ n
+                → AnsweredFrom script response points budget told (record { outcome = w .outcome; location = l; totals = w .totals })
+            go zero e = record { alone = at e (eqb (w .outcome .number) pointsAnswer) refl; derived! = λ z. e }
+            go (suc n) e =
+                let other : told .weighed .outcome .number ≡ 0 → ⊥ = λ z. absurd (omega arith) in
+                record {
+                  alone = record { shown = blankArea; given = record { checked = stays other; carried = carried } };
+                  derived! = λ z. ap (λ (x : Weighed). x .outcome .number) (sym (judged-so .declined! other)) ∙ z;
+                }
+
+    -- what listing the steps asks
+    abbrev pub held-answer : {budget : ℕ} {answer : Answer} {area : List ℕ} → AnsweredFrom script response points budget told answer
+        → length area ≡ stepNumbers → HeldAnswer places nodes (told .progress) answer area
+    held-answer {budget} from sized =
+        record {
+          script = script;
+          response = response;
+          points = points;
+          budget = budget;
+          alone = from .alone;
+          both! = λ z.
+              let d = answered .all! (from .derived! z) in
+              record { names = names; forms = d .forms; both = d .all .both };
+          sized = sized;
+        }
+
+    -- the list of steps, from what listing them gives
+    pub steps-given : {budget function : ℕ} {answer : Answer} {area after : List ℕ} {r : Listed} → AnsweredFrom script response points budget told answer
+        → length area ≡ stepNumbers → ListGiven places nodes (told .progress) answer function area r after
+        → StepList script response points budget function area (r .answer) (r .count) after
+    steps-given from sized list = list (held-answer from sized)
+
+-- the tables that are lent, within limits that are those of a response
+pub relent : {limits : Limits} {script response names places nodes forms : List ℕ} → limits ≡ responseLimits
+    → Lent responseLimits script response names places nodes forms → Lent limits script response names places nodes forms
+relent e tables = rw e tables
+
+-- small tables, for short texts
+pub lent-short : {script response names places nodes forms : List ℕ} → Names names → length places ≡ placesLength
+    → length nodes ≡ nodeWidth * (shortScript + shortResponse) → length forms ≡ nodeWidth * shortScript
+    → (leb (length script) shortScript && leb (length response) shortResponse) ≡ true → Lent responseLimits script response names places nodes forms
+lent-short table long nodes-long forms-long short = lent refl table long (short-rooms nodes-long forms-long short)
+
+-- the constraints may be evaluated
+pub to-evaluate : {names places nodes : List ℕ} {told : TextsWeighed} → Judgeable names places nodes told → told .weighed .outcome .number ≡ 0
+    → Evaluable names places nodes (told .progress)
+to-evaluate held none = held .evaluable! none
+
+module _ {names places nodes points : List ℕ} {told : TextsWeighed} {budget : ℕ} where
+  -- an answer on the bodies
+  pub judge-stays : (told .weighed .outcome .number ≡ 0 → ⊥) → HeldJudged names places nodes told points budget (told .weighed)
+  judge-stays other =
+      record { declined! = λ o. refl; given! = λ z. absurd (other z); bad! = λ z. absurd (other z); other! = λ z. absurd (other z) }
+
+  module _ (none : told .weighed .outcome .number ≡ 0) where
+    module _ {found : Outcome} (run : Evaluates names places nodes (told .progress) points budget found) where
+      -- 16
+      pub judge-16 : {w : Weighed} → found .number ≡ pointsAnswer → w ≡ record { outcome = found; totals = noTotals }
+          → HeldJudged names places nodes told points budget w
+      judge-16 bad e =
+          rw e (record { declined! = λ o. absurd (o none); given! = λ z. run; bad! = λ z n. refl; other! = λ z o. absurd (o bad) })
+
+      -- what the run gives
+      pub judge-run : (found .number ≡ pointsAnswer → ⊥)
+          → HeldJudged names places nodes told points budget (record { outcome = found; totals = told .weighed .totals })
+      judge-run other =
+          record { declined! = λ o. absurd (o none); given! = λ z. run; bad! = λ z n. absurd (other n); other! = λ z o. refl }
+
+module _ {script response points : List ℕ} {budget : ℕ} where
   -- an area of another size
   pub wrong-size : {function : ℕ} {area : List ℕ} {r : Listed} → (length area ≡ stepNumbers → ⊥)
       → r ≡ record { answer = stepRefusal 17 (length area); count = 0 } → StepList script response points budget function area (r .answer) (r .count) area
@@ -72,10 +213,6 @@ module _ {script response points : List ℕ} {budget : ℕ} where
       -- both texts pass where it is accepted
       pub pass : BodiesDerived script response points blankArea
       pass = exact (found .given .checked) .passed-derived (showing (subst Showing (sym is-zero) accepted))
-
-      -- so that they may be read again
-      abbrev pub to-read-again : {area : List ℕ} → length area ≡ stepNumbers → BothPass script response area
-      to-read-again sized = record { known = pass .k; bodies = pass .bs; says = pass .passing .says; gives = pass .passing .gives; sized = sized }
 
       -- it is accepted with what they say and give
       as-accepted : {k : Known} {bs : List Body} → scriptOutcome script ≡ said k → responseOutcome k response ≡ given bs

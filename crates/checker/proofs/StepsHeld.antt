@@ -10,8 +10,6 @@ use Rattle.forest.proofs.Nodes.{length-nodes}
 use Rattle.forest.specs.Forest.{join}
 use Rattle.forest.specs.Limits.{mostFunctions, mostNodes}
 use Rattle.forest.specs.code.Cursors.{from, size}
-use Rattle.words.specs.Limits.{responseLimits}
-use Rattle.words.specs.declared.Limits.{Limits}
 use Rattle.terms.specs.Labels.{Terms}
 use Rattle.terms.specs.code.Nodes.{rowWidth, sizeAt}
 use Rattle.evaluation.specs.code.Tables.{TermStands}
@@ -19,19 +17,15 @@ use Rattle.steps.specs.Stack.{nodeCount}
 use Rattle.steps.specs.code.List.{Listable, TermsStand, UsesTold, Listed as StepsListed}
 use Rattle.names.specs.Scopes.{Defined, Function}
 use Rattle.script.specs.Response.{Body, inScriptOrder}
-use Rattle.script.specs.Outcome.{given, responseWithin}
 use Rattle.script.specs.code.Places.{bodyIn}
 use Rattle.script.specs.declared.Progress.{Progress}
 use Rattle.response.proofs.Picked.{body-at, order-length}
-use Rattle.outcome.specs.Checked.{TextsRefused}
 use Rattle.outcome.specs.Derived.{termsOf}
 use Rattle.outcome.specs.StepList.{FunctionAt, here, later}
 use Rattle.outcome.specs.code.Assured.{BodiesFit}
-use Rattle.outcome.proofs.Stages.{not-both}
-use Rattle.both_texts.specs.code.Both.{BothHeld, TextsRead}
-use Rattle.both_texts.specs.declared.Told.{Told}
+use Rattle.outcome.specs.declared.Answer.{Answer}
 use Rattle.verdicts.proofs.BodyRows.{body-size, body-within}
-use Rattle.checker.specs.code.Stepping.{BodiesStand, BodyListed, BodySteps, BothPass, TextsListed, applying, lacking, written}
+use Rattle.checker.specs.code.Stepping.{BodiesStand, BodyListed, BodySteps, HeldAnswer, TextsListed, applying, lacking, written}
 
 -- function j and its body, with no more nodes than it may have
 pub record Bodied (fs : List Function) (bs : List Body) (j : ℕ) : Type 0 where
@@ -136,43 +130,28 @@ module _ {places nodes area : List ℕ} {p : Progress} (q : BodiesStand places n
               subst₂ (BodySteps (q .known) (q .bodies) function area) counted (sym (done .area-is))
               (written (next .at) (sym (told body-stands) ∙ e) some-node)
 
-module _ {limits : Limits} {script response area : List ℕ} (within : limits ≡ responseLimits) (q : BothPass script response area)
-    {names places nodes forms : List ℕ} {r : Told} (read : TextsRead limits script response names places nodes forms r) where
-  -- texts that pass are not refused when they are read again
-  not-refused : r .outcome .number ≡ 0
-  not-refused = go (r .outcome .number) refl
-    where
-      go : (n : ℕ) → r .outcome .number ≡ n → r .outcome .number ≡ 0
-      go zero e = e
-      go (suc n) e =
-          let refused = subst (λ (l : Limits). TextsRefused l script response (r .outcome)) within (read .one! (λ z. absurd (omega arith))) in
-          not-both refused (q .says) (q .gives)
-
-  -- the tables hold them
-  pub read-again : BothHeld limits script response names places nodes forms (r .progress)
-  read-again = read .both! not-refused
-
+module _ {places nodes area : List ℕ} {p : Progress} {found : Answer} (q : HeldAnswer places nodes p found area) (is-zero : found .outcome .number ≡ 0) where
   -- what listing the steps asks
-  abbrev pub to-list-body : BodiesStand places nodes (r .progress) area
+  abbrev pub to-list-body : BodiesStand places nodes p area
   to-list-body =
       record {
-        text = response;
-        names = names;
-        forms = forms;
-        known = read-again .known;
-        bodies = read-again .bodies;
-        held = read-again .held;
+        text = q .response;
+        names = q .both! is-zero .names;
+        forms = q .both! is-zero .forms;
+        known = q .both! is-zero .both .known;
+        bodies = q .both! is-zero .both .bodies;
+        held = q .both! is-zero .both .held;
         sized = q .sized;
       }
 
   -- the steps of the texts' function
-  pub texts-listed : {function count : ℕ} {after : List ℕ} → BodyListed places nodes (r .progress) function area after count
-      → TextsListed script response function area after count
+  pub texts-listed : {function count : ℕ} {after : List ℕ} → BodyListed places nodes p function area after count
+      → TextsListed (q .script) (q .response) function area after count
   texts-listed listed =
       record {
-        known = read-again .known;
-        bodies = read-again .bodies;
-        says = read-again .passing .says;
-        gives = subst (λ (l : Limits). responseWithin l (read-again .known) response ≡ given (read-again .bodies)) within (read-again .passing .gives);
+        known = q .both! is-zero .both .known;
+        bodies = q .both! is-zero .both .bodies;
+        says = q .both! is-zero .both .passing .says;
+        gives = q .both! is-zero .both .passing .gives;
         steps = listed to-list-body;
       }

@@ -1,34 +1,47 @@
 //! The list of steps of an accepted body.
-use crate::judge::judge_in;
 use crate::located::locate;
 use crate::sizes::size_answer;
+use accepting::TextsWeighed;
+use accepting::accept;
 use accepting::area::no_lists;
-use both_texts::read_texts;
 use both_texts::tables::form_room;
 use both_texts::tables::no_names;
 use both_texts::tables::no_places;
 use both_texts::tables::node_room;
+use both_texts::tables::short_forms;
+use both_texts::tables::short_nodes;
+use forest::limits::AREA;
 use forest::limits::NODES;
 use outcome::Answer;
 use outcome::Location;
 use outcome::NONE;
+use outcome::Outcome;
 use outcome::Weighed;
 use outcome::no_totals;
 use outcome::refusal;
 use outcome::unweighed;
 use script::Progress;
 use script::answers::ACCEPTED;
+use script::answers::POINTS;
 use script::places::body_of;
 use steps::list::STEP;
 use steps::list::uses_defined;
 use steps::list::write_steps;
 use terms::size_at;
+use texts::SHORT_RESPONSE;
+use texts::SHORT_SCRIPT;
+use verdicts::evaluate::evaluate;
 use words::response_limits;
+ghost use mathlib.Core.Bool.{_&&_, true};
 ghost use mathlib.Core.Path.{_≡_};
-ghost use Rattle.outcome.specs.Checked.{Checked};
-ghost use Rattle.outcome.specs.Derived.{blankArea};
-ghost use Rattle.outcome.specs.StepList.{StepList, stepRefusal};
-ghost use Rattle.checker.specs.code.Stepping.{AnsweredAlone, BodiesStand, BodyListed, BothPass, FullTables, TextsListed};
+ghost use lib.Dec.{leb};
+ghost use lib.ListN.{length};
+ghost use Rattle.words.specs.Limits.{responseLimits};
+ghost use Rattle.texts.specs.code.Texts.{shortResponse, shortScript};
+ghost use Rattle.outcome.specs.Derived.{noTotals};
+ghost use Rattle.outcome.specs.StepList.{StepList, stepNumbers, stepRefusal};
+ghost use Rattle.both_texts.specs.code.Both.{Lent};
+ghost use Rattle.checker.specs.code.Stepping.{AnsweredFrom, BodiesAnswered, BodiesStand, BodyListed, HeldAnswer, HeldJudged, Judgeable, ListGiven};
 
 // How many numbers the lent area has to have.
 const NUMBERS: usize = STEP * NODES;
@@ -63,42 +76,102 @@ fn refused(number: usize, place: usize) -> Listed
     }
 }
 
-// The checker's answer where the area shows nothing, in tables with room for any texts.
-fn judge_all(
-    script: &[u8],
-    response: &[u8],
-    points: &[u64],
-    budget: u64,
-    shown: &mut [u16],
-    nodes: &mut [u64],
-    forms: &mut [u64],
-) -> Weighed
-    requires { ⌜ now shown ≡ blankArea ⌝ }
-    requires { ⌜ FullTables (now nodes) (now forms) ⌝ }
-    ensures { λ r. ⌜ Checked (now (script .entry)) (now (response .entry)) (now (points .entry)) budget (now (shown .entry))
-        (r .outcome) (now (shown .exit)) (r .totals) ⌝ }
+// An answer that comes before anything is read.
+fn unread(outcome: Outcome) -> TextsWeighed
+    ensures { λ r. ⌜ r .weighed ≡ record { outcome = outcome; totals = noTotals } ⌝ }
 {
-    let size = size_answer(script, response, points, shown.len());
-    if size.number != ACCEPTED {
-        return unweighed(size);
+    TextsWeighed {
+        weighed: unweighed(outcome),
+        progress: Progress {
+            logic: false,
+            weights: false,
+            ended: false,
+            variables: 0,
+            defined: 0,
+            functions: 0,
+            constraints: 0,
+            assumptions: 0,
+            nodes: 0,
+            forms: 0,
+        },
     }
-    judge_in(script, response, points, budget, shown, nodes, forms)
 }
 
-// The same with what it carries; nobody asks for the derivations.
-fn answer_in(
+// The answer on the sizes, the two texts and their bodies, whose number is 0 where every body is derived. Nobody asks for the derivations: the area that shows
+// them lives no longer than this call, so that it does not lie under an evaluation.
+fn accept_alone(
+    script: &[u8],
+    response: &[u8],
+    points: &[u64],
+    names: &mut [u8],
+    places: &mut [u64],
+    nodes: &mut [u64],
+    forms: &mut [u64],
+) -> TextsWeighed
+    requires { ⌜ Lent responseLimits (now script) (now response) (now names) (now places) (now nodes) (now forms) ⌝ }
+    ensures { λ r. ⌜ BodiesAnswered (now (script .entry)) (now (response .entry)) (now (points .entry)) (now (names .exit)) (now (places .exit))
+        (now (nodes .exit)) r ⌝ }
+{
+    let size = size_answer(script, response, points, AREA);
+    if size.number != ACCEPTED {
+        return unread(size);
+    }
+    let mut shown = no_lists();
+    let limits = response_limits();
+    accept(
+        script,
+        response,
+        limits,
+        names,
+        places,
+        nodes,
+        forms,
+        &mut shown,
+    )
+}
+
+// The answer on the points where every body is derived, with the totals, which are 0 after 16.
+fn judge_held(
+    names: &[u8],
+    places: &[u64],
+    nodes: &[u64],
+    told: TextsWeighed,
+    points: &[u64],
+    budget: u64,
+) -> Weighed
+    requires { ⌜ Judgeable (now names) (now places) (now nodes) told ⌝ }
+    ensures { λ r. ⌜ HeldJudged (now (names .entry)) (now (places .entry)) (now (nodes .entry)) told (now (points .entry)) budget r ⌝ }
+{
+    let weighed = told.weighed;
+    if weighed.outcome.number != ACCEPTED {
+        return weighed;
+    }
+    let found = evaluate(names, places, nodes, told.progress, points, budget);
+    if found.number == POINTS {
+        return unweighed(found);
+    }
+    let totals = weighed.totals;
+    Weighed {
+        outcome: found,
+        totals,
+    }
+}
+
+// The checker's answer with what it carries, from that on the bodies, whose texts stand in the tables.
+fn answer_held(
     script: &[u8],
     response: &[u8],
     points: &[u64],
     budget: u64,
-    nodes: &mut [u64],
-    forms: &mut [u64],
+    names: &[u8],
+    places: &[u64],
+    nodes: &[u64],
+    told: TextsWeighed,
 ) -> Answer
-    requires { ⌜ FullTables (now nodes) (now forms) ⌝ }
-    ensures { λ r. ⌜ AnsweredAlone (now (script .entry)) (now (response .entry)) (now (points .entry)) budget r ⌝ }
+    requires { ⌜ BodiesAnswered (now script) (now response) (now points) (now names) (now places) (now nodes) told ⌝ }
+    ensures { λ r. ⌜ AnsweredFrom (now (script .entry)) (now (response .entry)) (now (points .entry)) budget told r ⌝ }
 {
-    let mut shown = no_lists();
-    let found = judge_all(script, response, points, budget, &mut shown, nodes, forms);
+    let found = judge_held(names, places, nodes, told, points, budget);
     let outcome = found.outcome;
     let totals = found.totals;
     Answer {
@@ -130,36 +203,114 @@ fn list_body(
     write_steps(nodes, node, past, area, 0)
 }
 
-// The same of two texts that pass, which are read again.
-fn list_in(
-    script: &[u8],
-    response: &[u8],
+// The steps of the body of a function where the answer is 0, from the tables that hold both texts.
+fn list_held(
+    places: &[u64],
+    nodes: &[u64],
+    progress: Progress,
+    found: Answer,
     function: usize,
     area: &mut [u64],
-    nodes: &mut [u64],
-    forms: &mut [u64],
-) -> usize
-    requires { ⌜ BothPass (now script) (now response) (now area) ⌝ }
-    requires { ⌜ FullTables (now nodes) (now forms) ⌝ }
-    ensures { λ r. ⌜ TextsListed (now (script .entry)) (now (response .entry)) function (now (area .entry)) (now (area .exit)) r ⌝ }
+) -> Listed
+    requires { ⌜ HeldAnswer (now places) (now nodes) progress found (now area) ⌝ }
+    ensures { λ r. ⌜ ListGiven (now (places .entry)) (now (nodes .entry)) progress found function (now (area .entry)) r (now (area .exit)) ⌝ }
+{
+    if found.outcome.number != ACCEPTED {
+        return Listed {
+            answer: found,
+            count: 0,
+        };
+    }
+    let count = list_body(places, nodes, progress, function, area);
+    if count == 0 {
+        return refused(UNLISTED, function);
+    }
+    Listed {
+        answer: found,
+        count,
+    }
+}
+
+// The steps of the body of a function for short texts, which are read into small tables.
+fn list_short(
+    script: &[u8],
+    response: &[u8],
+    points: &[u64],
+    budget: u64,
+    function: usize,
+    area: &mut [u64],
+) -> Listed
+    requires { ⌜ length (now area) ≡ stepNumbers ⌝ }
+    requires { ⌜ (leb (length (now script)) shortScript && leb (length (now response)) shortResponse) ≡ true ⌝ }
+    ensures { λ r. ⌜ StepList (now (script .entry)) (now (response .entry)) (now (points .entry)) budget function (now (area .entry))
+        (r .answer) (r .count) (now (area .exit)) ⌝ }
 {
     let mut names = no_names();
     let mut places = no_places();
-    let limits = response_limits();
-    let told = read_texts(
+    let mut nodes = short_nodes();
+    let mut forms = short_forms();
+    let told = accept_alone(
         script,
         response,
-        limits,
+        points,
         &mut names,
         &mut places,
-        nodes,
-        forms,
+        &mut nodes,
+        &mut forms,
     );
-    list_body(&places, nodes, told.progress, function, area)
+    let found = answer_held(
+        script,
+        response,
+        points,
+        budget,
+        &names,
+        &places,
+        &nodes,
+        told,
+    );
+    list_held(&places, &nodes, told.progress, found, function, area)
 }
 
-// The steps of the body of a function, by its number in script order, where the response is accepted. The tables are lent to both readings, so that those of the
-// second do not lie under the first.
+// The same for any texts.
+fn list_long(
+    script: &[u8],
+    response: &[u8],
+    points: &[u64],
+    budget: u64,
+    function: usize,
+    area: &mut [u64],
+) -> Listed
+    requires { ⌜ length (now area) ≡ stepNumbers ⌝ }
+    ensures { λ r. ⌜ StepList (now (script .entry)) (now (response .entry)) (now (points .entry)) budget function (now (area .entry))
+        (r .answer) (r .count) (now (area .exit)) ⌝ }
+{
+    let mut names = no_names();
+    let mut places = no_places();
+    let mut nodes = node_room();
+    let mut forms = form_room();
+    let told = accept_alone(
+        script,
+        response,
+        points,
+        &mut names,
+        &mut places,
+        &mut nodes,
+        &mut forms,
+    );
+    let found = answer_held(
+        script,
+        response,
+        points,
+        budget,
+        &names,
+        &places,
+        &nodes,
+        told,
+    );
+    list_held(&places, &nodes, told.progress, found, function, area)
+}
+
+// The steps of the body of a function, by its number in script order, where the response is accepted. They are written from the tables of the check.
 pub fn step_list(
     script: &[u8],
     response: &[u8],
@@ -174,21 +325,8 @@ pub fn step_list(
     if area.len() != NUMBERS {
         return refused(MISSIZED, area.len());
     }
-    let mut nodes = node_room();
-    let mut forms = form_room();
-    let found = answer_in(script, response, points, budget, &mut nodes, &mut forms);
-    if found.outcome.number != ACCEPTED {
-        return Listed {
-            answer: found,
-            count: 0,
-        };
+    if (script.len() <= SHORT_SCRIPT) & (response.len() <= SHORT_RESPONSE) {
+        return list_short(script, response, points, budget, function, area);
     }
-    let count = list_in(script, response, function, area, &mut nodes, &mut forms);
-    if count == 0 {
-        return refused(UNLISTED, function);
-    }
-    Listed {
-        answer: found,
-        count,
-    }
+    list_long(script, response, points, budget, function, area)
 }

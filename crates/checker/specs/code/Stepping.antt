@@ -1,13 +1,13 @@
 -- What the functions that list the steps of an accepted body ask and give.
-use Prim.Native.Nat.{ℕ, _+_, _*_, _≤_, _<_}
+use Prim.Native.Nat.{ℕ, _≤_, _<_}
 use mathlib.Core.Bool.{true, false}
 use mathlib.Core.List.{List}
+use mathlib.Core.Option.{none as nothing}
 use mathlib.Core.Path.{_≡_}
 use lib.ListN.{length}
 use lib.Seq.{sets}
-use Rattle.forest.specs.Limits.{responseWords, scriptWords}
+use Rattle.words.specs.Limits.{responseLimits}
 use Rattle.terms.specs.Labels.{Terms}
-use Rattle.terms.specs.code.Nodes.{rowWidth as nodeWidth}
 use Rattle.steps.specs.Stack.{nodeCount}
 use Rattle.steps.specs.Steps.{stepsOf, usesDefined}
 use Rattle.names.specs.Scopes.{Function}
@@ -15,21 +15,54 @@ use Rattle.script.specs.Script.{Known}
 use Rattle.script.specs.declared.Progress.{Progress}
 use Rattle.script.specs.Response.{Body, inScriptOrder}
 use Rattle.script.specs.Outcome.{given, responseOutcome, said, scriptOutcome}
-use Rattle.outcome.specs.Derived.{blankArea, termsOf}
+use Rattle.script.specs.code.Answers.{pointsAnswer}
+use Rattle.outcome.specs.Checked.{Checked, sizeAnswer}
+use Rattle.outcome.specs.Derived.{blankArea, noTotals, termsOf}
 use Rattle.outcome.specs.Located.{AnswerGiven}
-use Rattle.outcome.specs.StepList.{FunctionAt, stepNumbers}
+use Rattle.outcome.specs.StepList.{FunctionAt, StepList, stepNumbers}
 use Rattle.outcome.specs.declared.Answer.{Answer}
+use Rattle.outcome.specs.declared.Weighed.{Weighed}
 use Rattle.outcome.specs.code.Held.{Held}
-
--- Tables with a row for each word that a script and a response may have.
-pub record FullTables (nodes forms : List ℕ) : Type 0 where
-  pub nodes-long : length nodes ≡ nodeWidth * (scriptWords + responseWords)
-  pub forms-long : length forms ≡ nodeWidth * scriptWords
+use Rattle.both_texts.specs.code.Both.{BothHeld}
+use Rattle.verdicts.specs.code.Evaluate.{Evaluable, Evaluates}
+use Rattle.accepting.specs.code.Bodies.{AllDerived}
+use Rattle.accepting.specs.declared.TextsWeighed.{TextsWeighed}
+use Rattle.checker.specs.declared.stepping.Listed.{Listed}
 
 -- The checker's own answer, in an area of its own.
 pub record AnsweredAlone (script response points : List ℕ) (budget : ℕ) (answer : Answer) : Type 0 where
   pub shown : List ℕ
   pub given : AnswerGiven script response points budget blankArea answer shown
+
+-- Every body is derived: the tables hold both texts, and some area of right size shows how.
+pub record DerivedAlone (script response points names places nodes : List ℕ) (r : TextsWeighed) : Type 0 where
+  pub forms : List ℕ
+  pub shown : List ℕ
+  pub sized : sizeAnswer script response points blankArea ≡ nothing
+  pub long : length shown ≡ length blankArea
+  pub all : AllDerived responseLimits script response names places nodes forms (r .progress) shown (r .weighed .totals)
+
+-- Where the number is 0 they are; where it is another it is the checker's own answer, whatever the budget.
+pub record BodiesAnswered (script response points names places nodes : List ℕ) (r : TextsWeighed) : Type 0 where
+  pub all! : r .weighed .outcome .number ≡ 0 → DerivedAlone script response points names places nodes r
+  pub declined! : (r .weighed .outcome .number ≡ 0 → ⊥) → (budget : ℕ)
+      → Checked script response points budget blankArea (r .weighed .outcome) blankArea (r .weighed .totals)
+
+-- Where every body is derived, the constraints may be evaluated.
+pub record Judgeable (names places nodes : List ℕ) (told : TextsWeighed) : Type 0 where
+  pub evaluable! : told .weighed .outcome .number ≡ 0 → Evaluable names places nodes (told .progress)
+
+-- What the points give where every body is derived, with totals that are 0 after 16; else the answer on the bodies.
+pub record HeldJudged (names places nodes : List ℕ) (told : TextsWeighed) (points : List ℕ) (budget : ℕ) (r : Weighed) : Type 0 where
+  pub declined! : (told .weighed .outcome .number ≡ 0 → ⊥) → r ≡ told .weighed
+  pub given! : told .weighed .outcome .number ≡ 0 → Evaluates names places nodes (told .progress) points budget (r .outcome)
+  pub bad! : told .weighed .outcome .number ≡ 0 → r .outcome .number ≡ pointsAnswer → r .totals ≡ noTotals
+  pub other! : told .weighed .outcome .number ≡ 0 → (r .outcome .number ≡ pointsAnswer → ⊥) → r .totals ≡ told .weighed .totals
+
+-- The checker's own answer, which is 0 only where every body is derived.
+pub record AnsweredFrom (script response points : List ℕ) (budget : ℕ) (told : TextsWeighed) (answer : Answer) : Type 0 where
+  pub alone : AnsweredAlone script response points budget answer
+  pub derived! : answer .outcome .number ≡ 0 → told .weighed .outcome .number ≡ 0
 
 -- The tables hold a script and a response that pass, and the area is of its size.
 pub record BodiesStand (places nodes : List ℕ) (p : Progress) (area : List ℕ) : Type 0 where
@@ -54,14 +87,6 @@ pub data BodySteps (k : Known) (bs : List Body) (function : ℕ) (area : List �
 abbrev pub BodyListed : (places nodes : List ℕ) → Progress → (function : ℕ) → (area areaAfter : List ℕ) → (r : ℕ) → Type 0
 BodyListed places nodes p function area areaAfter r = (q : BodiesStand places nodes p area) → BodySteps (q .known) (q .bodies) function area r areaAfter
 
--- Both texts pass, and the area is of its size.
-pub record BothPass (script response area : List ℕ) : Type 0 where
-  pub known : Known
-  pub bodies : List Body
-  pub says : scriptOutcome script ≡ said known
-  pub gives : responseOutcome known response ≡ given bodies
-  pub sized : length area ≡ stepNumbers
-
 -- The steps of the body of a function of texts that pass.
 pub record TextsListed (script response : List ℕ) (function : ℕ) (area areaAfter : List ℕ) (r : ℕ) : Type 0 where
   pub known : Known
@@ -69,3 +94,25 @@ pub record TextsListed (script response : List ℕ) (function : ℕ) (area areaA
   pub says : scriptOutcome script ≡ said known
   pub gives : responseOutcome known response ≡ given bodies
   pub steps : BodySteps known bodies function area r areaAfter
+
+-- The tables hold the two texts.
+pub record BothStand (script response places nodes : List ℕ) (p : Progress) : Type 0 where
+  pub names : List ℕ
+  pub forms : List ℕ
+  pub both : BothHeld responseLimits script response names places nodes forms p
+
+-- The checker's own answer on two texts, which the tables hold where it is 0; the area is of its size.
+pub record HeldAnswer (places nodes : List ℕ) (p : Progress) (found : Answer) (area : List ℕ) : Type 0 where
+  pub script : List ℕ
+  pub response : List ℕ
+  pub points : List ℕ
+  pub budget : ℕ
+  pub alone : AnsweredAlone script response points budget found
+  pub both! : found .outcome .number ≡ 0 → BothStand script response places nodes p
+  pub sized : length area ≡ stepNumbers
+
+-- The list of steps of these texts.
+abbrev pub ListGiven : (places nodes : List ℕ) → Progress → (found : Answer) → (function : ℕ) → (area : List ℕ) → Listed → (areaAfter : List ℕ) → Type 0
+ListGiven places nodes p found function area r areaAfter =
+    (q : HeldAnswer places nodes p found area)
+    → StepList (q .script) (q .response) (q .points) (q .budget) function area (r .answer) (r .count) areaAfter

@@ -1,0 +1,23 @@
+use Rattle.checker.proofs.StepsAnswer.{judge-16, judge-run, judge-stays, to-evaluate}
+use borrow.Author.Needs.{needs}
+use Rattle.checker.proofs.stepping.judge_held.Statement.{statement}
+use Rattle.checker.proofs.stepping.judge_held.Tie as tie
+
+returns : tie.Need-returns
+returns c = search judge-stays
+
+evaluate-requires : tie.Need-evaluate-requires
+evaluate-requires c κs = search to-evaluate
+
+unweighed-requires : tie.Need-unweighed-requires
+unweighed-requires c κs = search needs
+
+returns-2 : tie.Need-returns-2
+returns-2 c = search judge-16
+
+returns-3 : tie.Need-returns-3
+returns-3 c = search judge-run
+
+pub judge-held-spec : {M : Type 1} → statement M
+judge-held-spec =
+    tie.close (tie.spec returns evaluate-requires unweighed-requires returns-2 returns-3)

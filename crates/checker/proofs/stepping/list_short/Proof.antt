@@ -1,0 +1,81 @@
+use Rattle.checker.proofs.StepsAnswer.{held-answer, lent-short, steps-given}
+use borrow.Author.Needs.{needs}
+use Rattle.checker.proofs.stepping.list_short.Statement.{statement}
+use Rattle.checker.proofs.stepping.list_short.Tie as tie
+
+no-names-requires : tie.Need-no-names-requires
+no-names-requires c κs = search needs
+
+no-places-requires : tie.Need-no-places-requires
+no-places-requires c κs = search needs
+
+short-nodes-requires : tie.Need-short-nodes-requires
+short-nodes-requires c κs = search needs
+
+short-forms-requires : tie.Need-short-forms-requires
+short-forms-requires c κs = search needs
+
+slice-aggregate-accept-alone : tie.Need-slice-aggregate-accept-alone
+slice-aggregate-accept-alone c = search needs
+
+slice-aggregate-accept-alone-2 : tie.Need-slice-aggregate-accept-alone-2
+slice-aggregate-accept-alone-2 c = search needs
+
+slice-aggregate-accept-alone-3 : tie.Need-slice-aggregate-accept-alone-3
+slice-aggregate-accept-alone-3 c = search needs
+
+slice-aggregate-accept-alone-4 : tie.Need-slice-aggregate-accept-alone-4
+slice-aggregate-accept-alone-4 c = search needs
+
+accept-alone-requires : tie.Need-accept-alone-requires
+accept-alone-requires c κs = search lent-short
+
+slice-aggregate-answer-held : tie.Need-slice-aggregate-answer-held
+slice-aggregate-answer-held c = search needs
+
+slice-aggregate-answer-held-2 : tie.Need-slice-aggregate-answer-held-2
+slice-aggregate-answer-held-2 c = search needs
+
+slice-aggregate-answer-held-3 : tie.Need-slice-aggregate-answer-held-3
+slice-aggregate-answer-held-3 c = search needs
+
+answer-held-requires : tie.Need-answer-held-requires
+answer-held-requires c κs = search needs
+
+slice-aggregate-list-held : tie.Need-slice-aggregate-list-held
+slice-aggregate-list-held c = search needs
+
+slice-aggregate-list-held-2 : tie.Need-slice-aggregate-list-held-2
+slice-aggregate-list-held-2 c = search needs
+
+list-held-requires : tie.Need-list-held-requires
+list-held-requires c κs = held-answer (c .before .before .before .before .before .before .before .before .before .before .before .accept-alone .ensures) (c .before .before .before .answer-held .ensures) (c .before .before .before .before .before .before .before .before .before .before .before .before .before .before .before .before .before .before .before .before .before .before .before .before .pre .0)
+
+same-length : tie.Need-same-length
+same-length c = search needs
+
+returns : tie.Need-returns
+returns c = steps-given (c .before .before .before .before .before .before .before .before .before .before .before .before .before .before .accept-alone .ensures) (c .before .before .before .before .before .before .answer-held .ensures) (c .before .before .before .before .before .before .before .before .before .before .before .before .before .before .before .before .before .before .before .before .before .before .before .before .before .before .before .pre .0) (c .before .before .list-held .ensures)
+
+pub list-short-spec : {M : Type 1} → statement M
+list-short-spec =
+    tie.close
+    (tie.spec
+    no-names-requires
+    no-places-requires
+    short-nodes-requires
+    short-forms-requires
+    slice-aggregate-accept-alone
+    slice-aggregate-accept-alone-2
+    slice-aggregate-accept-alone-3
+    slice-aggregate-accept-alone-4
+    accept-alone-requires
+    slice-aggregate-answer-held
+    slice-aggregate-answer-held-2
+    slice-aggregate-answer-held-3
+    answer-held-requires
+    slice-aggregate-list-held
+    slice-aggregate-list-held-2
+    list-held-requires
+    same-length
+    returns)
