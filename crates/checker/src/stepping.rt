@@ -98,7 +98,7 @@ fn unread(outcome: Outcome) -> TextsWeighed
 }
 
 // The answer on the sizes, the two texts and their bodies, whose number is 0 where every body is derived. Nobody asks for the derivations: the area that shows
-// them lives no longer than this call, so that it does not lie under an evaluation.
+// them is not used behind this call.
 fn accept_alone(
     script: &[u8],
     response: &[u8],

@@ -17,10 +17,11 @@ sumWith filled sum byte = (sum + (filled + 1) * byte) % 65521
 abbrev pub putOut : (filled sum byte : ℕ) → List ℕ
 putOut filled sum byte = cond (eqb (filled + 1) paySize) (byte ∷ low 2 (sumWith filled sum byte)) (byte ∷ [])
 
--- How many bytes the open block has then, and their sum.
+-- How many bytes the open block has then.
 abbrev pub filledNext : (filled : ℕ) → ℕ
 filledNext filled = cond (eqb (filled + 1) paySize) 0 (filled + 1)
 
+-- The sum of the open block after a byte; 0 where a new one is begun.
 abbrev pub sumNext : (filled sum byte : ℕ) → ℕ
 sumNext filled sum byte = cond (eqb (filled + 1) paySize) 0 (sumWith filled sum byte)
 
@@ -29,10 +30,12 @@ unfoldable pub written : (filled sum : ℕ) → List ℕ → List ℕ
 written filled sum [] = []
 written filled sum (b ∷ more) = putOut filled sum b ++ written (filledNext filled) (sumNext filled sum b) more
 
+-- How many payload bytes the open block has after these.
 unfoldable pub filledBy : (filled : ℕ) → List ℕ → ℕ
 filledBy filled [] = filled
 filledBy filled (b ∷ more) = filledBy (filledNext filled) more
 
+-- The sum of the open block after these.
 unfoldable pub sumBy : (filled sum : ℕ) → List ℕ → ℕ
 sumBy filled sum [] = sum
 sumBy filled sum (b ∷ more) = sumBy (filledNext filled) (sumNext filled sum b) more
