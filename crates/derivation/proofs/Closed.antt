@@ -14,7 +14,7 @@ use Rattle.forest.specs.Forest.{Forest, none, tree, count}
 use Rattle.forest.proofs.Laws.{Tree, tree-at, count-zero}
 use Rattle.terms.specs.Labels.{Terms}
 use Rattle.derivation.specs.Derivation.{Item, headOf, formOf, Derives, Grammar, the, nonTerminal, anyArgument, anyLiteral, use-rule, done, leaf, same}
-use Rattle.derivation.specs.code.Admitted.{Proper}
+use Rattle.derivation.specs.code.Admitted.{Admitted, Proper}
 use Rattle.terms.specs.code.Nodes.{valueAt}
 use Rattle.derivation.specs.Least.{First, Least}
 use Rattle.derivation.specs.code.Search.{NoChain, Fits, DerivesAt, Asks, Chain, stop, more, Best}
@@ -54,6 +54,20 @@ kind (tree (nonTerminal B) ps qs) pr c =
 low-proper : (B : ℕ) → Proper mostNonTerminals (tree (nonTerminal B) none none) → B < mostNonTerminals
 unfolding Proper
 low-proper B p = p .0
+
+-- where other tables have the same members and choices, they lead as far
+pub chain-as : {G : Grammar} {F : Terms} {s s' : ℕ} {chosen chosen' : ℕ → ℕ} {A k : ℕ} → Admitted G
+    → ((B : ℕ) → B < mostNonTerminals → has s B ≡ true → (has s' B ≡ true) × (chosen' B ≡ chosen B)) → A < mostNonTerminals
+    → Chain G F s chosen A k → Chain G F s' chosen' A k
+chain-as {G = G} {A = A} ad f l (stop y! lt hd np fi be) =
+    let o = f A l y! in
+    let g = o .1 in
+    stop (o .0) (rw g lt) (ap (headOf (G .rules)) g ∙ hd) (rw g np) (rw g fi) (rw g be)
+chain-as {G = G} {chosen = chosen} {A = A} ad f l (more B y! lt hd is be c) =
+    let o = f A l y! in
+    let g = o .1 in
+    let low = low-proper B (subst (Proper mostNonTerminals) is (ad .proper (chosen A) lt)) in
+    more B (o .0) (rw g lt) (ap (headOf (G .rules)) g ∙ hd) (ap (formOf (G .rules)) g ∙ is) (rw g be) (chain-as ad f low c)
 
 module _ {rules forms body masks : List ℕ} {i : ℕ} (q : Asks rules forms body masks i) where
   abbrev pub G : Grammar
@@ -118,36 +132,31 @@ module _ {rules forms body masks : List ℕ} {i : ℕ} (q : Asks rules forms bod
   pub complete : (s : ℕ) → Closed s → (A : ℕ) → DerivesAt G A T → has s A ≡ true
   complete s cl A d = closed-all s cl (at-tree A d .1) A refl refl
 
-  chain-some : {s : ℕ} {chosen : List ℕ} {A k : ℕ} → Chain G T s chosen A k
+  chain-some : {s : ℕ} {chosen : ℕ → ℕ} {A k : ℕ} → Chain G T s chosen A k
       → (ds : List ℕ) × D (tree (nonTerminal A) none none) (tree (here .l) (here .ops) none) ds
   chain-some {chosen = chosen} {A = A} (stop y! lt hd np f be) =
-      let d = of-fits (formOf (G .rules) (getD chosen A 0)) (q .given .admitted .single (getD chosen A 0) lt) f in
-      (_, use-rule (getD chosen A 0) lt hd (d .1) done)
+      let d = of-fits (formOf (G .rules) (chosen A)) (q .given .admitted .single (chosen A) lt) f in
+      (_, use-rule (chosen A) lt hd (d .1) done)
   chain-some {chosen = chosen} {A = A} (more B y! lt hd is be c) =
       let d = chain-some c in
-      let d2 : D (formOf (G .rules) (getD chosen A 0)) (tree (here .l) (here .ops) none) (d .0) = rw is (d .1) in
-      (_, use-rule (getD chosen A 0) lt hd d2 done)
+      let d2 : D (formOf (G .rules) (chosen A)) (tree (here .l) (here .ops) none) (d .0) = rw is (d .1) in
+      (_, use-rule (chosen A) lt hd d2 done)
 
-  pub chain-derives : {s : ℕ} {chosen : List ℕ} {A k : ℕ} → Chain G T s chosen A k → DerivesAt G A T
+  pub chain-derives : {s : ℕ} {chosen : ℕ → ℕ} {A k : ℕ} → Chain G T s chosen A k → DerivesAt G A T
   chain-derives {A = A} c = tree-at′ A (chain-some c)
 
   -- a choice for a non-terminal that was not in the set leaves the others as they are
-  chain-keep : {s : ℕ} {chosen : List ℕ} {A k : ℕ} (x r s' : ℕ) → has s x ≡ false → Puts s x s' → Chain G T s chosen A k → Chain G T s' (set chosen x r) A k
-  chain-keep {s} {chosen} {A = A} x r s' f p (stop y! lt hd np fi be) =
-      let ne : A ≡ x → ⊥ = λ e. true≢false (sym y! ∙ ap (has s) e ∙ f) in
-      let g : getD (set chosen x r) A 0 ≡ getD chosen A 0 = getD-set-other chosen x A r 0 ne in
-      stop (p .off A ne ∙ y!) (rw g lt) (ap (headOf (G .rules)) g ∙ hd) (rw g np) (rw g fi) (rw g be)
-  chain-keep {s} {chosen} {A = A} x r s' f p (more B y! lt hd is be c) =
-      let ne : A ≡ x → ⊥ = λ e. true≢false (sym y! ∙ ap (has s) e ∙ f) in
-      let g : getD (set chosen x r) A 0 ≡ getD chosen A 0 = getD-set-other chosen x A r 0 ne in
-      more B (p .off A ne ∙ y!) (rw g lt) (ap (headOf (G .rules)) g ∙ hd) (ap (formOf (G .rules)) g ∙ is) (rw g be) (chain-keep x r s' f p c)
+  chain-keep : {s : ℕ} {chosen chosen' : ℕ → ℕ} {A k : ℕ} (x s' : ℕ) → has s x ≡ false → Puts s x s' → ((B : ℕ) → (B ≡ x → ⊥) → chosen' B ≡ chosen B)
+      → A < mostNonTerminals → Chain G T s chosen A k → Chain G T s' chosen' A k
+  chain-keep {s} x s' f p g = chain-as (q .given .admitted)
+      (λ B l t. let ne : B ≡ x → ⊥ = λ e. true≢false (sym t ∙ ap (has s) e ∙ f) in (p .off B ne ∙ t, g B ne))
 
   -- how many rules the least list of a member may have, where s is known
   abbrev pub roomy : ℕ → ℕ
   roomy s = mostNonTerminals * size (first 1 T) - mostNonTerminals + cnt (has s) mostNonTerminals
 
   -- every member of s has its choices and its rank
-  abbrev pub Chosen : (row chosen : List ℕ) → ℕ → Type 0
+  abbrev pub Chosen : (row : List ℕ) (chosen : ℕ → ℕ) → ℕ → Type 0
   Chosen row chosen s = (A : ℕ) → A < mostNonTerminals → has s A ≡ true
       → (k : ℕ) × Chain G T s chosen A k × (k ≤ cnt (has s) mostNonTerminals) × Ranked G (tree (nonTerminal A) none none) (first 1 T) (roomy s) (getD row A 0)
 
@@ -156,11 +165,6 @@ module _ {rules forms body masks : List ℕ} {i : ℕ} (q : Asks rules forms bod
   grows s r s' h f p =
       cnt-grow (has s) (has s') mostNonTerminals (headOf (G .rules) r) (λ j l t. p .off j (λ e. true≢false (sym t ∙ ap (has s) e ∙ f)) ∙ t)
       (q .given .admitted .low r h) f (p .on)
-
-  -- the rule that was set is the one chosen
-  now-chosen : (chosen : List ℕ) (r : ℕ) → length chosen ≡ mostNonTerminals → r < length (G .rules)
-      → getD (set chosen (headOf (G .rules) r) r) (headOf (G .rules) r) 0 ≡ r
-  now-chosen chosen r lc h = getD-set-same chosen (headOf (G .rules) r) r 0 (omega (arith, q .given .admitted .low r h))
 
   -- what a rule with a price leads to
   pub record Leads (s r c : ℕ) : Type 0 where
@@ -183,7 +187,8 @@ module _ {rules forms body masks : List ℕ} {i : ℕ} (q : Asks rules forms bod
   pub small-room : (s : ℕ) → roomy s ≤ 4096
   small-room s = omega (arith, tree-ends q, tree-some q, q .small, cnt-le (has s) mostNonTerminals)
 
-  module _ {costs row chosen : List ℕ} {s : ℕ} (pr : Priced rules forms body masks i (length rules / ruleWidth) costs) (me : Chosen row chosen s) where
+  module _ {costs row : List ℕ} {chosen : ℕ → ℕ} {s : ℕ} (pr : Priced rules forms body masks i (length rules / ruleWidth) costs)
+      (me : Chosen row chosen s) where
     pub leads : (r c : ℕ) → r < length (G .rules) → Price rules forms costs row s r c → (c ≡ 0 → ⊥) → Leads s r c
     leads r c h (known t e) nz = absurd (nz e)
     leads r c h (not-yet f k n e) nz = absurd (nz e)
@@ -296,22 +301,17 @@ module _ {rules forms body masks : List ℕ} {i : ℕ} (q : Asks rules forms bod
       rank-small =
           omega (arith, led .through .rank, led .through .few, small-room s, rank-bound G (light-all (q .given .admitted)) (r ∷ led .through .ds))
 
-      module _ {s' : ℕ} (p : Puts s (headOf (G .rules) r) s') (lc : length chosen ≡ mostNonTerminals) (lr : length row ≡ markWidth) where
+      module _ {s' : ℕ} (p : Puts s (headOf (G .rules) r) s') (lr : length row ≡ markWidth) {chosen' : ℕ → ℕ} (g : chosen' (headOf (G .rules) r) ≡ r)
+          (others : (B : ℕ) → (B ≡ headOf (G .rules) r → ⊥) → chosen' B ≡ chosen B) where
         abbrev head : ℕ
         head = headOf (G .rules) r
 
         abbrev row' : List ℕ
         row' = set row (headOf (G .rules) r) c
 
-        abbrev chosen' : List ℕ
-        chosen' = set chosen (headOf (G .rules) r) r
-
         new-chain : Applies G T s r → (k : ℕ) × Chain G T s' chosen' head k × (k ≤ cnt (has s') mostNonTerminals)
         new-chain a = go a
           where
-            g : getD chosen' head 0 ≡ r
-            g = now-chosen chosen r lc h
-
             low-of : (B : ℕ) → formOf (G .rules) r ≡ tree (nonTerminal B) none none → B < mostNonTerminals
             low-of B is = low-proper B (subst (Proper mostNonTerminals) is (q .given .admitted .proper r h))
 
@@ -322,7 +322,8 @@ module _ {rules forms body masks : List ℕ} {i : ℕ} (q : Asks rules forms bod
             go (chain B is y!) =
                 let b = me B (low-of B is) y! in (
                   suc (b .0),
-                  more B (p .on) (rw g h) (ap (headOf (G .rules)) g) (ap (formOf (G .rules)) g ∙ is) (rw g be) (chain-keep head r s' (led .fresh) p (b .1)),
+                  more B (p .on) (rw g h) (ap (headOf (G .rules)) g) (ap (formOf (G .rules)) g ∙ is) (rw g be)
+                      (chain-keep head s' (led .fresh) p others (low-of B is) (b .1)),
                   omega (arith, b .2, grows s r s' h (led .fresh) p),
                 )
             go (no-chain np fi) =
@@ -348,7 +349,7 @@ module _ {rules forms body masks : List ℕ} {i : ℕ} (q : Asks rules forms bod
                 let m = o .3 in
                 let gr = grows s r s' h (led .fresh) p in (
                   o .0,
-                  chain-keep head r s' (led .fresh) p (o .1),
+                  chain-keep head s' (led .fresh) p others l (o .1),
                   omega (arith, o .2, gr),
                   record { ds = m .ds; least = m .least; rank = getD-set-other row head A c 0 e ∙ m .rank; few = omega (arith, m .few, gr) },
                 )

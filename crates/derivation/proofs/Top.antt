@@ -36,16 +36,16 @@ to-at G A (tree s ts us) c ds d = (ds, subst (λ (x : Terms). Derives G (tree (n
 first-whole : (F : Terms) → count F ≡ 1 → first 1 F ≡ F
 first-whole F c = ap (λ (k : ℕ). first k F) (sym c) ∙ first-all F
 
-module _ {rules forms body masks₀ masks shown : List ℕ} (len : length masks ≡ length masks₀) (ex : AllExact rules forms body masks) {m : ℕ}
-    (em : m ≡ maskAt masks 0) {b : Bool} (eb : b ≡ has m 0) where
-  abbrev pub some : (p : ShowPre rules forms body masks₀ shown) → 0 < size (p .given .F)
+module _ {rules forms body masks₀ choices₀ masks choices shown : List ℕ} (len : length masks ≡ length masks₀) (long : length choices ≡ length choices₀)
+    (ex : AllExact rules forms body masks choices) {m : ℕ} (em : m ≡ maskAt masks 0) {b : Bool} (eb : b ≡ has m 0) where
+  abbrev pub some : (p : ShowPre rules forms body masks₀ choices₀ shown) → 0 < size (p .given .F)
   some p = omega (arith, p .one, count-size (p .given .F))
 
-  first-mask : (p : ShowPre rules forms body masks₀ shown) → ExactAt (p .given .G) (p .given .F) m (rankAt masks 0)
+  first-mask : (p : ShowPre rules forms body masks₀ choices₀ shown) → ExactAt (p .given .G) (p .given .F) m (rankAt masks 0)
   unfolding from
   first-mask p = subst (λ (x : ℕ). ExactAt (p .given .G) (p .given .F) x (rankAt masks 0)) (sym em) (ex .exact (p .given) 0 (some p))
 
-  pub show-no : not b ≡ true → (p : ShowPre rules forms body masks₀ shown) → ShowPost rules forms body masks₀ shown p shown 0
+  pub show-no : not b ≡ true → (p : ShowPre rules forms body masks₀ choices₀ shown) → ShowPost rules forms body masks₀ choices₀ shown p shown 0
   show-no n p = record {
     yes! = λ t. absurd (t refl);
     no! = λ t. (
@@ -55,24 +55,27 @@ module _ {rules forms body masks₀ masks shown : List ℕ} (len : length masks 
   }
 
   module _ (y : not b ≡ false) where
-    abbrev pub emit-asks : ShowPre rules forms body masks₀ shown → Asks rules forms body masks 0
+    abbrev pub emit-asks : ShowPre rules forms body masks₀ choices₀ shown → Asks rules forms body masks 0
     emit-asks p = record { given = p .given; inside = some p; small = p .small; long = len ∙ p .long; exact = λ j l h. ex .exact (p .given) j h }
 
-    pub emit-pre : ShowPre rules forms body masks₀ shown → EmitPre rules forms body masks 0 0 shown 0
+    pub emit-pre : ShowPre rules forms body masks₀ choices₀ shown → EmitPre rules forms body choices 0 0 shown 0
     unfolding from
     emit-pre p = record {
+      masks = masks;
       asks = emit-asks p;
+      all = ex;
+      held = omega (arith, p .roomy, long);
       low = omega arith;
       derives = first-mask p .sound 0 (omega arith) (sym eb ∙ not-false b y);
       room = omega (arith, p .room, ap size (first-whole (p .given .F) (p .one)));
     }
 
     -- the rank of the start at the whole body
-    top : (p : ShowPre rules forms body masks₀ shown)
+    top : (p : ShowPre rules forms body masks₀ choices₀ shown)
         → Ranked (p .given .G) start (first 1 (p .given .F)) (mostNonTerminals * size (first 1 (p .given .F))) (rankAt masks 0 0)
     top p = first-mask p .ranked 0 (omega arith) (sym eb ∙ not-false b y)
 
-    some-rank : (p : ShowPre rules forms body masks₀ shown) → {c : ℕ} → c ≡ rankAt masks 0 0 → c ≡ 0 → ⊥
+    some-rank : (p : ShowPre rules forms body masks₀ choices₀ shown) → {c : ℕ} → c ≡ rankAt masks 0 0 → c ≡ 0 → ⊥
     some-rank p e z = go (top p .ds) (top p .rank) (top p .least .derivation)
       where
         go : (ds : List ℕ) → rankAt masks 0 0 ≡ rankOf (p .given .G) ds → Derives (p .given .G) start (first 1 (p .given .F)) ds → ⊥
@@ -80,8 +83,8 @@ module _ {rules forms body masks₀ masks shown : List ℕ} (len : length masks 
         go (x ∷ ds) q d = omega arith
 
     pub show-yes : {shown' : List ℕ} {w : ℕ}
-        → ((e : EmitPre rules forms body masks 0 0 shown 0) → EmitPost rules forms body masks 0 0 shown 0 e shown' w) → {c : ℕ} → c ≡ rankAt masks 0 0
-        → (p : ShowPre rules forms body masks₀ shown) → ShowPost rules forms body masks₀ shown p shown' c
+        → ((e : EmitPre rules forms body choices 0 0 shown 0) → EmitPost rules forms body choices 0 0 shown 0 e shown' w) → {c : ℕ} → c ≡ rankAt masks 0 0
+        → (p : ShowPre rules forms body masks₀ choices₀ shown) → ShowPost rules forms body masks₀ choices₀ shown p shown' c
     unfolding from emit-pre
     show-yes post {c} ec p =
         let x = post (emit-pre p) in
@@ -115,17 +118,19 @@ module _ {rules forms body area : List ℕ} {k n : ℕ} (en : n ≡ length body 
   pub masks-fit : DerivePre rules forms body k area → n ≤ mostNodes * markWidth
   masks-fit p = omega (arith, en, body-size (p .given), p .fits)
 
-  module _ (ms : List ℕ) (lm : length ms ≡ mostNodes * markWidth) {blank : List ℕ} (bl : blank ≡ replicate listSize unused) where
-    abbrev pub show-pre : DerivePre rules forms body k area → ShowPre rules forms body (take n ms) blank
+  module _ (ms : List ℕ) (lm : length ms ≡ mostNodes * markWidth) {cs : List ℕ} (lc : length cs ≡ mostNodes * mostNonTerminals) {blank : List ℕ}
+      (bl : blank ≡ replicate listSize unused) where
+    abbrev pub show-pre : DerivePre rules forms body k area → ShowPre rules forms body (take n ms) cs blank
     show-pre p = record {
       given = p .given;
       one = p .one;
       small = p .fits;
       long = omega (arith, length-take n ms, lm, en, body-size (p .given), p .fits);
+      roomy = omega (arith, lc, p .fits);
       room = omega (arith, ap length bl, length-replicate {A = ℕ} listSize unused, p .fits);
     }
 
-    module _ {list : List ℕ} {c : ℕ} (post : Shows rules forms body (take n ms) blank list c) where
+    module _ {list : List ℕ} {c : ℕ} (post : Shows rules forms body (take n ms) cs blank list c) where
       -- the answer is no, and the area is as it was
       pub derive-no : c ≡ 0 → (p : DerivePre rules forms body k area) → DerivePost rules forms body k area p area false 0
       derive-no e p = record {

@@ -30,8 +30,8 @@ use Rattle.derivation.specs.code.Matching.{AsksNoChain}
 use Rattle.forest.proofs.Rows.{sets-append}
 use Rattle.forest.specs.Limits.{mostNonTerminals}
 
-module _ {rules forms body masks : List ℕ} {i r : ℕ} {shown₀ : List ℕ} {at₀ : ℕ} (e : SpreadPre rules forms body masks i r shown₀ at₀) where
-  abbrev pub q : AsksNoChain rules forms body masks i r
+module _ {rules forms body choices : List ℕ} {i r : ℕ} {shown₀ : List ℕ} {at₀ : ℕ} (e : SpreadPre rules forms body choices i r shown₀ at₀) where
+  abbrev pub q : AsksNoChain rules forms body (e .masks) i r
   q = e .rule-asks
 
   abbrev pub G : Grammar
@@ -63,7 +63,7 @@ module _ {rules forms body masks : List ℕ} {i r : ℕ} {shown₀ : List ℕ} {
     back = λ es d. rw (q .asks .given .admitted .single r (q .is-rule)) at d;
   }
 
-  pub track-end : {shown : List ℕ} {p j w : ℕ} → Track shown p j w → end q ≤ p → SpreadPost rules forms body masks i r shown₀ at₀ e shown w
+  pub track-end : {shown : List ℕ} {p j w : ℕ} → Track shown p j w → end q ≤ p → SpreadPost rules forms body choices i r shown₀ at₀ e shown w
   unfolding first count
   track-end t h =
       let e0 : t .parts .here .left ≡ none = size-zero (t .parts .here .left) (omega (arith, t .parts .here .ends)) in
@@ -97,7 +97,7 @@ module _ {rules forms body masks : List ℕ} {i r : ℕ} {shown₀ : List ℕ} {
     derived k = let v = view k in fits-hole-to G (v .A) (v .qs) (from F j) (rw (v .is) at fit)
 
     -- what a call for a non-terminal asks
-    abbrev pub hole-asks : codeAt forms p ≡ nonTerminalKind → Asks rules forms body masks j
+    abbrev pub hole-asks : codeAt forms p ≡ nonTerminalKind → Asks rules forms body (e .masks) j
     hole-asks k = record {
       given = q .asks .given;
       inside = in-body q p j (t .parts .here) h;
@@ -106,28 +106,31 @@ module _ {rules forms body masks : List ℕ} {i r : ℕ} {shown₀ : List ℕ} {
       exact = λ n l l2. q .asks .exact n (omega (arith, t .parts .here .past)) l2;
     }
 
-    pub hole-pre : codeAt forms p ≡ nonTerminalKind → EmitPre rules forms body masks j (valueAt forms p) shown w
+    pub hole-pre : codeAt forms p ≡ nonTerminalKind → EmitPre rules forms body choices j (valueAt forms p) shown w
     hole-pre k =
         let v = view k in
         let s1 = size-first (t .parts .here .left) (from F j) (v .is) (tree-here .is) in
         let s2 = size-one (from F j) (tree-here .is) in
         record {
+          masks = e .masks;
           asks = hole-asks k;
+          all = e .all;
+          held = e .held;
           low = hole-low q p j (t .parts .here) h k;
           derives = rw (v .value) (derived k);
           room = omega (arith, e .room, t .parts .few, t .parts .span, t .next, same-length, hole-after k);
         }
 
     pub track-hole : (k : codeAt forms p ≡ nonTerminalKind) (shown' : List ℕ) (w' : ℕ)
-        → EmitPost rules forms body masks j (valueAt forms p) shown w (hole-pre k) shown' w' → Track shown' (p + 1) (j + sizeAt body j) w'
+        → EmitPost rules forms body choices j (valueAt forms p) shown w (hole-pre k) shown' w' → Track shown' (p + 1) (j + sizeAt body j) w'
     unfolding join hole-pre first parts-hole step-hole
     track-hole k shown' w' x =
         let v = view k in
         let b = tree-here in
         let size-b : sizeAt body j ≡ suc (size (b .ops)) = node-says q p j (t .parts .here) h (b .l) (b .ops) (b .rest) (b .is) .size in
         let eF : from F (j + sizeAt body j) ≡ b .rest = ap (λ (n : ℕ). from F (j + n)) size-b ∙ from-over F j (b .l) (b .ops) (b .rest) (b .is) in
-        let y : has (maskAt masks j) (valueAt forms p) ≡ true =
-        ap (has (maskAt masks j)) (v .value)
+        let y : has (maskAt (e .masks) j) (valueAt forms p) ≡ true =
+        ap (has (maskAt (e .masks) j)) (v .value)
         ∙ q .asks .exact j (hole-after k) (in-body q p j (t .parts .here) h) .complete (v .A) (v .low) (derived k) in
         let d1 : D (tree (nonTerminal (v .A)) none none) (tree (b .l) (b .ops) none) (x .ds) = rw (v .value, b .is) at (x .derivation) in
         record {
@@ -166,15 +169,15 @@ module _ {rules forms body masks : List ℕ} {i r : ℕ} {shown₀ : List ℕ} {
         }
 
 -- the loop's invariant
-pub record Inv (rules forms body masks : List ℕ) (i r : ℕ) (shown₀ : List ℕ) (at₀ stop : ℕ) (shown : List ℕ) (p j w : ℕ) : Type 0 where
-  pub pre : SpreadPre rules forms body masks i r shown₀ at₀
-  pub stops : (e : SpreadPre rules forms body masks i r shown₀ at₀) → stop ≡ end (e .rule-asks)
-  pub track : (e : SpreadPre rules forms body masks i r shown₀ at₀) → Track e shown p j w
+pub record Inv (rules forms body choices : List ℕ) (i r : ℕ) (shown₀ : List ℕ) (at₀ stop : ℕ) (shown : List ℕ) (p j w : ℕ) : Type 0 where
+  pub pre : SpreadPre rules forms body choices i r shown₀ at₀
+  pub stops : (e : SpreadPre rules forms body choices i r shown₀ at₀) → stop ≡ end (e .rule-asks)
+  pub track : (e : SpreadPre rules forms body choices i r shown₀ at₀) → Track e shown p j w
   pub same-long : length shown ≡ length shown₀
 
-module _ {rules forms body masks : List ℕ} {i r : ℕ} {shown₀ : List ℕ} {at₀ : ℕ} where
-  pub spread-start : SpreadPre rules forms body masks i r shown₀ at₀ → (p n : ℕ) → p ≡ startAt rules r → n ≡ sizeAt forms p
-      → Inv rules forms body masks i r shown₀ at₀ (p + n) shown₀ p i at₀
+module _ {rules forms body choices : List ℕ} {i r : ℕ} {shown₀ : List ℕ} {at₀ : ℕ} where
+  pub spread-start : SpreadPre rules forms body choices i r shown₀ at₀ → (p n : ℕ) → p ≡ startAt rules r → n ≡ sizeAt forms p
+      → Inv rules forms body choices i r shown₀ at₀ (p + n) shown₀ p i at₀
   spread-start e p n ep en = record {
     pre = e;
     stops = λ e2. omega (arith, end-is (e2 .rule-asks), en ∙ ap (sizeAt forms) ep);
@@ -182,12 +185,12 @@ module _ {rules forms body masks : List ℕ} {i r : ℕ} {shown₀ : List ℕ} {
     same-long = refl;
   }
 
-  module _ {stop : ℕ} {shown : List ℕ} {p j w : ℕ} (v : Inv rules forms body masks i r shown₀ at₀ stop shown p j w) where
-    pub spread-end : stop ≤ p → (e : SpreadPre rules forms body masks i r shown₀ at₀) → SpreadPost rules forms body masks i r shown₀ at₀ e shown w
+  module _ {stop : ℕ} {shown : List ℕ} {p j w : ℕ} (v : Inv rules forms body choices i r shown₀ at₀ stop shown p j w) where
+    pub spread-end : stop ≤ p → (e : SpreadPre rules forms body choices i r shown₀ at₀) → SpreadPost rules forms body choices i r shown₀ at₀ e shown w
     spread-end h e = track-end e (v .track e) (omega (arith, v .stops e))
 
     module _ (h : p < stop) where
-      pub within : (e : SpreadPre rules forms body masks i r shown₀ at₀) → p < end (e .rule-asks)
+      pub within : (e : SpreadPre rules forms body choices i r shown₀ at₀) → p < end (e .rule-asks)
       within e = omega (arith, v .stops e)
 
       space : Room (v .pre .rule-asks) p j (v .track (v .pre) .parts .here) (within (v .pre))
@@ -203,7 +206,7 @@ module _ {rules forms body masks : List ℕ} {i r : ℕ} {shown₀ : List ℕ} {
       spread-over en = omega (arith, en, space .over)
 
       module _ {code : ℕ} (ec : code ≡ codeAt forms p) where
-        pub spread-node : (code ≡ nonTerminalKind → ⊥) → Inv rules forms body masks i r shown₀ at₀ stop shown (p + 1) (j + 1) w
+        pub spread-node : (code ≡ nonTerminalKind → ⊥) → Inv rules forms body choices i r shown₀ at₀ stop shown (p + 1) (j + 1) w
         spread-node k =
             record { pre = v .pre; stops = v .stops; track = λ e. track-node e (v .track e) (within e) (λ x. k (ec ∙ x)); same-long = v .same-long }
 
@@ -212,19 +215,19 @@ module _ {rules forms body masks : List ℕ} {i r : ℕ} {shown₀ : List ℕ} {
           spread-after = (hole-after (v .pre) (v .track (v .pre)) (within (v .pre)) (sym ec ∙ k), omega (arith, space .in-body))
 
           module _ {x : ℕ} (ex : x ≡ valueAt forms p) where
-            asked : (e : SpreadPre rules forms body masks i r shown₀ at₀) → EmitPre rules forms body masks j (valueAt forms p) shown w
+            asked : (e : SpreadPre rules forms body choices i r shown₀ at₀) → EmitPre rules forms body choices j (valueAt forms p) shown w
             asked e = hole-pre e (v .track e) (within e) (sym ec ∙ k)
 
-            pub spread-asks : EmitPre rules forms body masks j x shown w
+            pub spread-asks : EmitPre rules forms body choices j x shown w
             spread-asks = rw ex (asked (v .pre))
 
             Gives : (shown' : List ℕ) (w' x : ℕ) → Type 0
-            Gives shown' w' x = (e : EmitPre rules forms body masks j x shown w) → EmitPost rules forms body masks j x shown w e shown' w'
+            Gives shown' w' x = (e : EmitPre rules forms body choices j x shown w) → EmitPost rules forms body choices j x shown w e shown' w'
 
             pub spread-hole : {shown' : List ℕ} {w' : ℕ}
-                → ((e : EmitPre rules forms body masks j x shown w) → EmitPost rules forms body masks j x shown w e shown' w') → {n : ℕ}
+                → ((e : EmitPre rules forms body choices j x shown w) → EmitPost rules forms body choices j x shown w e shown' w') → {n : ℕ}
                 → n ≡ sizeAt body j → length shown' ≡ length shown
-                → Inv rules forms body masks i r shown₀ at₀ stop shown' (p + 1) (j + n) w'
+                → Inv rules forms body choices i r shown₀ at₀ stop shown' (p + 1) (j + n) w'
             unfolding Gives asked
             spread-hole {shown'} {w'} post {n} en len =
                 let g : Gives shown' w' (valueAt forms p) = subst (Gives shown' w') ex post in

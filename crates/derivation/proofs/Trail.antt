@@ -2,11 +2,11 @@
 use Rattle.forest.specs.Limits.{mostNonTerminals, mostRules}
 use Rattle.forest.proofs.Rows.{sets-append}
 use mathlib.Core.Path.{_≡_, refl, ap, _∙_, subst}
-use Prim.Native.Nat.{ℕ, suc, _+_, _<_, _≤_}
+use Prim.Native.Nat.{ℕ, suc, _+_, _*_, _<_, _≤_}
 use native.Mathlib.Nat.{add-zero}
 use native.Mathlib.Omega.{arith}
 use mathlib.Core.List.{List, [], _∷_, _++_, append-assoc}
-use lib.ListN.{length, getD, set, length-append, length-set}
+use lib.ListN.{length, set, length-append, length-set}
 use lib.Seq.{sets, length-sets}
 use Rattle.forest.specs.Forest.{Forest, none, tree}
 use Rattle.forest.specs.code.Cursors.{from, first}
@@ -15,7 +15,7 @@ use Rattle.terms.specs.code.Nodes.{codeAt, valueAt}
 use Rattle.derivation.specs.Derivation.{Item, nonTerminal, headOf, formOf, Fresh, Simple, Grammar}
 use Rattle.derivation.specs.Least.{Least}
 use Rattle.terms.specs.code.Codes.{nonTerminalKind}
-use Rattle.derivation.specs.code.Search.{Chain, stop, more, Fits, Best}
+use Rattle.derivation.specs.code.Search.{Chain, stop, more, Fits, Best, choiceAt}
 use Rattle.derivation.proofs.Simple.{use-one, no-chain-any}
 use Rattle.derivation.proofs.RuleFirst.{chain-view, no-chain-view}
 use Rattle.derivation.proofs.Closed.{here, first-one}
@@ -23,15 +23,15 @@ use Rattle.derivation.specs.code.Rules.{startAt}
 use Rattle.derivation.specs.code.Showing.{FollowPre, FollowPost}
 use mathlib.Core.Path as path
 
-module _ {rules forms chosen : List ℕ} {a : ℕ} {shown₀ : List ℕ} {at : ℕ} (f : FollowPre rules forms chosen a shown₀ at) where
+module _ {rules forms choices : List ℕ} {i a : ℕ} {shown₀ : List ℕ} {at : ℕ} (f : FollowPre rules forms choices i a shown₀ at) where
   abbrev pub G : Grammar
   G = f .asks .given .G
 
   abbrev pub T : Terms
-  T = from (f .asks .given .F) (f .i)
+  T = from (f .asks .given .F) i
 
   abbrev pub Follows : ℕ → ℕ → Type 0
-  Follows = Chain G T (f .s) chosen
+  Follows = Chain G T (f .s) (choiceAt choices i)
 
   abbrev pub T1 : Terms
   T1 = first 1 T
@@ -91,11 +91,11 @@ module _ {rules forms chosen : List ℕ} {a : ℕ} {shown₀ : List ℕ} {at : �
   }
 
   -- the rule chosen for a member
-  chosen-rule : {b k : ℕ} → Follows b k → getD chosen b 0 < length (G .rules)
+  chosen-rule : {b k : ℕ} → Follows b k → choiceAt choices i b < length (G .rules)
   chosen-rule (stop y! lt hd np fi be) = lt
   chosen-rule (more B y! lt hd is be c) = lt
 
-  chosen-head : {b k : ℕ} → Follows b k → headOf (G .rules) (getD chosen b 0) ≡ b
+  chosen-head : {b k : ℕ} → Follows b k → headOf (G .rules) (choiceAt choices i b) ≡ b
   chosen-head (stop y! lt hd np fi be) = hd
   chosen-head (more B y! lt hd is be c) = hd
 
@@ -103,23 +103,23 @@ module _ {rules forms chosen : List ℕ} {a : ℕ} {shown₀ : List ℕ} {at : �
   chosen-pos (stop y! lt hd np fi be) = omega arith
   chosen-pos (more B y! lt hd is be c) = omega arith
 
-  chosen-best : {b k : ℕ} → Follows b k → Best G T b (getD chosen b 0)
+  chosen-best : {b k : ℕ} → Follows b k → Best G T b (choiceAt choices i b)
   chosen-best (stop y! lt hd np fi be) = be
   chosen-best (more B y! lt hd is be c) = be
 
   pub trail-room : {shown : List ℕ} {b w : ℕ} → Trail shown b w → w < length shown
   trail-room t = omega (arith, f .room, t .left, t .next, ap length (t .wrote), length-sets shown₀ at (t .ws), chosen-pos (t .chain))
 
-  pub trail-few : {shown : List ℕ} {b w : ℕ} → Trail shown b w → getD chosen b 0 < mostRules
+  pub trail-few : {shown : List ℕ} {b w : ℕ} → Trail shown b w → choiceAt choices i b < mostRules
   trail-few t = omega (arith, chosen-rule (t .chain), f .asks .given .admitted .few)
 
   -- one rule more in front of what derives its right side
   one-more : {b k : ℕ} → Follows b k → (seen : List ℕ) → Above k seen → (es : List ℕ)
-      → Simple G (b ∷ seen) (formOf (G .rules) (getD chosen b 0)) T1 es → Simple G seen (tree (nonTerminal b) none none) T1 (getD chosen b 0 ∷ es)
+      → Simple G (b ∷ seen) (formOf (G .rules) (choiceAt choices i b)) T1 es → Simple G seen (tree (nonTerminal b) none none) T1 (choiceAt choices i b ∷ es)
   one-more {b} c seen ab es d =
       let h = here (f .asks) in
       let e = first-one (f .asks) in
-      let r = getD chosen b 0 in
+      let r = choiceAt choices i b in
       let S = Simple G in
       let d2 : S (b ∷ seen) (formOf (G .rules) r) (tree (h .l) (h .ops) none) es = rw e at d in
       let hd = chosen-head c in
@@ -129,42 +129,42 @@ module _ {rules forms chosen : List ℕ} {a : ℕ} {shown₀ : List ℕ} {at : �
       let u = use-one G seen r (h .l) (h .ops) es (chosen-rule c) fr d3 in
       rw e (subst (λ (x : ℕ). S seen (tree (nonTerminal x) none none) (tree (h .l) (h .ops) none) (r ∷ es)) hd u)
 
-  back-more : (shown : List ℕ) (b w : ℕ) (t : Trail shown b w) (es : List ℕ) → Simple G (b ∷ t .seen) (formOf (G .rules) (getD chosen b 0)) T1 es
-      → D (tree (nonTerminal a) none none) T1 ((t .ws ++ (getD chosen b 0 ∷ [])) ++ es)
-  back-more shown b w t es d = rw append-assoc (t .back (getD chosen b 0 ∷ es) (one-more (t .chain) (t .seen) (t .above) es d))
+  back-more : (shown : List ℕ) (b w : ℕ) (t : Trail shown b w) (es : List ℕ) → Simple G (b ∷ t .seen) (formOf (G .rules) (choiceAt choices i b)) T1 es
+      → D (tree (nonTerminal a) none none) T1 ((t .ws ++ (choiceAt choices i b ∷ [])) ++ es)
+  back-more shown b w t es d = rw append-assoc (t .back (choiceAt choices i b ∷ es) (one-more (t .chain) (t .seen) (t .above) es d))
 
-  least-more : (shown : List ℕ) (b w : ℕ) (t : Trail shown b w) (es : List ℕ) → Least G (formOf (G .rules) (getD chosen b 0)) T1 es
-      → Least G (tree (nonTerminal a) none none) T1 ((t .ws ++ (getD chosen b 0 ∷ [])) ++ es)
-  least-more shown b w t es d = rw append-assoc (t .least (getD chosen b 0 ∷ es) (chosen-best (t .chain) es d))
+  least-more : (shown : List ℕ) (b w : ℕ) (t : Trail shown b w) (es : List ℕ) → Least G (formOf (G .rules) (choiceAt choices i b)) T1 es
+      → Least G (tree (nonTerminal a) none none) T1 ((t .ws ++ (choiceAt choices i b ∷ [])) ++ es)
+  least-more shown b w t es d = rw append-assoc (t .least (choiceAt choices i b ∷ es) (chosen-best (t .chain) es d))
 
-  wrote-more : (shown : List ℕ) (b w : ℕ) (t : Trail shown b w) → set shown w (getD chosen b 0) ≡ sets shown₀ at (t .ws ++ (getD chosen b 0 ∷ []))
+  wrote-more : (shown : List ℕ) (b w : ℕ) (t : Trail shown b w) → set shown w (choiceAt choices i b) ≡ sets shown₀ at (t .ws ++ (choiceAt choices i b ∷ []))
   wrote-more shown b w t =
-      ap (λ (x : List ℕ). set x w (getD chosen b 0)) (t .wrote)
-      ∙ ap (λ (x : ℕ). set (sets shown₀ at (t .ws)) x (getD chosen b 0)) (t .next)
-      ∙ path.sym (sets-append shown₀ at (t .ws) (getD chosen b 0 ∷ []))
+      ap (λ (x : List ℕ). set x w (choiceAt choices i b)) (t .wrote)
+      ∙ ap (λ (x : ℕ). set (sets shown₀ at (t .ws)) x (choiceAt choices i b)) (t .next)
+      ∙ path.sym (sets-append shown₀ at (t .ws) (choiceAt choices i b ∷ []))
 
-  pub trail-more : (shown : List ℕ) (b w : ℕ) → Trail shown b w → codeAt forms (startAt rules (getD chosen b 0)) ≡ nonTerminalKind
-      → Trail (set shown w (getD chosen b 0)) (valueAt forms (startAt rules (getD chosen b 0))) (w + 1)
+  pub trail-more : (shown : List ℕ) (b w : ℕ) → Trail shown b w → codeAt forms (startAt rules (choiceAt choices i b)) ≡ nonTerminalKind
+      → Trail (set shown w (choiceAt choices i b)) (valueAt forms (startAt rules (choiceAt choices i b))) (w + 1)
   trail-more shown b w t k1 = go (t .k) (t .chain) (t .left) (t .above)
     where
       r : ℕ
-      r = getD chosen b 0
+      r = choiceAt choices i b
 
       go : (k : ℕ) → Follows b k → length (t .ws) + k ≤ f .k → Above k (t .seen)
-          → Trail (set shown w (getD chosen b 0)) (valueAt forms (startAt rules (getD chosen b 0))) (w + 1)
-      go k (stop y! lt hd np fi be) l ab = let v = chain-view (f .asks .given) (getD chosen b 0) lt k1 in absurd (np (v .B) none none (v .is))
+          → Trail (set shown w (choiceAt choices i b)) (valueAt forms (startAt rules (choiceAt choices i b))) (w + 1)
+      go k (stop y! lt hd np fi be) l ab = let v = chain-view (f .asks .given) (choiceAt choices i b) lt k1 in absurd (np (v .B) none none (v .is))
       go (suc k) (more B y! lt hd is be c) l ab =
-          let v = chain-view (f .asks .given) (getD chosen b 0) lt k1 in
+          let v = chain-view (f .asks .given) (choiceAt choices i b) lt k1 in
           let eB : B ≡ v .B = cc (v .is) in
-          let eb : B ≡ valueAt forms (startAt rules (getD chosen b 0)) = eB ∙ path.sym (v .value) in
+          let eb : B ≡ valueAt forms (startAt rules (choiceAt choices i b)) = eB ∙ path.sym (v .value) in
           record {
-            ws = t .ws ++ (getD chosen b 0 ∷ []);
+            ws = t .ws ++ (choiceAt choices i b ∷ []);
             k = k;
             wrote = wrote-more shown b w t;
-            next = omega (arith, t .next, length-append (t .ws) (getD chosen b 0 ∷ []));
+            next = omega (arith, t .next, length-append (t .ws) (choiceAt choices i b ∷ []));
             low = omega (arith, v .low, v .value);
             chain = subst (λ (x : ℕ). Follows x k) eb c;
-            left = omega (arith, l, length-append (t .ws) (getD chosen b 0 ∷ []));
+            left = omega (arith, l, length-append (t .ws) (choiceAt choices i b ∷ []));
             seen = b ∷ t .seen;
             above = and-one (suc k) (more B y! lt hd is be c) (omega arith) (above-less (suc k) k (omega arith) ab);
             least = λ es d.
@@ -176,56 +176,58 @@ module _ {rules forms chosen : List ℕ} {a : ℕ} {shown₀ : List ℕ} {at : �
                 (ap (λ (x : ℕ). tree (nonTerminal x) none none) (path.sym eb) ∙ path.sym is) d);
           }
 
-  pub trail-end : (shown : List ℕ) (b w : ℕ) → Trail shown b w → (codeAt forms (startAt rules (getD chosen b 0)) ≡ nonTerminalKind → ⊥)
-      → FollowPost rules forms chosen a shown₀ at f (set shown w (getD chosen b 0)) (w + 1) (getD chosen b 0)
+  pub trail-end : (shown : List ℕ) (b w : ℕ) → Trail shown b w → (codeAt forms (startAt rules (choiceAt choices i b)) ≡ nonTerminalKind → ⊥)
+      → FollowPost rules forms choices i a shown₀ at f (set shown w (choiceAt choices i b)) (w + 1) (choiceAt choices i b)
   trail-end shown b w t k1 = record {
-    ws = t .ws ++ (getD chosen b 0 ∷ []);
+    ws = t .ws ++ (choiceAt choices i b ∷ []);
     wrote = wrote-more shown b w t;
-    next = omega (arith, t .next, length-append (t .ws) (getD chosen b 0 ∷ []));
-    few = omega (arith, t .left, chosen-pos (t .chain), length-append (t .ws) (getD chosen b 0 ∷ []));
+    next = omega (arith, t .next, length-append (t .ws) (choiceAt choices i b ∷ []));
+    few = omega (arith, t .left, chosen-pos (t .chain), length-append (t .ws) (choiceAt choices i b ∷ []));
     is-rule = chosen-rule (t .chain);
-    no-chain = no-chain-view (f .asks .given) (getD chosen b 0) (chosen-rule (t .chain)) k1;
+    no-chain = no-chain-view (f .asks .given) (choiceAt choices i b) (chosen-rule (t .chain)) k1;
     fits = fits-end (t .chain);
     least = λ es d. least-more shown b w t es d;
-    back = λ es d. back-more shown b w t es (no-chain-any G (b ∷ t .seen) (no-chain-view (f .asks .given) (getD chosen b 0) (chosen-rule (t .chain)) k1) d);
+    back = λ es d.
+        back-more shown b w t es (no-chain-any G (b ∷ t .seen) (no-chain-view (f .asks .given) (choiceAt choices i b) (chosen-rule (t .chain)) k1) d);
   }
     where
-      fits-end : {k : ℕ} → Follows b k → Fits G (formOf (G .rules) (getD chosen b 0)) T
+      fits-end : {k : ℕ} → Follows b k → Fits G (formOf (G .rules) (choiceAt choices i b)) T
       fits-end (stop y! lt hd np fi be) = fi
-      fits-end (more B y! lt hd is be c) = absurd (no-chain-view (f .asks .given) (getD chosen b 0) lt k1 B none none is)
+      fits-end (more B y! lt hd is be c) = absurd (no-chain-view (f .asks .given) (choiceAt choices i b) lt k1 B none none is)
 
 -- the loop's invariant, with what the indices need as plain numbers
-pub record Inv (rules forms chosen : List ℕ) (a : ℕ) (shown₀ : List ℕ) (at : ℕ) (shown : List ℕ) (b w : ℕ) : Type 0 where
-  pub pre : FollowPre rules forms chosen a shown₀ at
-  pub trail : (f : FollowPre rules forms chosen a shown₀ at) → Trail f shown b w
+pub record Inv (rules forms choices : List ℕ) (i a : ℕ) (shown₀ : List ℕ) (at : ℕ) (shown : List ℕ) (b w : ℕ) : Type 0 where
+  pub pre : FollowPre rules forms choices i a shown₀ at
+  pub trail : (f : FollowPre rules forms choices i a shown₀ at) → Trail f shown b w
   pub same-length : length shown ≡ length shown₀
-  pub sixteen : length chosen ≡ mostNonTerminals
+  pub held : mostNonTerminals * i + mostNonTerminals ≤ length choices
   pub low : b < mostNonTerminals
   pub room : w < length shown
-  pub few : getD chosen b 0 < mostRules
+  pub few : choiceAt choices i b < mostRules
 
-module _ {rules forms chosen : List ℕ} {a : ℕ} {shown₀ : List ℕ} {at : ℕ} where
-  inv-of : {shown : List ℕ} {b w : ℕ} → FollowPre rules forms chosen a shown₀ at
-      → ((f : FollowPre rules forms chosen a shown₀ at) → Trail f shown b w) → length shown ≡ length shown₀
-      → Inv rules forms chosen a shown₀ at shown b w
-  inv-of p t l = record { pre = p; trail = t; same-length = l; sixteen = p .sixteen; low = t p .low; room = trail-room p (t p); few = trail-few p (t p) }
+module _ {rules forms choices : List ℕ} {i a : ℕ} {shown₀ : List ℕ} {at : ℕ} where
+  inv-of : {shown : List ℕ} {b w : ℕ} → FollowPre rules forms choices i a shown₀ at
+      → ((f : FollowPre rules forms choices i a shown₀ at) → Trail f shown b w) → length shown ≡ length shown₀
+      → Inv rules forms choices i a shown₀ at shown b w
+  inv-of p t l = record { pre = p; trail = t; same-length = l; held = p .held; low = t p .low; room = trail-room p (t p); few = trail-few p (t p) }
 
-  pub inv-start : FollowPre rules forms chosen a shown₀ at → Inv rules forms chosen a shown₀ at shown₀ a at
+  pub inv-start : FollowPre rules forms choices i a shown₀ at → Inv rules forms choices i a shown₀ at shown₀ a at
   inv-start p = inv-of p (λ f. trail-start f) refl
 
-  module _ {shown : List ℕ} {b w : ℕ} (v : Inv rules forms chosen a shown₀ at shown b w) {start code : ℕ}
-      (es : start ≡ startAt rules (getD chosen b 0)) (ec : code ≡ codeAt forms start) where
-    code-is : code ≡ codeAt forms (startAt rules (getD chosen b 0))
+  module _ {shown : List ℕ} {b w : ℕ} (v : Inv rules forms choices i a shown₀ at shown b w) {start code : ℕ}
+      (es : start ≡ startAt rules (choiceAt choices i b)) (ec : code ≡ codeAt forms start) where
+    code-is : code ≡ codeAt forms (startAt rules (choiceAt choices i b))
     code-is = ec ∙ ap (codeAt forms) es
 
-    pub turn-more : code ≡ nonTerminalKind → {x : ℕ} → x ≡ valueAt forms start → Inv rules forms chosen a shown₀ at (set shown w (getD chosen b 0)) x (w + 1)
+    pub turn-more : code ≡ nonTerminalKind → {x : ℕ} → x ≡ valueAt forms start
+        → Inv rules forms choices i a shown₀ at (set shown w (choiceAt choices i b)) x (w + 1)
     turn-more k {x} ex =
         inv-of (v .pre)
         (λ f.
-        subst (λ (y : ℕ). Trail f (set shown w (getD chosen b 0)) y (w + 1)) (path.sym (ex ∙ ap (valueAt forms) es))
+        subst (λ (y : ℕ). Trail f (set shown w (choiceAt choices i b)) y (w + 1)) (path.sym (ex ∙ ap (valueAt forms) es))
         (trail-more f shown b w (v .trail f) (path.sym code-is ∙ k)))
-        (length-set shown w (getD chosen b 0) ∙ v .same-length)
+        (length-set shown w (choiceAt choices i b) ∙ v .same-length)
 
-    pub turn-end : (code ≡ nonTerminalKind → ⊥) → (f : FollowPre rules forms chosen a shown₀ at)
-        → FollowPost rules forms chosen a shown₀ at f (set shown w (getD chosen b 0)) (w + 1) (getD chosen b 0)
+    pub turn-end : (code ≡ nonTerminalKind → ⊥) → (f : FollowPre rules forms choices i a shown₀ at)
+        → FollowPost rules forms choices i a shown₀ at f (set shown w (choiceAt choices i b)) (w + 1) (choiceAt choices i b)
     turn-end k f = trail-end f shown b w (v .trail f) (λ e. k (code-is ∙ e))

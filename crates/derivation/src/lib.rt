@@ -9,9 +9,10 @@ ghost use lib.Seq.{sets};
 ghost use Rattle.derivation.specs.Answer.{unused};
 ghost use Rattle.derivation.specs.code.Derive.{Decides, DerivePre};
 ghost use Rattle.derivation.specs.code.Masks.{markWidth};
-ghost use Rattle.forest.specs.Limits.{listSize, mostNodes};
+ghost use Rattle.forest.specs.Limits.{listSize, mostNodes, mostNonTerminals};
 use forest::limits::LIST;
 use forest::limits::NODES;
+use forest::limits::NON_TERMINALS;
 use masks::MARKS;
 use matching::PER_WEIGHT;
 use terms::ROW;
@@ -32,11 +33,21 @@ pub const UNUSED: u16 = 65535;
 // How many numbers the table of masks has room for.
 const MARKED: usize = NODES * MARKS;
 
+// How many numbers the table of choices has room for.
+const CHOSEN: usize = NODES * NON_TERMINALS;
+
 // A mask and the ranks for each node of a body.
 fn no_masks() -> [u64; MARKED]
     ensures { λ r. ⌜ length r ≡ mostNodes * markWidth ⌝ }
 {
     [0u64; MARKED]
+}
+
+// A rule for each non-terminal at each node of a body.
+fn no_choices() -> [u16; CHOSEN]
+    ensures { λ r. ⌜ length r ≡ mostNodes * mostNonTerminals ⌝ }
+{
+    [0u16; CHOSEN]
 }
 
 // A list of one function with every entry unused.
@@ -46,7 +57,7 @@ fn blank() -> [u16; LIST]
     [UNUSED; LIST]
 }
 
-// Copies a list into the area, from `at` on.
+// Copies a list into a table of such numbers, from `at` on.
 fn copy(list: &[u16], area: &mut [u16], at: usize)
     requires { ⌜ at + length (now list) ≤ length (now area) ⌝ }
     ensures { λ _. ⌜ now (area .exit) ≡ sets (now (area .entry)) at (now (list .entry)) ⌝ }
@@ -78,8 +89,16 @@ pub fn derive(
 {
     let long = body.len() / ROW * MARKS;
     let mut masks = no_masks();
+    let mut choices = no_choices();
     let mut list = blank();
-    let rank = showing::show(rules, forms, body, &mut masks[..long], &mut list);
+    let rank = showing::show(
+        rules,
+        forms,
+        body,
+        &mut masks[..long],
+        &mut choices,
+        &mut list,
+    );
     if rank == 0 {
         return Derived {
             found: false,

@@ -1,8 +1,6 @@
-//! The derivation that is shown: the numbers of the rules used, leftmost first.
+//! The derivation that is shown: the numbers of the rules used, leftmost first, as the choices of the nodes lead to them.
 ghost use Rattle.derivation.specs.code.Showing.{EmitPre, Emits, FollowPre, Follows, ShowPre, Shows, SpreadPre, Spreads};
-use crate::filling::derivers;
 use crate::filling::fill_masks;
-use crate::masks::MARKS;
 use crate::masks::has;
 use crate::masks::mask_at;
 use crate::masks::rank_at;
@@ -22,23 +20,24 @@ struct Followed {
     rule: usize,
 }
 
-// Writes the chain rules that the choices lead through from a non-terminal, and the rule at their end.
+// Writes the chain rules that the choices of a node lead through from a non-terminal, and the rule at their end.
 fn follow(
     rules: &[u64],
     forms: &[u64],
-    chosen: &[u64],
+    choices: &[u16],
+    node: usize,
     nonterminal: u64,
     shown: &mut [u16],
     at: usize,
 ) -> Followed
-    requires { ⌜ FollowPre (now rules) (now forms) (now chosen) nonterminal (now shown) at ⌝ }
-    ensures { λ x. ⌜ Follows (now (rules .entry)) (now (forms .entry)) (now (chosen .entry))
-        nonterminal (now (shown .entry)) at (now (shown .exit)) (x .at) (x .rule) ⌝ }
+    requires { ⌜ FollowPre (now rules) (now forms) (now choices) node nonterminal (now shown) at ⌝ }
+    ensures { λ x. ⌜ Follows (now (rules .entry)) (now (forms .entry)) (now (choices .entry))
+        node nonterminal (now (shown .entry)) at (now (shown .exit)) (x .at) (x .rule) ⌝ }
 {
     let mut current = nonterminal;
     let mut next = at;
     loop {
-        let rule = chosen[current as usize] as usize;
+        let rule = choices[NON_TERMINALS * node + current as usize] as usize;
         shown[next] = rule as u16;
         next += 1;
         let start = start_at(rules, rule);
@@ -57,21 +56,18 @@ fn emit(
     rules: &[u64],
     forms: &[u64],
     body: &[u64],
-    masks: &[u64],
+    choices: &[u16],
     node: usize,
     nonterminal: u64,
     shown: &mut [u16],
     at: usize,
 ) -> usize
-    requires { ⌜ EmitPre (now rules) (now forms) (now body) (now masks) node nonterminal (now shown) at ⌝ }
-    ensures { λ x. ⌜ Emits (now (rules .entry)) (now (forms .entry)) (now (body .entry)) (now (masks .entry)) node
+    requires { ⌜ EmitPre (now rules) (now forms) (now body) (now choices) node nonterminal (now shown) at ⌝ }
+    ensures { λ x. ⌜ Emits (now (rules .entry)) (now (forms .entry)) (now (body .entry)) (now (choices .entry)) node
         nonterminal (now (shown .entry)) at (now (shown .exit)) x ⌝ }
 {
-    let mut row = [0u64; MARKS];
-    let mut chosen = [0u64; NON_TERMINALS];
-    derivers(rules, forms, body, masks, node, &mut row, &mut chosen);
-    let end = follow(rules, forms, &chosen, nonterminal, shown, at);
-    spread(rules, forms, body, masks, node, end.rule, shown, end.at)
+    let end = follow(rules, forms, choices, node, nonterminal, shown, at);
+    spread(rules, forms, body, choices, node, end.rule, shown, end.at)
 }
 
 // Writes the least derivations for the non-terminals of a rule, which is no chain rule, at a node.
@@ -79,14 +75,14 @@ fn spread(
     rules: &[u64],
     forms: &[u64],
     body: &[u64],
-    masks: &[u64],
+    choices: &[u16],
     node: usize,
     rule: usize,
     shown: &mut [u16],
     at: usize,
 ) -> usize
-    requires { ⌜ SpreadPre (now rules) (now forms) (now body) (now masks) node rule (now shown) at ⌝ }
-    ensures { λ x. ⌜ Spreads (now (rules .entry)) (now (forms .entry)) (now (body .entry)) (now (masks .entry))
+    requires { ⌜ SpreadPre (now rules) (now forms) (now body) (now choices) node rule (now shown) at ⌝ }
+    ensures { λ x. ⌜ Spreads (now (rules .entry)) (now (forms .entry)) (now (body .entry)) (now (choices .entry))
         node rule (now (shown .entry)) at (now (shown .exit)) x ⌝ }
 {
     let mut place = start_at(rules, rule);
@@ -99,7 +95,7 @@ fn spread(
                 rules,
                 forms,
                 body,
-                masks,
+                choices,
                 here,
                 value_at(forms, place),
                 shown,
@@ -116,14 +112,22 @@ fn spread(
 }
 
 // The rank of the least list by which the start derives the body, which goes to the front of the list; 0 if there is none.
-pub fn show(rules: &[u64], forms: &[u64], body: &[u64], masks: &mut [u64], shown: &mut [u16]) -> u64
-    requires { ⌜ ShowPre (now rules) (now forms) (now body) (now masks) (now shown) ⌝ }
-    ensures { λ r. ⌜ Shows (now (rules .entry)) (now (forms .entry)) (now (body .entry)) (now (masks .entry)) (now (shown .entry)) (now (shown .exit)) r ⌝ }
+pub fn show(
+    rules: &[u64],
+    forms: &[u64],
+    body: &[u64],
+    masks: &mut [u64],
+    choices: &mut [u16],
+    shown: &mut [u16],
+) -> u64
+    requires { ⌜ ShowPre (now rules) (now forms) (now body) (now masks) (now choices) (now shown) ⌝ }
+    ensures { λ r. ⌜ Shows (now (rules .entry)) (now (forms .entry)) (now (body .entry)) (now (masks .entry)) (now (choices .entry))
+        (now (shown .entry)) (now (shown .exit)) r ⌝ }
 {
-    fill_masks(rules, forms, body, masks);
+    fill_masks(rules, forms, body, masks, choices);
     if !has(mask_at(masks, 0), START) {
         return 0;
     }
-    emit(rules, forms, body, masks, 0, START, shown, 0);
+    emit(rules, forms, body, choices, 0, START, shown, 0);
     rank_at(masks, 0, START)
 }

@@ -1,6 +1,7 @@
 -- What filling the masks and ranks of the nodes asks and gives.
 use Rattle.forest.specs.Limits.{mostNodes, mostNonTerminals, mostRules}
 use mathlib.Core.Path.{_≡_}
+use mathlib.Core.Logic.{_⊎_}
 use mathlib.Core.Bool.{true, false}
 use Prim.Native.Nat.{ℕ, _+_, _*_, _/_, _<_, _≤_}
 use mathlib.Core.List.{List}
@@ -15,7 +16,7 @@ use Rattle.derivation.specs.code.Tables.{Given}
 use Rattle.derivation.specs.code.Rules.{nonTerminalAt, ruleWidth, startAt, weightAt}
 use Rattle.derivation.specs.code.Masks.{has, markWidth, maskAt, rankAt}
 use Rattle.derivation.specs.code.Ranks.{perWeight, most}
-use Rattle.derivation.specs.code.Search.{Asks, Chain, ExactAt, Fits, NoChain}
+use Rattle.derivation.specs.code.Search.{Asks, Chained, ExactAt, Fits, NoChain, choiceAt}
 use Rattle.derivation.specs.code.Matching.{Matched}
 
 -- Rule r can be used at the place of F's first tree, where the set s is known to be derived.
@@ -31,6 +32,20 @@ IsChain rules forms r = codeAt forms (startAt rules r) ≡ nonTerminalKind
 pub record Priced (rules forms body masks : List ℕ) (i n : ℕ) (costs : List ℕ) : Type 0 where
   pub long : length costs ≡ mostRules
   pub each : (r : ℕ) → r < n → (IsChain rules forms r → ⊥) → Matched rules forms body masks i r (getD costs r 0)
+
+-- The first m of the list are, in rising order, rules before the n-th; each other one of those is no chain rule and has no price, so that it adds nothing.
+pub record Live (rules forms costs : List ℕ) (n : ℕ) (live : List ℕ) (m : ℕ) : Type 0 where
+  pub few : m ≤ n
+  pub below : (k : ℕ) → k < m → getD live k 0 < n
+  pub rising : (j k : ℕ) → j < k → k < m → getD live j 0 < getD live k 0
+  pub rest : (r : ℕ) → r < n → ((k : ℕ) × (k < m) × (getD live k 0 ≡ r)) ⊎ ((IsChain rules forms r → ⊥) × (getD costs r 0 ≡ 0))
+
+-- The rules before the n-th have their ranks at node i, and the first m of the list are those that can add something.
+pub record PricedLive (rules forms body masks : List ℕ) (i n : ℕ) (costs live : List ℕ) (m : ℕ) : Type 0 where
+  pub priced : Priced rules forms body masks i n costs
+  pub long : length live ≡ mostRules
+  pub within : m ≤ mostRules
+  pub held : Live rules forms costs n live m
 
 -- What a price is made of: weights are light, ranks small, and non-terminals one of so many.
 pub record Prices (rules forms row : List ℕ) : Type 0 where
@@ -65,8 +80,7 @@ pub record NodeIs (rules forms body masks : List ℕ) (i : ℕ) (row chosen : Li
   pub sixteen : length chosen ≡ mostNonTerminals
   pub seventeen : length row ≡ markWidth
   pub exact : (q : Asks rules forms body masks i) → ExactAt (q .given .G) (from (q .given .F) i) s (λ A. getD row A 0)
-  pub chains : (q : Asks rules forms body masks i) (A : ℕ) → A < mostNonTerminals → has s A ≡ true
-      → (k : ℕ) × Chain (q .given .G) (from (q .given .F) i) s chosen A k × (k ≤ mostNonTerminals)
+  pub chains : (q : Asks rules forms body masks i) → Chained (q .given .G) (from (q .given .F) i) s (λ A. getD chosen A 0)
 
 -- Room for the row of a node, which has small numbers, and for its choices.
 pub record RowPre (row chosen : List ℕ) : Type 0 where
@@ -74,26 +88,29 @@ pub record RowPre (row chosen : List ℕ) : Type 0 where
   pub sixteen : length chosen ≡ mostNonTerminals
   pub small : (A : ℕ) → getD row A 0 ≤ most
 
--- The prices of a node's rules, and room for its row and choices.
-pub record SettlePre (rules forms costs row chosen : List ℕ) : Type 0 where
+-- The prices of a node's rules, those that can add something, and room for its row and choices.
+pub record SettlePre (rules forms costs live row chosen : List ℕ) : Type 0 where
   pub body : List ℕ
   pub masks : List ℕ
   pub i : ℕ
   pub asks : Asks rules forms body masks i
   pub priced : Priced rules forms body masks i (length rules / ruleWidth) costs
+  pub held : Live rules forms costs (length rules / ruleWidth) live (length live)
   pub room : RowPre row chosen
 
 -- What the turns give, for whatever the tables hold.
-abbrev pub Settles : (rules forms costs row chosen row' chosen' : List ℕ) (s : ℕ) → Type 0
-Settles rules forms costs row chosen row' chosen' s =
-    (p : SettlePre rules forms costs row chosen) → NodeIs rules forms (p .body) (p .masks) (p .i) row' chosen' s
+abbrev pub Settles : (rules forms costs live row chosen row' chosen' : List ℕ) (s : ℕ) → Type 0
+Settles rules forms costs live row chosen row' chosen' s =
+    (p : SettlePre rules forms costs live row chosen) → NodeIs rules forms (p .body) (p .masks) (p .i) row' chosen' s
 
--- There is a row for each node.
-pub record MasksPre (rules forms body masks : List ℕ) : Type 0 where
+-- There is a row for each node, and room for its choices.
+pub record MasksPre (rules forms body masks choices : List ℕ) : Type 0 where
   pub given : Given rules forms body
   pub small : size (given .F) ≤ mostNodes
   pub long : length masks ≡ markWidth * size (given .F)
+  pub roomy : mostNonTerminals * size (given .F) ≤ length choices
 
--- Each mask and each rank is exact.
-pub record AllExact (rules forms body masks : List ℕ) : Type 0 where
+-- Each mask and each rank is exact, and the choices of each node lead from each member of its set to a derivation.
+pub record AllExact (rules forms body masks choices : List ℕ) : Type 0 where
   pub exact : (g : Given rules forms body) (j : ℕ) → j < size (g .F) → ExactAt (g .G) (from (g .F) j) (maskAt masks j) (rankAt masks j)
+  pub chains : (g : Given rules forms body) (j : ℕ) → j < size (g .F) → Chained (g .G) (from (g .F) j) (maskAt masks j) (choiceAt choices j)

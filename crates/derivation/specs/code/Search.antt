@@ -2,7 +2,7 @@
 use Rattle.forest.specs.Limits.{mostNodes, mostNonTerminals}
 use mathlib.Core.Path.{_≡_}
 use mathlib.Core.Bool.{true}
-use Prim.Native.Nat.{ℕ, suc, _*_, _<_, _≤_}
+use Prim.Native.Nat.{ℕ, suc, _+_, _*_, _<_, _≤_}
 use mathlib.Core.List.{List, _∷_}
 use lib.ListN.{length, getD}
 use Rattle.forest.specs.Forest.{Forest, none, tree, count}
@@ -47,10 +47,18 @@ abbrev pub Best : (G : Grammar) (F : Terms) (A r : ℕ) → Type 0
 Best G F A r = (es : List ℕ) → Least G (formOf (G .rules) r) (first 1 F) es → Least G (tree (nonTerminal A) none none) (first 1 F) (r ∷ es)
 
 -- Following the choices from A at the place of F's first tree takes k rules to a rule that is no chain rule.
-pub data Chain (G : Grammar) (F : Terms) (s : ℕ) (chosen : List ℕ) : ℕ → ℕ → Type 0 where
-  stop : {A : ℕ} → has s A ≡ true → getD chosen A 0 < length (G .rules) → headOf (G .rules) (getD chosen A 0) ≡ A
-      → NoChain (formOf (G .rules) (getD chosen A 0)) → Fits G (formOf (G .rules) (getD chosen A 0)) F → Best G F A (getD chosen A 0)
+pub data Chain (G : Grammar) (F : Terms) (s : ℕ) (chosen : ℕ → ℕ) : ℕ → ℕ → Type 0 where
+  stop : {A : ℕ} → has s A ≡ true → chosen A < length (G .rules) → headOf (G .rules) (chosen A) ≡ A
+      → NoChain (formOf (G .rules) (chosen A)) → Fits G (formOf (G .rules) (chosen A)) F → Best G F A (chosen A)
       → Chain G F s chosen A 1
-  more : {A k : ℕ} (B : ℕ) → has s A ≡ true → getD chosen A 0 < length (G .rules) → headOf (G .rules) (getD chosen A 0) ≡ A
-      → formOf (G .rules) (getD chosen A 0) ≡ tree (nonTerminal B) none none → Best G F A (getD chosen A 0) → Chain G F s chosen B k
+  more : {A k : ℕ} (B : ℕ) → has s A ≡ true → chosen A < length (G .rules) → headOf (G .rules) (chosen A) ≡ A
+      → formOf (G .rules) (chosen A) ≡ tree (nonTerminal B) none none → Best G F A (chosen A) → Chain G F s chosen B k
       → Chain G F s chosen A (suc k)
+
+-- From each member of the set s the choices lead, by at most 16 rules, to a rule that is no chain rule.
+abbrev pub Chained : (G : Grammar) (F : Terms) (s : ℕ) (chosen : ℕ → ℕ) → Type 0
+Chained G F s chosen = (A : ℕ) → A < mostNonTerminals → has s A ≡ true → (k : ℕ) × Chain G F s chosen A k × (k ≤ mostNonTerminals)
+
+-- The rule chosen for a non-terminal at node j.
+abbrev pub choiceAt : List ℕ → ℕ → ℕ → ℕ
+choiceAt choices j A = getD choices (mostNonTerminals * j + A) 0

@@ -2,20 +2,27 @@ use Rattle.derivation.proofs.Uses.{Search, search-start, search-rule, s
 use native.Mathlib.Omega.{arith}
 use borrow.Author.Needs.{needs}
 use Prim.Native.Nat.{_-_}
+use lib.ListN.{length}
 use Rattle.derivation.proofs.filling.choose.Statement.{statement}
 use Rattle.derivation.proofs.filling.choose.Tie as tie
 
 abbrev Inv-loop : tie.InvT-loop
-Inv-loop rules forms costs row known count best₀ least₀ rule₀ best least rule = Search rules forms costs row known count best least rule
+Inv-loop rules forms costs live row known best₀ least₀ i₀ best least i = Search rules forms costs live row known best least i
 
 abbrev μ-loop : tie.MeasureT-loop
-μ-loop rules forms costs row known count best₀ least₀ rule₀ best least rule = count - rule
-
-rules-in-requires : tie.Need-rules-in-requires Inv-loop μ-loop
-rules-in-requires c κs = search needs
+μ-loop rules forms costs live row known best₀ least₀ i₀ best least i = length live - i
 
 loop-holds : tie.Need-loop-holds Inv-loop μ-loop
 loop-holds c = search search-start
+
+mul-rule : tie.Need-mul-rule Inv-loop μ-loop
+mul-rule c = omega arith
+
+shared-slice-read-rule : tie.Need-shared-slice-read-rule Inv-loop μ-loop
+shared-slice-read-rule c = omega arith
+
+cast-rule : tie.Need-cast-rule Inv-loop μ-loop
+cast-rule c = omega (arith, search-rule (c .before .before .loop .inv) (c .before .loop-test .taken))
 
 price-requires : tie.Need-price-requires Inv-loop μ-loop
 price-requires c κs = (search needs, search search-rule)
@@ -23,8 +30,8 @@ price-requires c κs = (search needs, search search-rule)
 better-requires : tie.Need-better-requires Inv-loop μ-loop
 better-requires c κs = search needs
 
-add-rule : tie.Need-add-rule Inv-loop μ-loop
-add-rule c = omega arith
+add-i : tie.Need-add-i Inv-loop μ-loop
+add-i c = omega arith
 
 loop-less : tie.Need-loop-less Inv-loop μ-loop
 loop-less c = omega arith
@@ -32,8 +39,8 @@ loop-less c = omega arith
 loop-again : tie.Need-loop-again Inv-loop μ-loop
 loop-again c = search search-better
 
-add-rule-2 : tie.Need-add-rule-2 Inv-loop μ-loop
-add-rule-2 c = omega arith
+add-i-2 : tie.Need-add-i-2 Inv-loop μ-loop
+add-i-2 c = omega arith
 
 loop-less-2 : tie.Need-loop-less-2 Inv-loop μ-loop
 loop-less-2 c = omega arith
@@ -50,14 +57,16 @@ choose-spec =
     (tie.spec
     Inv-loop
     μ-loop
-    rules-in-requires
     loop-holds
+    mul-rule
+    shared-slice-read-rule
+    cast-rule
     price-requires
     better-requires
-    add-rule
+    add-i
     loop-less
     loop-again
-    add-rule-2
+    add-i-2
     loop-less-2
     loop-again-2
     returns)

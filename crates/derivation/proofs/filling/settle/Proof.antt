@@ -2,17 +2,17 @@ use Prim.Native.Nat.{_-_}
 use native.Mathlib.Omega.{arith}
 use borrow.Author.Needs.{needs}
 use Rattle.derivation.proofs.Count.{cnt}
-use Rattle.derivation.proofs.Members.{State, state-start, node-done, member-low, more-members, state-step}
+use Rattle.derivation.proofs.Members.{State, state-start, node-done, member-low, more-members, rule-small, state-step}
 use Rattle.derivation.proofs.filling.settle.Statement.{statement}
 use Rattle.derivation.specs.code.Masks.{has}
 use Rattle.forest.specs.Limits.{mostNonTerminals}
 use Rattle.derivation.proofs.filling.settle.Tie as tie
 
 abbrev Inv-loop : tie.InvT-loop
-Inv-loop rules forms costs row₀ chosen₀ known₀ row chosen known = State rules forms costs row₀ chosen₀ row chosen known
+Inv-loop rules forms costs live row₀ chosen₀ known₀ row chosen known = State rules forms costs live row₀ chosen₀ row chosen known
 
 abbrev μ-loop : tie.MeasureT-loop
-μ-loop rules forms costs row₀ chosen₀ known₀ row chosen known = mostNonTerminals - cnt (has known) mostNonTerminals
+μ-loop rules forms costs live row₀ chosen₀ known₀ row chosen known = mostNonTerminals - cnt (has known) mostNonTerminals
 
 loop-holds : tie.Need-loop-holds Inv-loop μ-loop
 loop-holds c = search state-start
@@ -25,6 +25,9 @@ returns c = node-done (c .before .before .before .before .loop .inv) (c .before 
 
 non-terminal-at-requires : tie.Need-non-terminal-at-requires Inv-loop μ-loop
 non-terminal-at-requires c κs = search needs
+
+cast-chosen : tie.Need-cast-chosen Inv-loop μ-loop
+cast-chosen c = omega (arith, rule-small (c .before .before .before .before .before .loop .inv) (c .before .before .choose .ensures) (c .before .if1 .left))
 
 mul-chosen : tie.Need-mul-chosen Inv-loop μ-loop
 mul-chosen c = omega (arith, member-low (c .before .before .before .before .before .loop .inv) (c .before .before .choose .ensures) (c .before .if1 .left) (c .non-terminal-at .ensures))
@@ -57,6 +60,7 @@ settle-spec =
     choose-requires
     returns
     non-terminal-at-requires
+    cast-chosen
     mul-chosen
     element-write-chosen
     mul-row

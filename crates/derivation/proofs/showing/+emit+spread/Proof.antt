@@ -1,10 +1,9 @@
 use Prim.Native.Nat.{ℕ, _<_, _+_, _-_, _*_}
 use native.Mathlib.Omega.{arith}
 use borrow.Author.Needs.{needs}
-use mathlib.Core.Path.{sym, _∙_, subst}
+use mathlib.Core.Path.{_∙_, subst}
 use lib.ListN.{length}
 use Rattle.derivation.proofs.RuleWalk.{end-small}
-use Rattle.derivation.proofs.Members.{blank-row}
 use Rattle.derivation.proofs.Whole.{follow-pre, spread-pre, emit-post}
 use Rattle.derivation.proofs.Track.{Inv, spread-start, spread-end, spread-place, spread-here, spread-over, spread-node, spread-after, spread-asks}
 use Rattle.derivation.proofs.Track.{spread-hole}
@@ -21,7 +20,6 @@ use Rattle.derivation.proofs.showing.+emit+spread.Lts-spread as spread-
 use Rattle.terms.proofs.code_at.Reads as code-at-reads
 use Rattle.terms.proofs.size_at.Reads as size-at-reads
 use Rattle.terms.proofs.value_at.Reads as value-at-reads
-use Rattle.derivation.proofs.filling.derivers.Reads as derivers-reads
 use Rattle.derivation.proofs.showing.follow.Reads as follow-reads
 use Rattle.derivation.proofs.rules.start_at.Reads as start-at-reads
 
@@ -45,7 +43,7 @@ spread-below t = and 5 spread-kinds.ps (falls 5 spread-kinds.ps _<_ μ-spread t)
 
 -- what the calls of `emit` ask and give, where `spread` is called below the measure t
 abbrev emit-calls : ℕ → emit-lts.Claims
-emit-calls t = (derivers-reads.Asked, derivers-reads.Learnt, follow-reads.Asked, follow-reads.Learnt, spread-below t, spread.Post)
+emit-calls t = (follow-reads.Asked, follow-reads.Learnt, spread-below t, spread.Post)
 
 -- what the calls of `spread` ask and give, where `emit` is called below the measure t
 abbrev spread-calls : ℕ → spread-lts.Claims
@@ -62,39 +60,30 @@ spread-calls t = (
   emit.Post,
 )
 
-emit-derivers-requires : (t : ℕ) → emit-lts.Need-derivers-requires (emit-calls t) (emit-at t) emit.Post
-emit-derivers-requires t c κs = (c .before .before .before .before .before .before .before .pre .1 .asks, blank-row)
-
-emit-slice-aggregate-follow : (t : ℕ) → emit-lts.Need-slice-aggregate-follow (emit-calls t) (emit-at t) emit.Post
-emit-slice-aggregate-follow t c = sym (c .before .derivers .ensures .sixteen)
-
 emit-follow-requires : (t : ℕ) → emit-lts.Need-follow-requires (emit-calls t) (emit-at t) emit.Post
-emit-follow-requires t c κs =
-    follow-pre (c .before .before .before .before .before .before .before .before .before .before .pre .1) (c .before .before .derivers .ensures)
+emit-follow-requires t c κs = follow-pre (c .before .before .before .before .before .before .pre .1)
 
 emit-spread-requires : (t : ℕ) → emit-lts.Need-spread-requires (emit-calls t) (emit-at t) emit.Post
 emit-spread-requires t c κs =
-    let entry = c .before .before .before .before .before .before .before .before .before .before .before .before .before .before in
-    let n = c .before .before .before .before .before .before .derivers .ensures in
-    let followed = c .before .before .before .follow .ensures (follow-pre (entry .pre .1) n) in
+    let entry = c .before .before .before .before .before .before .before .before .before .before in
+    let followed = c .before .before .before .follow .ensures (follow-pre (entry .pre .1)) in
     let less = subst (λ (x : ℕ). 2 * (length (entry .args .body .now) - entry .args .node) < x) (entry .pre .0) (omega arith) in
-    (less, spread-pre (entry .pre .1) n followed)
+    (less, spread-pre (entry .pre .1) followed)
 
 emit-same-length : (t : ℕ) → emit-lts.Need-same-length (emit-calls t) (emit-at t) emit.Post
-emit-same-length t c = c .before .before .spread .kept .1 .1 .1 .1 .1 .1 .0 ∙ c .before .before .before .before .before .before .follow .kept .1 .1 .1 .1 .0
+emit-same-length t c = c .before .before .spread .kept .1 .1 .1 .1 .1 .1 .0 ∙ c .before .before .before .before .before .before .follow .kept .1 .1 .1 .1 .1 .0
 
 emit-returns : (t : ℕ) → emit-lts.Need-returns (emit-calls t) (emit-at t) emit.Post
 emit-returns t c = λ e.
-    let n = c .before .before .before .before .before .before .before .before .before .derivers .ensures in
-    let f = c .before .before .before .before .before .before .follow .ensures (follow-pre e n) in
-    emit-post e n f (c .before .before .spread .ensures (spread-pre e n f))
+    let f = c .before .before .before .before .before .before .follow .ensures (follow-pre e) in
+    emit-post e f (c .before .before .spread .ensures (spread-pre e f))
 
 abbrev spread-Inv-loop : spread-lts.InvT-loop
-spread-Inv-loop rules forms body masks node rule shown₀ at place₀ end here₀ next₀ shown place here next =
-    Inv rules forms body masks node rule shown₀ at end shown place here next
+spread-Inv-loop rules forms body choices node rule shown₀ at place₀ end here₀ next₀ shown place here next =
+    Inv rules forms body choices node rule shown₀ at end shown place here next
 
 abbrev spread-μ-loop : spread-lts.MeasureT-loop
-spread-μ-loop rules forms body masks node rule shown₀ at place₀ end here₀ next₀ shown place here next =
+spread-μ-loop rules forms body choices node rule shown₀ at place₀ end here₀ next₀ shown place here next =
     end - place
 
 spread-start-at-requires : (t : ℕ) → spread-lts.Need-start-at-requires (spread-calls t) (spread-at t) spread.Post spread-Inv-loop spread-μ-loop
@@ -183,8 +172,6 @@ pub +emit+spread-spec : {M : Type 1} → statement M
 +emit+spread-spec = close μ-emit μ-spread (λ t. emit-lts.spec (emit-calls t)
     (emit-at t)
     emit.Post
-    (emit-derivers-requires t)
-    (emit-slice-aggregate-follow t)
     (emit-follow-requires t)
     (emit-spread-requires t)
     (emit-same-length t)

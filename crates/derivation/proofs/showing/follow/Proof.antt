@@ -7,10 +7,11 @@ use Rattle.derivation.proofs.showing.follow.Statement.{statement}
 use Rattle.derivation.proofs.showing.follow.Tie as tie
 
 abbrev Inv-loop : tie.InvT-loop
-Inv-loop rules forms chosen nonterminal shown₀ at current₀ next₀ shown current next = Inv rules forms chosen nonterminal shown₀ at shown current next
+Inv-loop rules forms choices node nonterminal shown₀ at current₀ next₀ shown current next =
+    Inv rules forms choices node nonterminal shown₀ at shown current next
 
 abbrev μ-loop : tie.MeasureT-loop
-μ-loop rules forms chosen nonterminal shown₀ at current₀ next₀ shown current next = length shown - next
+μ-loop rules forms choices node nonterminal shown₀ at current₀ next₀ shown current next = length shown - next
 
 loop-holds : tie.Need-loop-holds Inv-loop μ-loop
 loop-holds c = search inv-start
@@ -18,8 +19,17 @@ loop-holds c = search inv-start
 mul-rule : tie.Need-mul-rule Inv-loop μ-loop
 mul-rule c = omega arith
 
+add-rule : tie.Need-add-rule Inv-loop μ-loop
+add-rule c = omega arith
+
+mul-rule-2 : tie.Need-mul-rule-2 Inv-loop μ-loop
+mul-rule-2 c = omega arith
+
 shared-slice-read-rule : tie.Need-shared-slice-read-rule Inv-loop μ-loop
 shared-slice-read-rule c = omega arith
+
+cast-rule : tie.Need-cast-rule Inv-loop μ-loop
+cast-rule c = omega arith
 
 cast-shown : tie.Need-cast-shown Inv-loop μ-loop
 cast-shown c = omega arith
@@ -62,7 +72,10 @@ follow-spec =
     μ-loop
     loop-holds
     mul-rule
+    add-rule
+    mul-rule-2
     shared-slice-read-rule
+    cast-rule
     cast-shown
     mul-shown
     slice-write-shown
