@@ -1,11 +1,11 @@
 -- The answer of the list of steps, from the checker's own answer and the steps of the function's body.
-use Prim.Native.Nat.{ℕ, zero, suc, _+_, _*_}
+use Prim.Native.Nat.{ℕ, zero, suc}
 use native.Mathlib.Omega.{arith}
 use mathlib.Core.Path.{_≡_, refl, sym, ap, subst, _∙_}
-use mathlib.Core.Bool.{Bool, true, false, _&&_}
+use mathlib.Core.Bool.{Bool, true, false}
 use mathlib.Core.List.{List}
 use borrow.Author.Tests.{eqb-true, eqb-false}
-use lib.Dec.{eqb, leb}
+use lib.Dec.{eqb}
 use lib.ListN.{length}
 use Rattle.forest.specs.Limits.{areaSize}
 use Rattle.words.specs.Limits.{responseLimits}
@@ -26,12 +26,7 @@ use Rattle.outcome.specs.declared.Outcome.{Outcome}
 use Rattle.outcome.specs.declared.Weighed.{Weighed}
 use Rattle.outcome.proofs.Areas.{blank-long, unshown-blank}
 use Rattle.outcome.proofs.Exact.{exact}
-use Rattle.terms.specs.code.Nodes.{rowWidth as nodeWidth}
-use Rattle.texts.specs.code.Texts.{shortResponse, shortScript}
-use Rattle.names.specs.code.Lookup.{Names}
-use Rattle.script.specs.code.Places.{placesLength}
 use Rattle.both_texts.specs.code.Both.{Lent}
-use Rattle.both_texts.proofs.Reading.{short-rooms}
 use Rattle.verdicts.specs.code.Evaluate.{Evaluable, Evaluates}
 use Rattle.accepting.specs.code.Bodies.{AllDerived, TextsAnswered}
 use Rattle.accepting.specs.declared.TextsWeighed.{TextsWeighed}
@@ -165,12 +160,6 @@ module _ {script response points names places nodes : List ℕ} {told : TextsWei
 pub relent : {limits : Limits} {script response names places nodes forms : List ℕ} → limits ≡ responseLimits
     → Lent responseLimits script response names places nodes forms → Lent limits script response names places nodes forms
 relent e tables = rw e tables
-
--- small tables, for short texts
-pub lent-short : {script response names places nodes forms : List ℕ} → Names names → length places ≡ placesLength
-    → length nodes ≡ nodeWidth * (shortScript + shortResponse) → length forms ≡ nodeWidth * shortScript
-    → (leb (length script) shortScript && leb (length response) shortResponse) ≡ true → Lent responseLimits script response names places nodes forms
-lent-short table long nodes-long forms-long short = lent refl table long (short-rooms nodes-long forms-long short)
 
 -- the constraints may be evaluated
 pub to-evaluate : {names places nodes : List ℕ} {told : TextsWeighed} → Judgeable names places nodes told → told .weighed .outcome .number ≡ 0

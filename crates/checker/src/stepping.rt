@@ -32,15 +32,12 @@ use texts::SHORT_RESPONSE;
 use texts::SHORT_SCRIPT;
 use verdicts::evaluate::evaluate;
 use words::response_limits;
-ghost use mathlib.Core.Bool.{_&&_, true};
 ghost use mathlib.Core.Path.{_≡_};
-ghost use lib.Dec.{leb};
 ghost use lib.ListN.{length};
 ghost use Rattle.words.specs.Limits.{responseLimits};
-ghost use Rattle.texts.specs.code.Texts.{shortResponse, shortScript};
 ghost use Rattle.outcome.specs.Derived.{noTotals};
 ghost use Rattle.outcome.specs.StepList.{StepList, stepNumbers, stepRefusal};
-ghost use Rattle.both_texts.specs.code.Both.{Lent};
+ghost use Rattle.both_texts.specs.code.Both.{Lent, Rooms};
 ghost use Rattle.checker.specs.code.Stepping.{AnsweredFrom, BodiesAnswered, BodiesStand, BodyListed, HeldAnswer, HeldJudged, Judgeable, ListGiven};
 
 // How many numbers the lent area has to have.
@@ -231,32 +228,32 @@ fn list_held(
     }
 }
 
-// The steps of the body of a function for short texts, which are read into small tables.
-fn list_short(
+// The steps of the body of a function, in tables with room for the nodes and the forms of both texts.
+fn list_in(
     script: &[u8],
     response: &[u8],
     points: &[u64],
     budget: u64,
     function: usize,
     area: &mut [u64],
+    nodes: &mut [u64],
+    forms: &mut [u64],
 ) -> Listed
     requires { ⌜ length (now area) ≡ stepNumbers ⌝ }
-    requires { ⌜ (leb (length (now script)) shortScript && leb (length (now response)) shortResponse) ≡ true ⌝ }
+    requires { ⌜ Rooms responseLimits (now script) (now response) (now nodes) (now forms) ⌝ }
     ensures { λ r. ⌜ StepList (now (script .entry)) (now (response .entry)) (now (points .entry)) budget function (now (area .entry))
         (r .answer) (r .count) (now (area .exit)) ⌝ }
 {
     let mut names = no_names();
     let mut places = no_places();
-    let mut nodes = short_nodes();
-    let mut forms = short_forms();
     let told = accept_alone(
         script,
         response,
         points,
         &mut names,
         &mut places,
-        &mut nodes,
-        &mut forms,
+        nodes,
+        forms,
     );
     let found = answer_held(
         script,
@@ -265,52 +262,14 @@ fn list_short(
         budget,
         &names,
         &places,
-        &nodes,
+        nodes,
         told,
     );
-    list_held(&places, &nodes, told.progress, found, function, area)
+    list_held(&places, nodes, told.progress, found, function, area)
 }
 
-// The same for any texts.
-fn list_long(
-    script: &[u8],
-    response: &[u8],
-    points: &[u64],
-    budget: u64,
-    function: usize,
-    area: &mut [u64],
-) -> Listed
-    requires { ⌜ length (now area) ≡ stepNumbers ⌝ }
-    ensures { λ r. ⌜ StepList (now (script .entry)) (now (response .entry)) (now (points .entry)) budget function (now (area .entry))
-        (r .answer) (r .count) (now (area .exit)) ⌝ }
-{
-    let mut names = no_names();
-    let mut places = no_places();
-    let mut nodes = node_room();
-    let mut forms = form_room();
-    let told = accept_alone(
-        script,
-        response,
-        points,
-        &mut names,
-        &mut places,
-        &mut nodes,
-        &mut forms,
-    );
-    let found = answer_held(
-        script,
-        response,
-        points,
-        budget,
-        &names,
-        &places,
-        &nodes,
-        told,
-    );
-    list_held(&places, &nodes, told.progress, found, function, area)
-}
-
-// The steps of the body of a function, by its number in script order, where the response is accepted. They are written from the tables of the check.
+// The steps of the body of a function, by its number in script order, where the response is accepted. They are written from the tables of the check; short texts
+// are read into small ones.
 pub fn step_list(
     script: &[u8],
     response: &[u8],
@@ -326,7 +285,29 @@ pub fn step_list(
         return refused(MISSIZED, area.len());
     }
     if (script.len() <= SHORT_SCRIPT) & (response.len() <= SHORT_RESPONSE) {
-        return list_short(script, response, points, budget, function, area);
+        let mut nodes = short_nodes();
+        let mut forms = short_forms();
+        return list_in(
+            script,
+            response,
+            points,
+            budget,
+            function,
+            area,
+            &mut nodes,
+            &mut forms,
+        );
     }
-    list_long(script, response, points, budget, function, area)
+    let mut nodes = node_room();
+    let mut forms = form_room();
+    list_in(
+        script,
+        response,
+        points,
+        budget,
+        function,
+        area,
+        &mut nodes,
+        &mut forms,
+    )
 }

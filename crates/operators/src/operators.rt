@@ -180,7 +180,7 @@ const MANY: [bool; OPERATORS] = [
 ];
 
 // The sort rule of each operator.
-const RULES: [u64; OPERATORS] = [
+const RULES: [u8; OPERATORS] = [
     LOGIC, // not
     LOGIC, // and
     LOGIC, // or
@@ -280,7 +280,7 @@ pub fn takes(operator: usize, count: usize) -> bool
 }
 
 // The number of an operator's sort rule; 0 past the last operator.
-pub fn rule_of(operator: usize) -> u64
+pub fn rule_of(operator: usize) -> u8
     ensures { λ r. ⌜ r ≡ ruleNumber (operatorAt operator .rule) ⌝ }
 {
     if operator < OPERATORS {

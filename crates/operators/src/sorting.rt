@@ -55,7 +55,7 @@ fn joins(first: u64, second: u64) -> bool
 }
 
 // Whether a rule gives a sort over operands of these sorts, with `high` and `low` the numbers of an `extract`.
-fn rule_gives(rule: u64, high: u64, low: u64, sorts: &[u64]) -> bool
+fn rule_gives(rule: u8, high: u64, low: u64, sorts: &[u64]) -> bool
     requires { ⌜ Ruled rule (now sorts) ⌝ }
     ensures { λ r. ⌜ RuleTold rule high low (now (sorts .entry)) r ⌝ }
 {

@@ -61,7 +61,7 @@ fn cut_sort(sort: u64, high: u64, low: u64) -> u64
 }
 
 // The sort that a rule gives over the trees from node `place` on, `count` of them; `value` tells the numbers of `(_ extract i j)`.
-fn rule_sort(forms: &[u64], column: &[u8], place: usize, count: usize, rule: u64, value: u64) -> u64
+fn rule_sort(forms: &[u64], column: &[u8], place: usize, count: usize, rule: u8, value: u64) -> u64
     requires { ⌜ Ruled (now forms) (now column) place count rule ⌝ }
     ensures { λ r. ⌜ RuleGives (now (forms .entry)) (now (column .entry)) place count rule value r ⌝ }
 {

@@ -5,9 +5,6 @@ use Rattle.operators.proofs.Table.{column, past}
 use Rattle.operators.proofs.operators.rule_of.Statement.{statement}
 use Rattle.operators.proofs.operators.rule_of.Tie as tie
 
-mul-result : tie.Need-mul-result
-mul-result c = search needs
-
 array-read-result : tie.Need-array-read-result
 array-read-result c = search needs
 
@@ -19,4 +16,4 @@ returns-2 : tie.Need-returns-2
 returns-2 c = past (λ (r : Operator). ruleNumber (r .rule)) (c .if1 .left)
 
 pub rule-of-spec : {M : Type 1} → statement M
-rule-of-spec = tie.close (tie.spec mul-result array-read-result returns returns-2)
+rule-of-spec = tie.close (tie.spec array-read-result returns returns-2)
