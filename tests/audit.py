@@ -21,8 +21,7 @@ PAPER = os.path.join(ROOT, "docs", "AUDIT.md")
 CHECKER = (("checker", "lib", ("check", "answer", "read")), ("checker", "stepping", ("step_list",)), ("checker", "exports", ()))
 RUNNER = (("runner", "lib", ("run_steps",)),)
 READER = (("words", "lib", ("read_words", "word_at")), ("words", "positions", ("position", "end_of")))
-# The calls on the evidence file, of which those that are sold will be made.
-EVIDENCE = (("blocks", "reading", ("file_fault", "copy_part", "copy_list")), ("blocks", "writing", ("write_file", "file_length", "rules_in")))
+EVIDENCE = (("auditing", "lib", ("check_evidence",)), ("filing", "lib", ("write_evidence",)))
 READER_STEPS = 2
 
 # The module in which the definitions find the types of src/.

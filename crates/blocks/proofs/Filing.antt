@@ -9,7 +9,7 @@ use Rattle.forest.specs.Tables.{over}
 use Rattle.forest.proofs.Rows.{over-more}
 use Rattle.blocks.specs.declared.Place.{Place}
 use Rattle.blocks.specs.Blocks.{fileOf, filled, framed, low, payloadOf}
-use Rattle.blocks.specs.Shown.{listsShown}
+use Rattle.blocks.specs.code.Shown.{listsShown}
 use Rattle.blocks.specs.code.Lists.{lengthsOf, rulesOf}
 use Rattle.blocks.specs.code.Places.{Fitting, Written, filledBy, written}
 use Rattle.blocks.proofs.Cutting.{filled-length}

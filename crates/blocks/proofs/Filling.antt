@@ -10,7 +10,8 @@ use lib.ListN.{drop, getD, length, take}
 use borrow.Author.Tests.{eq-eqb, le-ltb, lt-ltb, ltb-false, ltb-true, ne-eqb, not-false, not-true}
 use Rattle.forest.proofs.Lists.{drop-next}
 use Rattle.forest.proofs.Options.{never}
-use Rattle.blocks.specs.Blocks.{blocksIn, firstWrong, payloadIn, rightBlock, wrongFrom, wrongOr}
+use Rattle.blocks.specs.Blocks.{blocksIn, firstWrong, payloadIn, rightBlock, wrongFrom}
+use Rattle.blocks.specs.code.Below.{wrongOr}
 use Rattle.blocks.specs.Layout.{fileFault, fillingIn, lastNeeded, misfilled, neededIn, orElse, zeros}
 use Rattle.blocks.proofs.Again.{payload-length}
 

@@ -11,8 +11,9 @@ use lib.Seq.{drop-at, drop-drop, getD-drop, take-at}
 use borrow.Author.Tests.{ne-eqb}
 use Rattle.forest.specs.Tables.{rows}
 use Rattle.blocks.specs.Blocks.{fileOf, payloadOf}
-use Rattle.blocks.specs.Layout.{Storable, fileFault, fileLength, rulesIn}
-use Rattle.blocks.specs.Shown.{areaOf, listShown, listWith, listsShown, listsShownFrom, rulesShown}
+use Rattle.blocks.specs.Layout.{Storable, fileFault}
+use Rattle.blocks.specs.code.Lists.{fileLength, rulesIn}
+use Rattle.blocks.specs.code.Shown.{areaOf, listShown, listWith, listsShown, listsShownFrom, rulesShown}
 use Rattle.blocks.proofs.Cutting.{framed-length}
 use Rattle.blocks.proofs.Stored.{payload-size, stored-right}
 use Rattle.blocks.proofs.Putting.{shown-most}

@@ -12,9 +12,8 @@ use Rattle.forest.specs.Tables.{rows}
 use Rattle.forest.proofs.Lists.{drop-next}
 use Rattle.blocks.specs.declared.Place.{Place}
 use Rattle.blocks.specs.Blocks.{low}
-use Rattle.blocks.specs.Layout.{rulesIn}
-use Rattle.blocks.specs.Shown.{listShown, listsShown, listsShownFrom, rulesShown}
-use Rattle.blocks.specs.code.Lists.{lengthsOf, rulesOf}
+use Rattle.blocks.specs.code.Lists.{lengthsOf, rulesIn, rulesOf}
+use Rattle.blocks.specs.code.Shown.{listShown, listsShown, listsShownFrom, rulesShown}
 use Rattle.blocks.specs.code.Places.{Fitting, Written}
 use Rattle.blocks.proofs.Cursor.{Going, go-as, go-end, go-fits, go-on, go-start}
 

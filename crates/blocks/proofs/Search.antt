@@ -6,7 +6,8 @@ use native.Mathlib.Omega.{arith}
 use mathlib.Core.List.{List}
 use mathlib.Core.Option.{none, some}
 use borrow.Author.Tests.{not-true, not-false}
-use Rattle.blocks.specs.Blocks.{blocksIn, firstWrong, rightBlock, wrongFrom, wrongOr}
+use Rattle.blocks.specs.Blocks.{blocksIn, firstWrong, rightBlock, wrongFrom}
+use Rattle.blocks.specs.code.Below.{wrongOr}
 
 -- the blocks before k are right
 pub record Inv (file : List ℕ) (count k : ℕ) : Type 0 where

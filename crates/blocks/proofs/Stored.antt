@@ -14,8 +14,8 @@ use Rattle.forest.specs.Tables.{rows}
 use Rattle.forest.proofs.Rows.{length-rows}
 use Rattle.blocks.specs.Blocks.{fileOf, filled, low, numberOf, payloadIn, payloadOf}
 use Rattle.blocks.specs.Layout.{Storable, fileFault, fillingIn, lastNeeded, listAt, listIn, listLengthIn, listsFrom, listsIn, misfilled, neededIn}
-use Rattle.blocks.specs.Layout.{numberIn, pairs, responseIn, responseLengthIn, rulesBefore, rulesIn, scriptIn, scriptLengthIn, zeros}
-use Rattle.blocks.specs.code.Lists.{lengthsOf, rulesOf}
+use Rattle.blocks.specs.Layout.{numberIn, pairs, responseIn, responseLengthIn, rulesBefore, scriptIn, scriptLengthIn, zeros}
+use Rattle.blocks.specs.code.Lists.{lengthsOf, rulesIn, rulesOf}
 use Rattle.blocks.proofs.Cutting.{cut-whole, filled-length, filled-long, filled-short, payload-again}
 use Rattle.blocks.proofs.Numbers.{number-low}
 

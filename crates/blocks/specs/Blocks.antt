@@ -87,11 +87,6 @@ wrongFrom file k (suc n) = cond (rightBlock file k) (wrongFrom file (k + 1) n) (
 unfoldable pub firstWrong : (file : List ℕ) → Option ℕ
 firstWrong file = wrongFrom file 0 (blocksIn file)
 
--- A block that may be found, as a number: `n` where none is.
-abbrev pub wrongOr : (n : ℕ) → Option ℕ → ℕ
-wrongOr n none = n
-wrongOr n (some k) = k
-
 -- The payload bytes of the first n blocks.
 unfoldable pub payIn : (n : ℕ) → List ℕ → List ℕ
 payIn zero file = []

@@ -56,15 +56,6 @@ pairs (a ∷ b ∷ more) = numberOf (a ∷ b ∷ []) ∷ pairs more
 unfoldable pub listIn : (file : List ℕ) → (j : ℕ) → List ℕ
 listIn file j = pairs (take (2 * listLengthIn file j) (drop (listAt file j) (payloadIn file)))
 
--- The length of a file: as many blocks as its payload needs.
-abbrev pub fileLength : (script response rules : ℕ) → ℕ
-fileLength script response rules = 512 * ((24 + script + response + 2 * rules + 509) / paySize)
-
--- How many rules lists have.
-unfoldable pub rulesIn : List (List ℕ) → ℕ
-rulesIn [] = 0
-rulesIn (list ∷ more) = length list + rulesIn more
-
 -- What a file can hold: a length of a text has 4 bytes, there are eight lists, and 2 bytes hold the length of a list and a rule.
 pub record Storable (script response : List ℕ) (lists : List (List ℕ)) : Type 0 where
   pub script-short : length script < 4294967296

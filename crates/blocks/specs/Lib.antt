@@ -1,4 +1,3 @@
 pub mod Blocks
 pub mod Layout
-pub mod Shown
 pub mod code

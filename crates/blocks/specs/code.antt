@@ -1,3 +1,4 @@
 pub mod Below
 pub mod Places
 pub mod Lists
+pub mod Shown

@@ -5,7 +5,8 @@ pub mod writing;
 ghost use mathlib.Core.Path.{_≡_};
 ghost use Prim.Native.Nat.{_+_, _≤_};
 ghost use lib.ListN.{drop, getD, length, take};
-ghost use Rattle.blocks.specs.Blocks.{blocksIn, firstWrong, payloadIn, paySize, rightBlock, sumFrom, wrongOr};
+ghost use Rattle.blocks.specs.Blocks.{blocksIn, firstWrong, payloadIn, paySize, rightBlock, sumFrom};
+ghost use Rattle.blocks.specs.code.Below.{wrongOr};
 
 // How many bytes a block has, and how many of them are payload.
 pub const BLOCK: usize = 512;

@@ -10,9 +10,9 @@ ghost use mathlib.Core.Path.{_≡_};
 ghost use Prim.Native.Nat.{_+_, _*_, _-_, _<_, _≤_, _^_};
 ghost use lib.ListN.{drop, length, take};
 ghost use Rattle.forest.specs.Limits.{mostFunctions};
-ghost use Rattle.blocks.specs.Blocks.{blocksIn, payloadIn, wrongOr};
+ghost use Rattle.blocks.specs.Blocks.{blocksIn, payloadIn};
+ghost use Rattle.blocks.specs.code.Below.{Below, wrongOr};
 ghost use Rattle.blocks.specs.Layout.{fileFault, listAt, listLengthIn, misfilled, numberIn, pairs, responseLengthIn, rulesBefore, scriptLengthIn, zeros};
-ghost use Rattle.blocks.specs.code.Below.{Below};
 
 // The number that two payload bytes hold, low byte first.
 fn pair_at(file: &[u8], place: usize) -> usize

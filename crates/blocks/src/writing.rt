@@ -13,10 +13,9 @@ ghost use lib.ListN.{drop, length, replicate, take};
 ghost use Rattle.forest.specs.Limits.{areaSize, listSize};
 ghost use Rattle.forest.specs.Tables.{over, rows};
 ghost use Rattle.blocks.specs.Blocks.{fileOf, low};
-ghost use Rattle.blocks.specs.Layout.{fileLength, rulesIn};
-ghost use Rattle.blocks.specs.Shown.{listsShown, rulesShown};
+ghost use Rattle.blocks.specs.code.Lists.{fileLength, lengthsOf, rulesIn, rulesOf};
+ghost use Rattle.blocks.specs.code.Shown.{listsShown, rulesShown};
 ghost use Rattle.blocks.specs.code.Places.{Fitting, Written};
-ghost use Rattle.blocks.specs.code.Lists.{lengthsOf, rulesOf};
 
 // An entry of the area of lists that no list uses.
 const UNUSED: u16 = 65535;

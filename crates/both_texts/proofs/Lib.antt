@@ -1,2 +1,5 @@
 pub mod BothTables
 pub mod Reading
+pub mod Locating
+pub mod LongTexts
+pub mod EightTotals

@@ -10,10 +10,12 @@ use Rattle.forest.proofs.Bools.{and-left, and-right}
 use lib.ListN.{getD-replicate, length, length-replicate, replicate}
 use Rattle.forest.specs.Limits.{responseWords, scriptWords}
 use Rattle.terms.specs.code.Nodes.{rowWidth as nodeWidth}
+use Rattle.words.specs.Limits.{responseLimits}
 use Rattle.words.specs.declared.Limits.{Limits}
 use Rattle.names.specs.code.Lookup.{Names}
 use Rattle.names.specs.code.Table.{rowCount, rowWidth as nameWidth}
 use Rattle.script.specs.Script.{Known}
+use Rattle.script.specs.code.Places.{placesLength}
 use Rattle.script.specs.declared.Progress.{Progress}
 use Rattle.script.specs.declared.Verdict.{Verdict}
 use Rattle.script_reader.specs.declared.Step.{Step}
@@ -44,6 +46,11 @@ module _ {limits : Limits} {script response nodes forms : List ℕ} where
       → Rooms limits script response nodes forms
   full-rooms few nodes-long forms-long =
       record { nodes-room = λ n m a b c d. omega arith; forms-room = full-room {most = scriptWords} forms-long (omega arith) }
+
+-- the tables that are lent, within the limits of a response
+pub lent : {limits : Limits} {script response names places nodes forms : List ℕ} → limits ≡ responseLimits → Names names → length places ≡ placesLength
+    → Rooms responseLimits script response nodes forms → Lent limits script response names places nodes forms
+lent e table long rooms = rw e (record { few-words = omega arith; table = table; long = long; rooms = rooms })
 
 -- what the reading of a script asks
 pub to-read : {limits : Limits} {script response names places nodes forms : List ℕ} → Lent limits script response names places nodes forms

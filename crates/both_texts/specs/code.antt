@@ -1,1 +1,3 @@
 pub mod Both
+pub mod Located
+pub mod Lengths

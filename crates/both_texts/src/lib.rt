@@ -1,4 +1,8 @@
-//! The two texts: what reading a script and a response to it gives, through answer 12. Nothing here searches for derivations.
+//! The two texts: what reading a script and a response to it gives, through answer 12, and what an answer on them carries. Nothing here searches for
+//! derivations.
+pub mod answers;
+pub mod lengths;
+pub mod located;
 pub mod tables;
 
 use outcome::Outcome;

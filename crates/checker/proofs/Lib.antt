@@ -1,7 +1,6 @@
 pub mod TextsAnswer
 pub mod Judgements
-pub mod Locating
 pub mod Sizing
-pub mod EightTotals
 pub mod StepsHeld
 pub mod StepsAnswer
+pub mod FileNumbers

@@ -1,58 +1,30 @@
 -- The sizes of what is lent.
 use Prim.Native.Nat.{ℕ, _≤_, _<_}
 use native.Mathlib.Omega.{arith}
-use mathlib.Core.Bool.{cond}
 use mathlib.Core.Path.{_≡_, refl, sym, ap, _∙_, subst}
 use mathlib.Core.List.{List}
 use mathlib.Core.Option.{none as nothing, some}
 use borrow.Author.Tests.{eq-eqb, le-ltb, lt-ltb, ne-eqb}
-use lib.Dec.{eqb}
 use lib.ListN.{length}
-use Rattle.forest.specs.Limits.{areaSize, mostNumbers, responseBytes, scriptBytes}
-use Rattle.outcome.specs.Checked.{Checked, judged, lengthAnswer, missized, refusal, sizeAnswer, texts-refused, unshown}
+use Rattle.forest.specs.Limits.{areaSize, mostNumbers}
+use Rattle.outcome.specs.Checked.{Checked, judged, missized, refusal, sizeAnswer, texts-refused, unshown}
 use Rattle.outcome.specs.Derived.{blankArea, noTotals}
 use Rattle.outcome.specs.declared.Outcome.{Outcome}
 use Rattle.outcome.specs.declared.Weighed.{Weighed}
 use Rattle.outcome.proofs.Areas.{blank-long, unshown-blank}
 use Rattle.outcome.proofs.Texts.{afterLengths, long-first, short-left}
 use Rattle.script.specs.code.Answers.{longAnswer}
-use Rattle.outcome.specs.code.Texts.{scriptText, responseText, pointsText, noText}
+use Rattle.outcome.specs.code.Texts.{pointsText, noText}
+use Rattle.both_texts.specs.code.Lengths.{LengthsTold}
 use Rattle.checker.specs.code.Judge.{Judging}
-use Rattle.checker.specs.code.Sizes.{LengthsTold, SizesTold}
+use Rattle.checker.specs.code.Sizes.{SizesTold}
 
-module _ {script response : List ℕ} {r : Outcome} where
-  -- a script that is too long
-  pub script-long : r ≡ refusal longAnswer scriptText (length script) → scriptBytes < length script → LengthsTold script response r
-  unfolding lengthAnswer
-  script-long e h = rw e (record { refused = λ other. rw (lt-ltb scriptBytes (length script) h); passes = λ zero. absurd (omega arith) })
-
-  module _ (script-fits : length script ≤ scriptBytes) where
-    -- a response that is too long
-    pub response-long : r ≡ refusal longAnswer responseText (length response) → responseBytes < length response → LengthsTold script response r
-    unfolding lengthAnswer
-    response-long e h =
-        rw e
-        (record {
-          refused = λ other. rw (le-ltb scriptBytes (length script) script-fits, lt-ltb responseBytes (length response) h);
-          passes = λ zero. absurd (omega arith);
-        })
-
-    -- two texts that are not
-    pub both-short : length response ≤ responseBytes → r ≡ refusal 0 noText 0 → LengthsTold script response r
-    unfolding lengthAnswer
-    both-short h e =
-        rw e
-        (record {
-          refused = λ other. absurd (other refl);
-          passes = λ zero. rw (le-ltb scriptBytes (length script) script-fits, le-ltb responseBytes (length response) h);
-        })
-
-module _ {script response points : List ℕ} {size : ℕ} {t : Outcome} (lengths : LengthsTold script response t) where
+module _ {script response points : List ℕ} {size : ℕ} {t : Outcome} (lengths : LengthsTold (length script) (length response) t) where
   -- a text that is too long
   pub text-long : (t .number ≡ 0 → ⊥) → SizesTold script response points size t
   text-long long =
       record {
-        refused = λ other area l. long-first script response points area (lengths .refused other);
+        refused = λ other area l. long-first script response points area (lengths .refused other (record { script-is = refl; response-is = refl }));
         passes = λ zero. absurd (long zero);
         sized = λ zero. absurd (long zero);
       }
@@ -64,7 +36,7 @@ module _ {script response points : List ℕ} {size : ℕ} {t : Outcome} (lengths
     told-refused e answers =
         rw e
         (record {
-          refused = λ other area l. short-left script response points area (lengths .passes none) ∙ answers area l;
+          refused = λ other area l. short-left script response points area (lengths .passes none (record { script-is = refl; response-is = refl })) ∙ answers area l;
           passes = λ zero. absurd (omega arith);
           sized = λ zero. absurd (omega arith);
         })
@@ -84,7 +56,7 @@ module _ {script response points : List ℕ} {size : ℕ} {t : Outcome} (lengths
           record {
             refused = λ other. absurd (other none);
             passes = λ zero area l.
-                short-left script response points area (lengths .passes none)
+                short-left script response points area (lengths .passes none (record { script-is = refl; response-is = refl }))
                 ∙ rw (le-ltb mostNumbers (length points) points-fit, l, eq-eqb size areaSize h);
             sized = λ zero. h;
           }

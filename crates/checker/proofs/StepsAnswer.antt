@@ -18,7 +18,7 @@ use Rattle.outcome.specs.Accepted.{Declined}
 use Rattle.outcome.specs.Checked.{Checked, judged, missized, refusal, unshown}
 use Rattle.outcome.specs.Demands.{BodiesDerived, Showing, accepted, showing}
 use Rattle.outcome.specs.Derived.{blankArea, noTotals}
-use Rattle.outcome.specs.Located.{located, noLocation}
+use Rattle.outcome.specs.Located.{located, unlocated}
 use Rattle.outcome.specs.StepList.{AcceptedFor, StepList, area-missized, listed, no-function, not-accepted, stepNumbers, stepRefusal, uses-define}
 use Rattle.outcome.specs.declared.Answer.{Answer}
 use Rattle.outcome.specs.declared.Location.{Location}
@@ -34,14 +34,13 @@ use Rattle.checker.specs.code.Judge.{PointsJudged}
 use Rattle.checker.specs.code.Sizes.{SizesTold}
 use Rattle.checker.specs.code.Stepping.{AnsweredAlone, AnsweredFrom, BodiesAnswered, BodySteps, HeldAnswer, HeldJudged, Judgeable, ListGiven, TextsListed, applying, lacking, written}
 use Rattle.checker.specs.declared.stepping.Listed.{Listed}
-use Rattle.checker.proofs.TextsAnswer.{lent}
+use Rattle.both_texts.proofs.Reading.{lent}
 use Rattle.checker.proofs.Judgements.{all-derive, declined-checked, evaluable}
 
 -- an answer that speaks of no text
-pub refused-is : {number place : ℕ} {o : Outcome} {weights : List ℕ} → o ≡ refusal number 3 place → weights ≡ noTotals
-    → _≡_ {A = Listed} (record { answer = record { outcome = o; location = noLocation; totals = weights }; count = 0 })
-    (record { answer = stepRefusal number place; count = 0 })
-refused-is e none = rw (e, none)
+pub refused-is : {number place : ℕ} {o : Outcome} {answer : Answer} → o ≡ refusal number 3 place → answer ≡ unlocated o
+    → _≡_ {A = Listed} (record { answer = answer; count = 0 }) (record { answer = stepRefusal number place; count = 0 })
+refused-is e is = rw (is, e)
 
 -- an area that shows nothing is of its size
 right-size : length blankArea ≡ areaSize

@@ -2,7 +2,7 @@
 use Prim.Native.Nat.{ℕ, zero, suc, _+_, _*_, _≤_, _<_}
 use native.Mathlib.Nat.{suc-add, zero-add}
 use native.Mathlib.Omega.{arith}
-use mathlib.Core.Path.{_≡_, refl, sym, ap, subst, subst₂, _∙_}
+use mathlib.Core.Path.{_≡_, refl, sym, ap, subst₂, _∙_}
 use mathlib.Core.Bool.{Bool, true, false}
 use mathlib.Core.List.{List, [], _∷_}
 use lib.ListN.{drop, length}
@@ -24,7 +24,7 @@ use Rattle.outcome.specs.Derived.{termsOf}
 use Rattle.outcome.specs.StepList.{FunctionAt, here, later}
 use Rattle.outcome.specs.code.Assured.{BodiesFit}
 use Rattle.outcome.specs.declared.Answer.{Answer}
-use Rattle.verdicts.proofs.BodyRows.{body-size, body-within}
+use Rattle.one_function.proofs.BodyRows.{body-size, body-within}
 use Rattle.checker.specs.code.Stepping.{BodiesStand, BodyListed, BodySteps, HeldAnswer, TextsListed, applying, lacking, written}
 
 -- function j and its body, with no more nodes than it may have

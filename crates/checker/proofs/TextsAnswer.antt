@@ -1,30 +1,27 @@
 -- The texts' own answer, from the call that reads them.
 use Prim.Native.Nat.{ℕ}
-use native.Mathlib.Omega.{arith}
-use mathlib.Core.Path.{_≡_, subst}
+use mathlib.Core.Path.{_≡_, refl, subst}
 use mathlib.Core.List.{List}
 use mathlib.Core.Option.{none as nothing}
 use lib.ListN.{length}
 use Rattle.words.specs.Limits.{responseLimits}
 use Rattle.words.specs.declared.Limits.{Limits}
-use Rattle.names.specs.code.Lookup.{Names}
-use Rattle.script.specs.code.Places.{placesLength}
 use Rattle.script.specs.Outcome.{given, responseWithin}
 use Rattle.outcome.specs.Checked.{TextsRefused, TextsTold, both-pass, lengthAnswer, refusal, refused, too-long}
 use Rattle.outcome.specs.code.Texts.{noText}
 use Rattle.outcome.specs.declared.Outcome.{Outcome}
-use Rattle.both_texts.specs.code.Both.{Lent, Rooms, TextsRead}
+use Rattle.both_texts.specs.code.Both.{TextsRead}
 use Rattle.both_texts.specs.declared.Told.{Told}
-use Rattle.checker.specs.code.Sizes.{LengthsTold}
-
--- the tables that are lent, within the limits of a response
-pub lent : {limits : Limits} {script response names places nodes forms : List ℕ} → limits ≡ responseLimits → Names names → length places ≡ placesLength
-    → Rooms responseLimits script response nodes forms → Lent limits script response names places nodes forms
-lent e table long rooms = rw e (record { few-words = omega arith; table = table; long = long; rooms = rooms })
+use Rattle.both_texts.specs.code.Lengths.{LengthsTold}
 
 -- the texts' own answer, where one is too long
-pub texts-long : {script response : List ℕ} {t : Outcome} → LengthsTold script response t → (t .number ≡ 0 → ⊥) → TextsTold script response t
-texts-long lengths long = too-long (lengths .refused long)
+pub texts-long : {script response : List ℕ} {t : Outcome} → LengthsTold (length script) (length response) t → (t .number ≡ 0 → ⊥) → TextsTold script response t
+texts-long lengths long = too-long (lengths .refused long (record { script-is = refl; response-is = refl }))
+
+-- and where neither is
+pub texts-short : (script response : List ℕ) {t : Outcome} → LengthsTold (length script) (length response) t → t .number ≡ 0
+    → lengthAnswer script response ≡ nothing
+texts-short script response lengths zero = lengths .passes zero (record { script-is = refl; response-is = refl })
 
 module _ {limits : Limits} {script response names places nodes forms : List ℕ} {r : Told} (e : limits ≡ responseLimits)
     (short : lengthAnswer script response ≡ nothing) (read : TextsRead limits script response names places nodes forms r) where

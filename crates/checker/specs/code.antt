@@ -1,4 +1,3 @@
 pub mod Sizes
 pub mod Judge
-pub mod Located
 pub mod Stepping

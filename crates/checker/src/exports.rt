@@ -3,7 +3,9 @@ use crate::answer;
 use crate::check;
 use crate::read;
 use crate::stepping::step_list;
-use outcome::Answer;
+use auditing::check_evidence;
+use both_texts::answers::write_answer;
+use filing::write_evidence;
 use runner::run_steps;
 use words::positions::position;
 use words::word_at;
@@ -12,9 +14,10 @@ ghost use lib.ListN.{length};
 ghost use Rattle.words.specs.Words.{enquired};
 ghost use Rattle.words.specs.Positions.{Positioned};
 ghost use Rattle.outcome.specs.Checked.{Answered};
-ghost use Rattle.outcome.specs.Located.{AnswerForC, TextsAnswerForC, answerNumbers};
+ghost use Rattle.outcome.specs.Located.{AnswerForC, TextsAnswerForC};
 ghost use Rattle.outcome.specs.StepList.{StepsForC};
 ghost use Rattle.runner.specs.Running.{RanForC};
+ghost use Rattle.evidence.specs.Evidence.{AuditForC, FiledForC};
 
 // `check` for C: returns the answer's number and puts its text, its place, its second number and its units where the caller lends room for them.
 #[no_mangle]
@@ -48,33 +51,6 @@ pub extern "C" fn sverdhyll_word(text: &[u8], at: usize) -> usize
 {
     let word = word_at(text, at);
     word.len()
-}
-
-// Writes an answer in its sixteen numbers.
-fn write_answer(found: Answer, numbers: &mut [u64; 16])
-    ensures { λ r. ⌜ now (numbers .exit) ≡ answerNumbers found ⌝ }
-{
-    let outcome = found.outcome;
-    let location = found.location;
-    let totals = found.totals;
-    *numbers = [
-        outcome.number as u64,
-        outcome.text as u64,
-        outcome.place as u64,
-        outcome.second as u64,
-        outcome.units,
-        location.end as u64,
-        location.line as u64,
-        location.column as u64,
-        totals[0],
-        totals[1],
-        totals[2],
-        totals[3],
-        totals[4],
-        totals[5],
-        totals[6],
-        totals[7],
-    ];
 }
 
 // `answer` for C: returns the answer's number, and puts the sixteen numbers where the caller lends room for them.
@@ -143,6 +119,34 @@ pub extern "C" fn sverdhyll_run(
     *value = ran.value.number;
     *sort = ran.value.sort;
     ran.number as u8
+}
+
+// `write_evidence` for C: returns the answer's number, and puts the file's length and the sixteen numbers where the caller lends room for them.
+#[no_mangle]
+pub extern "C" fn sverdhyll_write_evidence(
+    script: &[u8],
+    response: &[u8],
+    area: &mut [u8],
+    length: &mut usize,
+    numbers: &mut [u64; 16],
+) -> u8
+    ensures { λ r. ⌜ FiledForC (now (script .entry)) (now (response .entry)) (now (area .entry)) r (now (numbers .exit)) (now (length .exit))
+        (now (area .exit)) ⌝ }
+{
+    let written = write_evidence(script, response, area);
+    write_answer(written.answer, numbers);
+    *length = written.length;
+    written.answer.outcome.number as u8
+}
+
+// `check_evidence` for C: returns the answer's number, and puts the sixteen numbers where the caller lends room for them.
+#[no_mangle]
+pub extern "C" fn sverdhyll_check_evidence(file: &[u8], numbers: &mut [u64; 16]) -> u8
+    ensures { λ r. ⌜ AuditForC (now (file .entry)) r (now (numbers .exit)) ⌝ }
+{
+    let audit = check_evidence(file);
+    write_answer(audit, numbers);
+    audit.outcome.number as u8
 }
 
 // The line and the column of a place of a text, for C: they are put where the caller says.

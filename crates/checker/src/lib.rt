@@ -2,16 +2,15 @@
 //! The verdict on two texts of right sizes: what reading them, deriving the bodies and evaluating the constraints give, in their order.
 pub mod exports;
 pub mod judge;
-mod located;
 mod reading;
 mod sizes;
 pub mod stepping;
 
 use crate::judge::judge_texts;
-use crate::located::locate;
 use crate::reading::texts_told;
 use crate::sizes::size_answer;
 use accepting::area::blank_area;
+use both_texts::located::locate;
 use outcome::Answer;
 use outcome::Outcome;
 use outcome::Weighed;

@@ -1,5 +1,5 @@
 //! The two texts' own answer.
-use crate::sizes::length_answer;
+use both_texts::lengths::length_answer;
 use both_texts::read_texts;
 use both_texts::tables::form_room;
 use both_texts::tables::no_names;
@@ -48,7 +48,7 @@ fn told_in(script: &[u8], response: &[u8], nodes: &mut [u64], forms: &mut [u64])
 pub(crate) fn texts_told(script: &[u8], response: &[u8]) -> Outcome
     ensures { λ r. ⌜ TextsTold (now (script .entry)) (now (response .entry)) r ⌝ }
 {
-    let long = length_answer(script, response);
+    let long = length_answer(script.len(), response.len());
     if long.number != ACCEPTED {
         return long;
     }

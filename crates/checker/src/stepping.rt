@@ -1,9 +1,10 @@
 //! The list of steps of an accepted body.
-use crate::located::locate;
 use crate::sizes::size_answer;
 use accepting::TextsWeighed;
 use accepting::accept;
 use accepting::area::no_lists;
+use both_texts::answers::unlocated;
+use both_texts::located::locate;
 use both_texts::tables::form_room;
 use both_texts::tables::no_names;
 use both_texts::tables::no_places;
@@ -13,11 +14,9 @@ use both_texts::tables::short_nodes;
 use forest::limits::AREA;
 use forest::limits::NODES;
 use outcome::Answer;
-use outcome::Location;
 use outcome::NONE;
 use outcome::Outcome;
 use outcome::Weighed;
-use outcome::no_totals;
 use outcome::refusal;
 use outcome::unweighed;
 use script::Progress;
@@ -60,15 +59,7 @@ fn refused(number: usize, place: usize) -> Listed
     ensures { λ r. ⌜ r ≡ record { answer = stepRefusal number place; count = 0 } ⌝ }
 {
     Listed {
-        answer: Answer {
-            outcome: refusal(number, NONE, place),
-            location: Location {
-                end: 0,
-                line: 0,
-                column: 0,
-            },
-            totals: no_totals(),
-        },
+        answer: unlocated(refusal(number, NONE, place)),
         count: 0,
     }
 }

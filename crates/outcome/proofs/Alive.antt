@@ -145,5 +145,5 @@ module _ {nowhere : ℕ} (k : Known) (at : ℕ) (c : Items) (some-word : 0 < now
 pub alive : (script : List ℕ) {k : Known} → scriptOutcome script ≡ said k → AllAlive (k .functions)
 unfolding AllAlive
 alive script e =
-    script-keeps Alive (λ nowhere k at c some-word below limited sorted ruled all. after-command k at c some-word below limited ruled all (command c)) script e
+    script-keeps Alive (λ nowhere k at c ahead below limited sorted ruled all. after-command k at c (omega (arith, ahead)) below limited ruled all (command c)) script e
     (record { functions = tt }) .functions

@@ -111,7 +111,7 @@ module _ {nowhere : ℕ} (k : Known) (at : ℕ) (c : Items) (some-word : 0 < now
 pub script-assured : (text : List ℕ) {k : Known} → scriptOutcome text ≡ said k → Assured k
 unfolding AllLimited
 script-assured text {k} e =
-    let within = script-keeps Within (λ nowhere k at c some-word below limited sorted ruled h. after-command k at c some-word below limited h (command c)) text e
+    let within = script-keeps Within (λ nowhere k at c ahead below limited sorted ruled h. after-command k at c (omega (arith, ahead)) below limited h (command c)) text e
     (record { functions = tt }) in
     let sorted = script-sorted text e in
     record {

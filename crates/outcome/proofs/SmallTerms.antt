@@ -1,5 +1,6 @@
 -- The bodies of `define-fun`s, the constraints and the assumptions of a script that passes have at most 256 nodes each.
 use Prim.Native.Nat.{ℕ, min, _≤_, _<_}
+use native.Mathlib.Omega.{arith}
 use mathlib.Core.Bool.{Bool, true, false}
 use mathlib.Core.List.{List, [], _∷_, _++_}
 use mathlib.Core.Path.{_≡_, refl}
@@ -99,5 +100,5 @@ module _ {nowhere : ℕ} (k : Known) (at : ℕ) (c : Items) (some-word : 0 < now
 pub script-few : (text : List ℕ) {k : Known} → scriptOutcome text ≡ said k → FewNodes k
 unfolding SmallBodies SmallTerms
 script-few text e =
-    script-keeps FewNodes (λ nowhere k at c some-word below limited sorted ruled few. after-command k at c some-word below limited sorted few (command c)) text e
+    script-keeps FewNodes (λ nowhere k at c ahead below limited sorted ruled few. after-command k at c (omega (arith, ahead)) below limited sorted few (command c)) text e
     (record { bodies = tt; constraints = tt; assumptions = tt })

@@ -26,10 +26,10 @@ small-more (u ∷ vs) v all h zero = all 0
 small-more (u ∷ vs) v all h (suc i) = small-more vs v (λ j. all (suc j)) h i
 
 -- So it stays after a command within its limits.
-small-after : (nowhere : ℕ) (k : Known) (at : ℕ) (c : Items) → 0 < nowhere → Below nowhere c → nowhere ≤ limitPlace allowed nowhere k at c
+small-after : (nowhere : ℕ) (k : Known) (at : ℕ) (c : Items) → at < nowhere → Below nowhere c → nowhere ≤ limitPlace allowed nowhere k at c
     → nowhere ≤ sortingPlace nowhere k c → nowhere ≤ grammarPlace nowhere k c → SortsSmall (namedSorts (k .variables)) → SortsSmall (namedSorts (knownAfter k c .variables))
 unfolding knownAfter limitPlace
-small-after nowhere k at c some-word below limited sorted ruled small = go (is "declare-var" (item 0 c)) _ _ limited
+small-after nowhere k at c ahead below limited sorted ruled small = go (is "declare-var" (item 0 c)) _ _ limited
   where
     sort : ℕ
     sort = sortOf (item 2 c) (inside 2 c)
@@ -37,7 +37,7 @@ small-after nowhere k at c some-word below limited sorted ruled small = go (is "
     go : (declares : Bool) (past others : ℕ) → nowhere ≤ cond declares (min past (sortPlace TooWide nowhere (item 2 c) (inside 2 c))) others
         → SortsSmall (namedSorts (cond declares (k .variables ++ record { name = nameOf (item 1 c); at = wordOf (item 1 c); sort = sort } ∷ []) (k .variables)))
     go true past others h =
-        let numeral = item-below some-word 2 (inside 2 c) (inside-below nowhere 2 c below) .first in
+        let numeral = item-below (omega (arith, ahead)) 2 (inside 2 c) (inside-below nowhere 2 c below) .first in
         record { small = small-more (k .variables) _ (small .small) (sort-narrow nowhere (item 2 c) (inside 2 c) numeral (omega arith)) }
     go false past others h = small
 

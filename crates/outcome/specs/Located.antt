@@ -44,6 +44,10 @@ pub data EndAt (text : List ℕ) (place : ℕ) : (end : ℕ) → Type 0 where
 abbrev pub Carrying : (script response : List ℕ) → Answer → Type 0
 Carrying script response answer = answer .location ≡ located script response (answer .outcome)
 
+-- An answer that carries nothing, and after which no list is shown.
+abbrev pub unlocated : Outcome → Answer
+unlocated o = record { outcome = o; location = noLocation; totals = noTotals }
+
 -- The answer with what it carries and the totals, and the area afterwards.
 pub record AnswerGiven (script response points : List ℕ) (budget : ℕ) (area : List ℕ) (answer : Answer) (areaAfter : List ℕ) : Type 0 where
   pub checked : Checked script response points budget area (answer .outcome) areaAfter (answer .totals)

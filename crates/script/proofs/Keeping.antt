@@ -22,9 +22,9 @@ use Rattle.script.specs.Script.{sortingPlace, nothingKnown, tested}
 use Rattle.script.proofs.WordsBelow.{Below, stands-below}
 use Rattle.script.specs.Outcome.{ScriptOutcome, byCommands, byWords, said, scriptOutcome}
 
--- Every command within its limits and without a fault in its sorts and its grammar keeps to P.
+-- Every command, which stands at a word of the script, within its limits and without a fault in its sorts and its grammar keeps to P.
 module _ (P : Known → Type 0)
-    (kept : (nowhere : ℕ) (k : Known) (at : ℕ) (c : Items) → 0 < nowhere → Below nowhere c → nowhere ≤ limitPlace allowed nowhere k at c
+    (kept : (nowhere : ℕ) (k : Known) (at : ℕ) (c : Items) → at < nowhere → Below nowhere c → nowhere ≤ limitPlace allowed nowhere k at c
     → nowhere ≤ sortingPlace nowhere k c → nowhere ≤ grammarPlace nowhere k c → P k → P (knownAfter k c)) where
   -- What is known keeps to P, where the reading passes.
   data Keeps : Read → Type 0 where
@@ -60,8 +60,7 @@ module _ (P : Known → Type 0)
   unfolding Below readAll
   all-keep nowhere none {k} below p = either-keeps (k .ended) (λ e. goes-on p) (λ e. ends)
   all-keep nowhere (tree l c more) {k} below p =
-      let some-word : 0 < nowhere = omega (arith, below .0 .first) in
-      let after = kept nowhere k (wordOf l) c some-word (below .1) in
+      let after = kept nowhere k (wordOf l) c (below .0 .first) (below .1) in
       let command = judged-keeps nowhere k (wordOf l) c (knownAfter k c) (λ limited sorted ruled. after limited sorted ruled p) in
       either-keeps (isList l) (λ e. then-keeps _ command (λ later q. all-keep nowhere more (below .2) q)) (λ e. ends)
 

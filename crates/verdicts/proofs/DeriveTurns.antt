@@ -2,30 +2,25 @@
 use Prim.Native.Nat.{ℕ, suc, _+_, _*_, _≤_, _<_}
 use native.Mathlib.Nat.{add-zero, zero-add}
 use native.Mathlib.Omega.{arith}
-use mathlib.Core.Path.{_≡_, refl, sym, ap, ap₂, _∙_}
+use mathlib.Core.Path.{_≡_, refl, ap, ap₂, _∙_}
 use mathlib.Core.Bool.{Bool, true, false}
 use mathlib.Core.List.{List, [], _∷_, _++_, append-assoc, append-nil}
 use lib.ListN.{drop, drop-of-length-le, length, length-append, length-set, set}
 use lib.Seq.{length-sets, sets}
 use Rattle.derivation.specs.Answer.{listOf}
 use Rattle.forest.specs.Limits.{listSize, mostFunctions}
-use Rattle.derivation.specs.code.Admitted.{Admitted, LeavesFit}
-use Rattle.derivation.proofs.Leaves.{sorted-fit}
 use Rattle.derivation.proofs.Simple.{simple-derives}
 use Rattle.names.specs.Scopes.{Function}
-use Rattle.term_faults.specs.Faults.{scopeOf}
-use Rattle.outcome.specs.code.Sorted.{AllRulesSorted, RulesSorted}
 use Rattle.script.specs.declared.Progress.{Progress}
-use Rattle.script.specs.Response.{Body, inScriptOrder, responseView}
-use Rattle.response.proofs.Picked.{At, BodyAt, body-at, each, grammar-at, order-length, place}
-use Rattle.outcome.specs.code.Assured.{AllAdmitted}
+use Rattle.script.specs.Response.{Body, inScriptOrder}
 use Rattle.outcome.specs.Derived.{FirstUnderived, ListsShown, listsOf, shownArea, termsOf, totals, weighed}
 use Rattle.outcome.specs.Derived.FirstUnderived.{here, later}
 use Rattle.outcome.specs.Derived.ListsShown.{also, no-more}
 use Rattle.outcome.proofs.Areas.{blank-long}
+use Rattle.one_function.proofs.FunctionAndBody.{Both}
+use Rattle.one_function.proofs.NextFunction.{bodies-many, functions-many, next, next-body, one-held}
 use Rattle.verdicts.specs.code.Derive.{Derivable, Judged, JudgesOne, OneDerivable}
 use Rattle.verdicts.proofs.ShownLists.{area-blank, area-more, lists-more, totals-more, totals-none, weighed-long}
-use Rattle.verdicts.proofs.FunctionAndBody.{Both, as-many, both}
 
 module _ {places nodes forms area₀ weights₀ : List ℕ} {p : Progress} (q : Derivable places nodes forms p area₀ weights₀) where
   -- The functions, in script order.
@@ -65,16 +60,11 @@ module _ {places nodes forms area₀ weights₀ : List ℕ} {p : Progress} (q : 
     first-all = λ n b first. rw (zero-add n) first;
   }
 
-  -- There are as many functions as the reading has counted.
-  many : length ordered ≡ p .functions
-  many = order-length (q .known .functions) ∙ sym (q .held .counted .functions-are)
-
   -- Past the last function all are derived.
   pub going-done : {area weights : List ℕ} {j : ℕ} → Going area weights j → p .functions ≤ j → Judged q area weights j
   going-done {j = j} g past =
-      let bodies = as-many (q .known .defined) ordered (q .bodies) (q .held .response) in
-      let no-function : drop j ordered ≡ [] = drop-of-length-le ordered {i = j} (omega (arith, many)) in
-      let no-body : drop j (q .bodies) ≡ [] = drop-of-length-le (q .bodies) {i = j} (omega (arith, many)) in
+      let no-function : drop j ordered ≡ [] = drop-of-length-le ordered {i = j} (omega (arith, functions-many (q .held))) in
+      let no-body : drop j (q .bodies) ≡ [] = drop-of-length-le (q .bodies) {i = j} (omega (arith, bodies-many (q .held))) in
       record {
         all! = λ e. record {
           lists = g .lists;
@@ -89,63 +79,23 @@ module _ {places nodes forms area₀ weights₀ : List ℕ} {p : Progress} (q : 
 
   module _ {j : ℕ} (more : j < p .functions) where
     -- Function j and its body.
-    pub next : Both (q .known .defined) ordered (q .bodies) j
-    next = both (q .known .defined) ordered (q .bodies) j (q .held .response) (omega (arith, many))
-
-    -- It is one of the functions.
-    pub next-at : At (q .known .functions) j (next .function)
-    next-at = place (q .known .functions) j (drop (j + 1) ordered) (next .function-is)
-
-    -- Its body stands in the tables.
-    pub next-body : BodyAt (q .text) (q .held .bodies-held .places-hold .all) places j (next .body)
-    next-body = body-at 0 j j (q .bodies) (omega arith) (q .held .bodies-held .bodies-at) (next .body-is)
-
-    -- Its grammar is one that document 01 admits.
-    pub next-admitted : Admitted (next .function .grammar)
-    unfolding AllAdmitted
-    next-admitted = each {Has = λ (f : Function). Admitted (f .grammar)} {All = AllAdmitted} (λ f others all. all) next-at (q .held .script .admitted)
-
-    -- The literals of its body are values of their sorts, and the names are the function's arguments.
-    pub next-leaves : LeavesFit (next .function .grammar .arguments) (next .body .term)
-    unfolding AllRulesSorted
-    next-leaves =
-        let defs = q .known .defined in
-        let sorted = each {Has = RulesSorted defs} {All = AllRulesSorted defs} (λ f others all. all) next-at (q .held .script .sorted .functions) in
-        rw (sorted .arguments) (sorted-fit (scopeOf (responseView defs (next .function)) .terms) (next .body .term) (next .sort))
+    abbrev this : Both (q .known .defined) ordered (q .bodies) j
+    this = next (q .held) more
 
     module _ {area weights : List ℕ} (g : Going area weights j) where
       -- A derivation of its body may be sought.
       abbrev pub next-derivable : OneDerivable places nodes forms j area
-      next-derivable =
-          let held = q .held .bodies-held .places-hold in
-          record {
-            function = next .function;
-            body = next .body .term;
-            long = held .long;
-            rows = p .forms;
-            grammar-held = grammar-at next-at (q .held .grammars-hold);
-            forms-room = q .held .forms-room;
-            admitted = next-admitted;
-            all = held .all;
-            rest = held .rest;
-            nodes-are = held .nodes-are;
-            plain = held .plain;
-            stands = next-body .begins;
-            few = next .few;
-            leaves = next-leaves;
-            sized = g .long ∙ ap length (q .blank) ∙ blank-long;
-            low = omega (arith, q .held .counted .few-functions);
-          }
+      next-derivable = record { held = one-held (q .held) more; sized = g .long ∙ ap length (q .blank) ∙ blank-long }
 
       module _ {areaAfter : List ℕ} {answer : Bool} {total : ℕ} (judged : JudgesOne places nodes forms j area areaAfter answer total) where
         -- A body that is not derived is the first.
         pub going-fails : answer ≡ false → Judged q areaAfter weights j
         going-fails fails =
             let failed = judged next-derivable .no! fails in
-            let first = g .first-all 0 (next .body) (rw (next .function-is, next .body-is) (here (failed .none-derives))) in
+            let first = g .first-all 0 (this .body) (rw (this .function-is, this .body-is) (here (failed .none-derives))) in
             record {
               all! = λ e. absurd (omega arith);
-              one! = λ h. record { body = next .body; first = rw add-zero at first; offset = next-body .offset-is };
+              one! = λ h. record { body = this .body; first = rw add-zero at first; offset = next-body (q .held) more .offset-is };
               long = ap length (failed .unchanged) ∙ g .long;
               as-many = g .as-many;
             }
@@ -164,13 +114,13 @@ module _ {places nodes forms area₀ weights₀ : List ℕ} {p : Progress} (q : 
               long = ap length (found .shown) ∙ length-sets area (listSize * j) (listOf ds) ∙ g .long;
               listed = omega (arith, length-append (g .lists) (ds ∷ []), g .listed);
               weights-are = put ∙ ap₂ (λ (l : List ℕ) (n : ℕ). set l j n) (g .weights-are) (found .weighs)
-                  ∙ totals-more ordered (g .lists) ds (g .listed) (g .weighed-long) (next .function-is) few;
-              weighed-long = weighed-long ordered (g .lists) ds (g .listed) (g .weighed-long) (next .function-is);
+                  ∙ totals-more ordered (g .lists) ds (g .listed) (g .weighed-long) (this .function-is) few;
+              weighed-long = weighed-long ordered (g .lists) ds (g .listed) (g .weighed-long) (this .function-is);
               as-many = ap length put ∙ length-set weights j total ∙ g .as-many;
               low = omega arith;
               shown-all = λ others shown. rw (append-assoc (g .lists) (ds ∷ []) others)
-                  (g .shown-all (ds ∷ others) (rw (next .function-is, next .body-is) (also (found .derivation) (found .least) (found .few) shown)));
+                  (g .shown-all (ds ∷ others) (rw (this .function-is, this .body-is) (also (found .derivation) (found .least) (found .few) shown)));
               first-all = λ n b first.
                   let one-on : j + 1 + n ≡ j + suc n = omega arith in
-                  rw one-on (g .first-all (suc n) b (rw (next .function-is, next .body-is) (later (simple-derives _ (found .derivation)) first)));
+                  rw one-on (g .first-all (suc n) b (rw (this .function-is, this .body-is) (later (simple-derives _ (found .derivation)) first)));
             }

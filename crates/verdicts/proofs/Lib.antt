@@ -1,6 +1,4 @@
-pub mod BodyRows
 pub mod ShownLists
-pub mod FunctionAndBody
 pub mod OneFunction
 pub mod DeriveTurns
 pub mod VariableSorts

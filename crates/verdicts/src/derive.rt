@@ -2,28 +2,14 @@
 use derivation::Derived;
 use derivation::derive;
 use forest::numbers::put_entry;
+use one_function::rows_from;
 use script::Progress;
 use script::places::body_of;
 use script::places::form_rows_of;
 use script::places::forms_of;
 use script::places::rules_of;
-use terms::ROW;
 use terms::size_at;
-ghost use mathlib.Core.Path.{_≡_};
-ghost use Prim.Native.Nat.{_+_, _*_, _≤_};
-ghost use lib.ListN.{length};
-ghost use Rattle.terms.specs.code.Nodes.{rowWidth};
-ghost use Rattle.verdicts.specs.code.Derive.{Derivable, Judges, JudgesOne, OneDerivable, rowsFrom};
-
-// So many rows of a table of nodes, from one row on.
-fn rows_from<'a>(nodes: &'a [u64], first: usize, count: usize) -> &'a [u64]
-    requires { ⌜ rowWidth * (first + count) ≤ length (now nodes) ⌝ }
-    ensures { λ r. ⌜ now r ≡ rowsFrom (now (nodes .entry)) first count ⌝ }
-{
-    let start = ROW * first;
-    let end = start + ROW * count;
-    &nodes[start..end]
-}
+ghost use Rattle.verdicts.specs.code.Derive.{Derivable, Judges, JudgesOne, OneDerivable};
 
 // Whether a function's grammar derives the function's body, and what the least derivation weighs; if so, the function's list in the area shows it.
 fn derive_one(

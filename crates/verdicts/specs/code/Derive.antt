@@ -1,25 +1,19 @@
 -- What the search for derivations of all bodies asks and gives.
-use Prim.Native.Nat.{ℕ, _*_, _≤_, _<_}
+use Prim.Native.Nat.{ℕ}
 use mathlib.Core.Bool.{Bool, true, false}
-use mathlib.Core.List.{List, _++_}
+use mathlib.Core.List.{List}
 use mathlib.Core.Path.{_≡_}
-use lib.ListN.{drop, length, take}
-use Rattle.forest.specs.code.Cursors.{size}
-use Rattle.terms.specs.Labels.{Terms}
-use Rattle.terms.specs.code.Nodes.{AllPlain, nodeTable, rowWidth}
-use Rattle.evaluation.specs.code.Tables.{TermStands}
-use Rattle.forest.specs.Limits.{areaSize, mostFunctions, mostNodes}
+use lib.ListN.{length}
+use Rattle.forest.specs.Limits.{areaSize}
 use Rattle.derivation.specs.code.Derive.{NotDerived, Shown as ShownIn}
-use Rattle.derivation.specs.code.Admitted.{Admitted, LeavesFit}
-use Rattle.names.specs.Scopes.{Function}
 use Rattle.script.specs.Script.{Known}
-use Rattle.script.specs.code.Tables.{GrammarHeld}
-use Rattle.script.specs.code.Places.{bodyIn, functionsPlace, placesLength, offsetIn}
+use Rattle.script.specs.code.Places.{offsetIn}
 use Rattle.script.specs.declared.Progress.{Progress}
 use Rattle.script.specs.Outcome.{offsetOf}
 use Rattle.script.specs.Response.{Body, inScriptOrder}
 use Rattle.outcome.specs.code.Held.{Held}
 use Rattle.outcome.specs.Derived.{FirstUnderived, ListsShown, blankArea, noTotals, shownArea, termsOf, totals}
+use Rattle.one_function.specs.code.OneFunction.{OneHeld}
 
 -- The tables hold a script and a response that pass, the area shows nothing, and the totals are 0.
 pub record Derivable (places nodes forms : List ℕ) (p : Progress) (area weights : List ℕ) : Type 0 where
@@ -58,36 +52,17 @@ abbrev pub Judges : (places nodes forms : List ℕ) → Progress → (area weigh
 Judges places nodes forms p area weights areaAfter weightsAfter r =
     (q : Derivable places nodes forms p area weights) → Judged q areaAfter weightsAfter r
 
--- So many rows of a table of nodes, from one row on.
-abbrev pub rowsFrom : (nodes : List ℕ) → (first count : ℕ) → List ℕ
-rowsFrom nodes first count = take (rowWidth * count) (drop (rowWidth * first) nodes)
-
--- The tables hold the grammar of function j, which is one that document 01 admits, and a body of no more nodes than one may have, whose literals are values of
--- their sorts and whose names are the function's arguments; the area has its size.
+-- The tables hold function j, and the area has its size.
 pub record OneDerivable (places nodes forms : List ℕ) (j : ℕ) (area : List ℕ) : Type 0 where
-  pub function : Function
-  pub body : Terms
-  pub long : length places ≡ placesLength
-  pub rows : ℕ
-  pub grammar-held : GrammarHeld (drop functionsPlace places) forms rows j function
-  pub forms-room : rowWidth * rows ≤ length forms
-  pub admitted : Admitted (function .grammar)
-  pub all : Terms
-  pub rest : List ℕ
-  pub nodes-are : nodes ≡ nodeTable all ++ rest
-  pub plain : AllPlain all
-  pub stands : TermStands all (bodyIn places j) body
-  pub few : size body ≤ mostNodes
-  pub leaves : LeavesFit (function .grammar .arguments) body
+  pub held : OneHeld places nodes forms j
   pub sized : length area ≡ areaSize
-  pub low : j < mostFunctions
 
 -- The function's rules derive the body, its list in the area shows the least derivation, and the total is what it weighs; or no list of rules does,
 -- and the area is as it was.
 pub record OneJudged {places nodes forms area : List ℕ} {j : ℕ} (q : OneDerivable places nodes forms j area) (areaAfter : List ℕ) (answer : Bool)
     (total : ℕ) : Type 0 where
-  pub yes! : answer ≡ true → ShownIn (q .function .grammar) (q .body) j area areaAfter total
-  pub no! : answer ≡ false → NotDerived (q .function .grammar) (q .body) area areaAfter total
+  pub yes! : answer ≡ true → ShownIn (q .held .function .grammar) (q .held .body) j area areaAfter total
+  pub no! : answer ≡ false → NotDerived (q .held .function .grammar) (q .held .body) area areaAfter total
 
 -- The same, for whatever the tables hold.
 abbrev pub JudgesOne : (places nodes forms : List ℕ) → (j : ℕ) → (area areaAfter : List ℕ) → Bool → ℕ → Type 0

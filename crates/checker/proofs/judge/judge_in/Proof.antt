@@ -1,4 +1,4 @@
-use Rattle.checker.proofs.TextsAnswer.{lent}
+use Rattle.both_texts.proofs.Reading.{lent}
 use Rattle.checker.proofs.Sizing.{weighed-as}
 use Rattle.checker.proofs.Judgements.{evaluable, points-answered, texts-declined}
 use mathlib.Core.Path.{refl}

@@ -1,6 +1,6 @@
 use native.Mathlib.Omega.{arith}
 use Rattle.both_texts.proofs.Reading.{full-rooms, short-rooms}
-use Rattle.checker.proofs.TextsAnswer.{texts-long}
+use Rattle.checker.proofs.TextsAnswer.{texts-long, texts-short}
 use borrow.Author.Needs.{needs}
 use Rattle.checker.proofs.reading.texts_told.Statement.{statement}
 use Rattle.checker.proofs.reading.texts_told.Tie as tie
@@ -24,7 +24,7 @@ slice-aggregate-told-in-2 : tie.Need-slice-aggregate-told-in-2
 slice-aggregate-told-in-2 c = search needs
 
 told-in-requires : tie.Need-told-in-requires
-told-in-requires c κs = (c .before .before .before .before .before .before .before .length-answer .ensures .passes (c .before .before .before .before .before .if1 .left), short-rooms (c .before .before .before .short-nodes .ensures) (c .before .before .short-forms .ensures) (c .before .before .before .before .if2 .taken))
+told-in-requires c κs = (texts-short _ _ (c .before .before .before .before .before .before .before .length-answer .ensures) (c .before .before .before .before .before .if1 .left), short-rooms (c .before .before .before .short-nodes .ensures) (c .before .before .short-forms .ensures) (c .before .before .before .before .if2 .taken))
 
 returns-2 : tie.Need-returns-2
 returns-2 c = c .before .before .told-in .ensures
@@ -42,7 +42,7 @@ slice-aggregate-told-in-4 : tie.Need-slice-aggregate-told-in-4
 slice-aggregate-told-in-4 c = search needs
 
 told-in-requires-2 : tie.Need-told-in-requires-2
-told-in-requires-2 c κs = (c .before .before .before .before .before .before .before .length-answer .ensures .passes (c .before .before .before .before .before .if1 .left), full-rooms (omega arith) (c .before .before .before .node-room .ensures) (c .before .before .form-room .ensures))
+told-in-requires-2 c κs = (texts-short _ _ (c .before .before .before .before .before .before .before .length-answer .ensures) (c .before .before .before .before .before .if1 .left), full-rooms (omega arith) (c .before .before .before .node-room .ensures) (c .before .before .form-room .ensures))
 
 returns-3 : tie.Need-returns-3
 returns-3 c = c .before .before .told-in2 .ensures

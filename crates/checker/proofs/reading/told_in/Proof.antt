@@ -1,4 +1,5 @@
-use Rattle.checker.proofs.TextsAnswer.{both-told, lent, one-told}
+use Rattle.both_texts.proofs.Reading.{lent}
+use Rattle.checker.proofs.TextsAnswer.{both-told, one-told}
 use borrow.Author.Needs.{needs}
 use Rattle.checker.proofs.reading.told_in.Statement.{statement}
 use Rattle.checker.proofs.reading.told_in.Tie as tie

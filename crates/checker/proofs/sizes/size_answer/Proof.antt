@@ -1,4 +1,3 @@
-use native.Mathlib.Omega.{arith}
 use Rattle.checker.proofs.Sizing.{all-sized, area-other, points-long, text-long}
 use borrow.Author.Needs.{needs}
 use Rattle.checker.proofs.sizes.size_answer.Statement.{statement}

@@ -6,11 +6,11 @@ use Rattle.checker.proofs.stepping.refused.Tie as tie
 refusal-requires : tie.Need-refusal-requires
 refusal-requires c κs = search needs
 
-no-totals-requires : tie.Need-no-totals-requires
-no-totals-requires c κs = search needs
+unlocated-requires : tie.Need-unlocated-requires
+unlocated-requires c κs = search needs
 
 returns : tie.Need-returns
 returns c = search refused-is
 
 pub refused-spec : {M : Type 1} → statement M
-refused-spec = tie.close (tie.spec refusal-requires no-totals-requires returns)
+refused-spec = tie.close (tie.spec refusal-requires unlocated-requires returns)

@@ -1,11 +1,12 @@
 use native.Mathlib.Omega.{arith}
-use Rattle.verdicts.proofs.OneFunction.{body-end, few-rules, forms-end, one-judged, sought}
+use Rattle.one_function.proofs.OneFunction.{body-end, few-rules, forms-end}
+use Rattle.verdicts.proofs.OneFunction.{one-judged, sought}
 use borrow.Author.Needs.{needs}
 use Rattle.verdicts.proofs.derive.derive_one.Statement.{statement}
 use Rattle.verdicts.proofs.derive.derive_one.Tie as tie
 
 rules-of-requires : tie.Need-rules-of-requires
-rules-of-requires c κs = let q = c .before .before .before .before .pre in (q .low, (q .long, few-rules q))
+rules-of-requires c κs = let q = c .before .before .before .before .pre .held in (q .low, (q .long, few-rules q))
 
 forms-of-requires : tie.Need-forms-of-requires
 forms-of-requires c κs = search needs
@@ -14,7 +15,7 @@ form-rows-of-requires : tie.Need-form-rows-of-requires
 form-rows-of-requires c κs = search needs
 
 rows-from-requires : tie.Need-rows-from-requires
-rows-from-requires c κs = forms-end (c .before .before .before .before .before .before .before .pre) (c .before .forms-of .ensures) (c .form-rows-of .ensures)
+rows-from-requires c κs = forms-end (c .before .before .before .before .before .before .before .pre .held) (c .before .forms-of .ensures) (c .form-rows-of .ensures)
 
 body-of-requires : tie.Need-body-of-requires
 body-of-requires c κs = search needs
@@ -25,7 +26,7 @@ size-at-requires c κs = search needs
 rows-from-requires-2 : tie.Need-rows-from-requires-2
 rows-from-requires-2 c κs =
     let entry = c .before .before .before .before .before .before .before .before .before .before in
-    body-end (entry .pre) (c .before .body-of .ensures) (c .size-at .ensures)
+    body-end (entry .pre .held) (c .before .body-of .ensures) (c .size-at .ensures)
 
 derive-requires : tie.Need-derive-requires
 derive-requires c κs =
@@ -38,7 +39,7 @@ derive-requires c κs =
     let rules = first .before in
     let q = rules .before .before .before .before .before .pre in
     sought q (rules .rules-of .ensures) (first .forms-of .ensures) (many .form-rows-of .ensures) (sides .rows-from .ensures) (node .body-of .ensures)
-    (sized .size-at .ensures) (body .rows-from2 .ensures) (omega (arith, q .low))
+    (sized .size-at .ensures) (body .rows-from2 .ensures) (omega (arith, q .held .low))
 
 same-length : tie.Need-same-length
 same-length c = search needs

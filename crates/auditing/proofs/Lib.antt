@@ -1,0 +1,4 @@
+pub mod ListFollowed
+pub mod FollowTurns
+pub mod TextsAudited
+pub mod FileAnswer

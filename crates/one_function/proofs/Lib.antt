@@ -1,0 +1,4 @@
+pub mod BodyRows
+pub mod FunctionAndBody
+pub mod OneFunction
+pub mod NextFunction
