@@ -1,17 +1,19 @@
-/* Sverdhyll for C: the checker, the reader of words, and the runner of steps.
+/* Sverdhyll for C: the checker, the reader of words, the runner of steps, and the evidence file.
 
    Every function may be called with any bytes and any numbers. A text or a list is a pointer and a length; where the length is 0 the pointer is not read.
 
    A call keeps nothing for the next one, so that several may run at once. It runs on the caller's stack: sverdhyll_answer and sverdhyll_check take up to
-   1.92 MiB of it, whatever they are given (measured at the limits of all inputs, docs/MEASUREMENTS.md), and sverdhyll_steps, which checks first, up to 2 MiB less
-   23 KiB; sverdhyll_read, which evaluates nothing, and sverdhyll_run take less. A thread of 2 MiB suffices; one of 1 MiB does not for every input, and a call that
-   needs more than there is ends the program.
+   1.52 MiB of it, whatever they are given (measured at the limits of all inputs, docs/MEASUREMENTS.md), sverdhyll_steps and the calls of the evidence file up to
+   1.59 MiB; sverdhyll_read, which evaluates nothing, and sverdhyll_run take less. A thread of 2 MiB suffices for each call; one of 1 MiB does not for every input,
+   and a call that needs more than there is ends the program.
 
    Which static library has which function (`rt staticlib NAME` makes target/staticlib/libNAME.a; link one of them):
 
-     libchecker.a   sverdhyll_answer, sverdhyll_check, sverdhyll_read, sverdhyll_word, sverdhyll_position, sverdhyll_steps, sverdhyll_run
+     libchecker.a   sverdhyll_answer, sverdhyll_check, sverdhyll_read, sverdhyll_word, sverdhyll_position, sverdhyll_steps, sverdhyll_run,
+                    sverdhyll_write_evidence, sverdhyll_check_evidence
      libwords.a     sverdhyll_words, sverdhyll_word, sverdhyll_position
      librunner.a    sverdhyll_run
+     libauditing.a  sverdhyll_check_evidence
 
    ./install DIR puts libchecker.a to DIR/lib/libsverdhyll.a, with a file for pkg-config:
    cc $(pkg-config --cflags sverdhyll) .. $(pkg-config --libs sverdhyll) */
@@ -47,7 +49,9 @@ enum {
     SVERDHYLL_AREA_MISSIZED = 17,
     SVERDHYLL_NO_STEPS = 18,
     SVERDHYLL_BAD_STEP = 19,
-    SVERDHYLL_BAD_ARGUMENT = 20
+    SVERDHYLL_BAD_ARGUMENT = 20,
+    SVERDHYLL_WRONG_BLOCK = 21,
+    SVERDHYLL_NOT_FOLLOWED = 22
 };
 
 /* Which text an answer speaks of. */
@@ -60,15 +64,16 @@ enum {
 
 /* Sizes that are not the caller's choice. */
 enum {
-    SVERDHYLL_AREA = 32768,         /* how many entries the area must have */
-    SVERDHYLL_LIST = 4096,          /* how many of them are for the list of one function */
-    SVERDHYLL_UNUSED = 65535,       /* an entry that no list uses */
-    SVERDHYLL_STEPS_AREA = 1024,    /* how many numbers the area for steps must have */
-    SVERDHYLL_MOST_SCRIPT = 65536,  /* bytes */
-    SVERDHYLL_MOST_RESPONSE = 8192, /* bytes */
-    SVERDHYLL_MOST_POINTS = 1024,   /* numbers */
-    SVERDHYLL_MOST_FUNCTIONS = 8,   /* synthesized ones */
-    SVERDHYLL_FIRST_ASSUMPTION = 64 /* answer 15 numbers assumptions from here */
+    SVERDHYLL_AREA = 32768,           /* how many entries the area must have */
+    SVERDHYLL_LIST = 4096,            /* how many of them are for the list of one function */
+    SVERDHYLL_UNUSED = 65535,         /* an entry that no list uses */
+    SVERDHYLL_STEPS_AREA = 1024,      /* how many numbers the area for steps must have */
+    SVERDHYLL_MOST_EVIDENCE = 140288, /* bytes: no evidence file that is written or accepted is longer */
+    SVERDHYLL_MOST_SCRIPT = 65536,    /* bytes */
+    SVERDHYLL_MOST_RESPONSE = 8192,   /* bytes */
+    SVERDHYLL_MOST_POINTS = 1024,     /* numbers */
+    SVERDHYLL_MOST_FUNCTIONS = 8,     /* synthesized ones */
+    SVERDHYLL_FIRST_ASSUMPTION = 64   /* answer 15 numbers assumptions from here */
 };
 
 /* The indexes of the numbers of an answer. */
@@ -247,6 +252,53 @@ uint8_t sverdhyll_steps(const uint8_t *script, size_t script_len, const uint8_t 
    None of `place`, `value` and `sort` may be NULL. */
 uint8_t sverdhyll_run(const uint64_t *sorts, size_t sorts_len, const uint64_t *arguments, size_t arguments_len, const uint64_t *steps, size_t steps_len,
                       uint64_t *place, uint64_t *value, uint64_t *sort);
+
+/* Sizes of an evidence file. */
+enum {
+    SVERDHYLL_BLOCK = 512,    /* bytes of a block */
+    SVERDHYLL_PAYLOAD = 510,  /* bytes of payload in it, in front of the two of their sum */
+    SVERDHYLL_MODULUS = 65521 /* what the sum is taken modulo */
+};
+
+/* Writes the evidence file of a script and a response to the front of a lent area: the two texts, and for each function a list of rules that derives its body.
+   No points are taken, and nothing is evaluated: the constraints need not hold. Returns the answer's number, puts its sixteen numbers where `answer` points and
+   the length of the file where `length` points (neither of which may be NULL). The answer is the first of these:
+
+   | No.  | When                                                                     | Text | Place      | Other numbers            | Length         |
+   |------|--------------------------------------------------------------------------|------|------------|--------------------------|----------------|
+   | 1-12 | a text is refused                                                        | as sverdhyll_read has them                   | 0              |
+   | 13   | the grammar of a function does not derive its body                       | as sverdhyll_answer has them                 | 0              |
+   | 17   | the area is shorter than the file                                        | 3    | `area_len` | 0                        | 0              |
+   | 0    | the file is written                                                      | 3    | 0          | 0, but for the weights   | a multiple of  |
+   |      |                                                                          |      |            | of the lists, from       | 512, at most   |
+   |      |                                                                          |      |            | answer[8] on             | 140,288        |
+
+   An area of 140,288 bytes is never too short. area[*length] and what is behind it stay as they were lent; so does the whole area after any answer but 0. The
+   list of a function is the least derivation, which sverdhyll_answer shows.
+
+   The payload of the file is: the length of the script and of the response (4 bytes each), for each of eight functions how many rules its list has (2 bytes
+   each; 0 for a function that the script does not have), the script, the response, the lists (2 bytes a rule), and zeros up to a multiple of 510 bytes. It is
+   cut into blocks of 512 bytes: 510 of payload, then 2 that hold the sum of each byte times its position in the block, counted from 1, modulo 65,521. All
+   these numbers have their low byte first. docs/EVIDENCE.md has a file worked by hand. */
+uint8_t sverdhyll_write_evidence(const uint8_t *script, size_t script_len, const uint8_t *response, size_t response_len, uint8_t *area, size_t area_len,
+                                 size_t *length, uint64_t answer[SVERDHYLL_ANSWER]);
+
+/* Checks an evidence file, of any bytes, without a search: in libchecker.a, and in a library of its own for those who check only. Returns the answer's number,
+   and puts its sixteen numbers where `answer` points (which may not be NULL). The answer is the first of these:
+
+   | No.  | When                                                                     | Text | Place        | Other numbers                           |
+   |------|--------------------------------------------------------------------------|------|--------------|-----------------------------------------|
+   | 21   | a block is cut short, or does not hold its sum; an empty file is block 0 | 3    | the block    | 0                                       |
+   |      | the lengths are past the file                                            | 3    | 0            | 0                                       |
+   |      | zeros are missing behind the lists, or a block is spare                  | 3    | the block    | 0                                       |
+   | 1-12 | a text that the file holds is refused                                    | as sverdhyll_read has them, in that text                       |
+   | 22   | a list does not derive the body of its function, or uses a non-terminal  | 3    | the function | 0                                       |
+   |      | twice at one place; or a function that the script does not have has one  |      |              |                                         |
+   | 0    | else                                                                     | 3    | 0            | 0                                       |
+
+   Blocks, functions and bytes count from 0. The first block that is wrong is named; so is the first function. Any list that derives the body will do, also one
+   that is not the least. Whatever sverdhyll_write_evidence writes is accepted, and with any one byte changed it is refused by 21 at the block of that byte. */
+uint8_t sverdhyll_check_evidence(const uint8_t *file, size_t file_len, uint64_t answer[SVERDHYLL_ANSWER]);
 
 #ifdef __cplusplus
 }

@@ -6,7 +6,9 @@
    "word", text, offset: the length of the word that starts there;
    "position", text, offset: the offset past the word that starts there, the line and the column, in one frame;
    "steps", script, response, points, budget and function, area: the sixteen numbers of the answer, the number of steps, and the area, a frame each;
-   "run", sorts, arguments, steps: the answer's number, its place, the value and its sort, in one frame.
+   "run", sorts, arguments, steps: the answer's number, its place, the value and its sort, in one frame;
+   "write evidence", script, response, area: the sixteen numbers of the answer, the length of the file, and the area, a frame each;
+   "check evidence", file: the sixteen numbers of the answer.
    It ends as soon as nobody can write to standard input any more, also in the middle of a check: however the process that started it ends, it ends too.
    Its machine is x86-64, so numbers in memory have their low byte first, as in the frames. */
 #include <poll.h>
@@ -143,6 +145,34 @@ static int run(void)
     return 1;
 }
 
+/* Reads what an evidence file is made of, and writes it; returns 0 where standard input ends. */
+static int write_evidence(void)
+{
+    static struct frame script, response, area;
+    uint64_t answer[SVERDHYLL_ANSWER], number;
+    size_t length;
+
+    if (!receive(&script) || !receive(&response) || !receive(&area)) return 0;
+    sverdhyll_write_evidence(script.bytes, script.length, response.bytes, response.length, area.bytes, area.length, &length, answer);
+    number = length;
+    send(answer, sizeof answer);
+    send(&number, sizeof number);
+    send(area.bytes, area.length);
+    return 1;
+}
+
+/* Checks an evidence file; returns 0 where standard input ends. */
+static int check_evidence(void)
+{
+    static struct frame file;
+    uint64_t answer[SVERDHYLL_ANSWER];
+
+    if (!receive(&file)) return 0;
+    sverdhyll_check_evidence(file.bytes, file.length, answer);
+    send(answer, sizeof answer);
+    return 1;
+}
+
 /* Answers a request; returns 0 where it is none, or standard input ends. */
 static int served(const struct frame *request)
 {
@@ -151,7 +181,9 @@ static int served(const struct frame *request)
     if (is(request, "word")) return word();
     if (is(request, "position")) return position();
     if (is(request, "steps")) return steps();
-    return is(request, "run") && run();
+    if (is(request, "run")) return run();
+    if (is(request, "write evidence")) return write_evidence();
+    return is(request, "check evidence") && check_evidence();
 }
 
 /* Ends the process when standard input has nobody left who can write to it. */

@@ -1,5 +1,6 @@
 /* How much stack a call of the checker needs at the limits of all inputs: calls on a thread of 2 MiB, each of which must give its answer. Prints for each how much
-   of the stack was touched, by `sverdhyll_check`, by `sverdhyll_answer`, by `sverdhyll_read` and by `sverdhyll_steps`. */
+   of the stack was touched, by `sverdhyll_check`, by `sverdhyll_answer`, by `sverdhyll_read`, by `sverdhyll_steps`, by `sverdhyll_write_evidence`, and by
+   `sverdhyll_check_evidence` of what that wrote. */
 #include <pthread.h>
 
 #include "calls.h"
@@ -10,6 +11,8 @@ enum { STACK = 2 << 20, PAINT = 0xa5, MOST_WORDS = 8192, MOST_ANSWERED = 2048, D
 static struct text script, response;
 static struct answer given;
 static unsigned char *stack;
+static uint8_t evidence[SVERDHYLL_MOST_EVIDENCE];
+static size_t evidence_size;
 
 /* The first call, on the thread. */
 static void *check(void *unused)
@@ -40,6 +43,23 @@ static void *steps(void *unused)
     return unused;
 }
 
+/* The fifth call, on the thread. */
+static void *write_evidence(void *unused)
+{
+    uint64_t n[SVERDHYLL_ANSWER];
+    given = formed(sverdhyll_write_evidence((const uint8_t *)script.bytes, script.size, (const uint8_t *)response.bytes, response.size, evidence, sizeof evidence,
+                                            &evidence_size, n), n);
+    return unused;
+}
+
+/* The sixth call, on the thread. */
+static void *check_evidence(void *unused)
+{
+    uint64_t n[SVERDHYLL_ANSWER];
+    given = formed(sverdhyll_check_evidence(evidence, evidence_size, n), n);
+    return unused;
+}
+
 /* Makes a call on a painted stack; returns how much of it was touched. */
 static size_t touched(void *(*call)(void *))
 {
@@ -54,8 +74,19 @@ static size_t touched(void *(*call)(void *))
     return STACK - untouched;
 }
 
-/* Makes the four calls, prints how much of the stack each touched, and says whether the first two answer this number with so many units, the texts' own
-   answer is that both pass, and the fourth answers this one. */
+/* Makes the last two calls, prints how much of the stack each touched, and says whether both answer 0. */
+static int measure_evidence(void)
+{
+    const size_t first = touched(write_evidence);
+    const struct answer one = given;
+    const size_t second = touched(check_evidence);
+    printf("  for evidence of %zu bytes (answer %d) %zu, and for its check (answer %d) %zu KiB of %d KiB\n", evidence_size, one.number, first / 1024,
+           given.number, second / 1024, STACK / 1024);
+    return one.number == SVERDHYLL_ACCEPTED && given.number == SVERDHYLL_ACCEPTED && first < STACK && second < STACK;
+}
+
+/* Makes all calls, prints how much of the stack each touched, and says whether the first two answer this number with so many units, the texts' own answer is that
+   both pass, the fourth answers this one, and the last two 0. */
 static int measure(const char *what, uint8_t number, uint64_t units, uint8_t stepped)
 {
     const size_t first = touched(check);
@@ -69,7 +100,7 @@ static int measure(const char *what, uint8_t number, uint64_t units, uint8_t ste
            script.words, response.words, two.number, (unsigned long long)two.units, first / 1024, second / 1024, third / 1024, given.number, fourth / 1024,
            STACK / 1024);
     const int answered = one.number == number && one.units == units && two.number == number && two.units == units && passes(own) && given.number == stepped;
-    return answered && first < STACK && second < STACK && third < STACK && fourth < STACK;
+    return measure_evidence() && answered && first < STACK && second < STACK && third < STACK && fourth < STACK;
 }
 
 /* Begins both texts. */

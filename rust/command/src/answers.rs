@@ -1,5 +1,6 @@
 //! Answers in words.
 
+use crate::evidence;
 use crate::facts::Facts;
 use crate::points::{bits, Origin, MOST_NUMBERS};
 use crate::stated::Stated;
@@ -16,7 +17,7 @@ const NOT_THOROUGH: u8 = 4;
 const MOST_WRITTEN_OUT: u32 = 22;
 
 /// The meaning of each number, by document 01's table.
-const MEANINGS: [&str; 21] = [
+const MEANINGS: [&str; 23] = [
     "accepted",
     "too long",
     "bad word",
@@ -38,6 +39,8 @@ const MEANINGS: [&str; 21] = [
     "function not in the script, or its body uses a define-fun",
     "step refused, or list not ending with one value",
     "arguments of wrong count or range",
+    "block wrong or spare, or lengths past the file",
+    "list that does not derive its body, or of an absent function",
 ];
 
 /// What an answer comes to.
@@ -56,7 +59,7 @@ pub enum Verdict {
 pub fn verdict(number: u8) -> Verdict {
     match number {
         0 => Verdict::Accepted,
-        10..=14 | 18 => Verdict::Rejected,
+        10..=14 | 18 | 22 => Verdict::Rejected,
         15 => Verdict::Undecided,
         _ => Verdict::Refused,
     }
@@ -91,8 +94,12 @@ pub fn meaning(number: u8) -> &'static str {
         .unwrap_or("unknown answer")
 }
 
-/// The name of the text that the first line names: the one that the answer speaks of, else the response.
+/// The name of the text that the first line names: the one that the answer speaks of, else the response, or the evidence file that was checked.
 pub fn file(facts: &Facts) -> &str {
+    let evidence = facts.evidence.as_ref();
+    if let Some(name) = evidence.and_then(|one| evidence::named(facts, one)) {
+        return name;
+    }
     let points = facts.given.points.text.as_ref();
     match (facts.answer.text, facts.answer.number, points) {
         (0, ..) => &facts.given.script.name,
@@ -140,6 +147,10 @@ pub fn sentence(facts: &Facts) -> String {
     let word = located.map_or("", |one| one.place.word.as_str());
     if let Some(cause) = &facts.cause {
         return cause.clone();
+    }
+    let evidence = facts.evidence.as_ref();
+    if let Some(sentence) = evidence.and_then(|one| evidence::sentence(facts, one)) {
+        return sentence;
     }
     let named = Stated::named(answer).map(|stated| stated.to_string());
     let named = named.unwrap_or_default();
@@ -382,8 +393,8 @@ mod tests {
         assert_eq!(rejected.collect::<Vec<u8>>(), [10, 11, 12, 13, 14, 15]);
         assert_eq!((verdict(1).word(), verdict(16).status()), ("refused", 2));
         assert_eq!(verdict(15).word(), "undecided");
-        let steps = [17, 18, 19, 20].map(|number| verdict(number).status());
-        assert_eq!(steps, [2, 1, 2, 2]);
+        let others = [17, 18, 19, 20, 21, 22].map(|number| verdict(number).status());
+        assert_eq!(others, [2, 1, 2, 2, 2, 1]);
     }
 
     #[test]

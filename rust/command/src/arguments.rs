@@ -1,6 +1,7 @@
 //! What the command is asked, by its arguments.
 
 use crate::answers::grouped;
+use crate::evidence::{Target, Which};
 use crate::failure::Failure;
 use crate::listing::Chosen;
 use crate::points::{number, Wanted, SEED};
@@ -16,6 +17,10 @@ const QUESTION: &str = "smt2";
 const STEPS: &str = "steps";
 /// The word that asks for the run of a list of steps.
 const RUN: &str = "run";
+/// The word that asks for an evidence file.
+const EVIDENCE: &str = "evidence";
+/// The word that asks for the check of an evidence file.
+const AUDIT: &str = "audit";
 /// At most so many points are made at random.
 const MOST_RANDOM: u64 = 1 << 22;
 
@@ -38,6 +43,28 @@ pub enum Asked {
     Steps(Stepwise),
     /// To run a list of steps.
     Run(ran::Wanted),
+    /// To write an evidence file.
+    Evidence(Filing),
+    /// To check an evidence file.
+    Audit(Auditing),
+}
+
+/// An evidence file that is to be written.
+#[derive(Clone, Debug, PartialEq, Eq)]
+pub struct Filing {
+    pub script: Source,
+    pub response: Source,
+    pub target: Target,
+    pub form: Form,
+}
+
+/// An evidence file that is to be checked.
+#[derive(Clone, Debug, PartialEq, Eq)]
+pub struct Auditing {
+    pub file: Source,
+    /// The text that is wanted in the place of the outcome.
+    pub text: Option<Which>,
+    pub form: Form,
 }
 
 /// A check whose response, once it is accepted, gives the steps of a body.
@@ -90,6 +117,8 @@ struct Given {
     numbers: bool,
     sorts: Option<Vec<u64>>,
     arguments: Option<Vec<u64>>,
+    output: Option<Target>,
+    text: Option<Which>,
 }
 
 /// What the arguments ask for.
@@ -151,6 +180,8 @@ impl Given {
             }
             "--sorts" => once(&mut self.sorts, name, list(name, &value(&text, rest)?)?),
             "--arguments" => once(&mut self.arguments, name, list(name, &value(&text, rest)?)?),
+            "--output" | "-o" => once(&mut self.output, "--output", target(&value(&text, rest)?)),
+            "--text" => once(&mut self.text, name, which(&value(&text, rest)?)?),
             _ => Err(usage(format!("unknown option {text}"))),
         }
     }
@@ -160,7 +191,7 @@ impl Given {
         self.files.len() == files + 1 && self.files[0] == Source::named(OsStr::new(word))
     }
 
-    /// What the arguments ask for, by a word that stands before the files: `smt2` or `steps` before two, `run` before one; else a check.
+    /// What the arguments ask for, by a word that stands before the files: `smt2`, `steps` or `evidence` before two, `run` or `audit` before one; else a check.
     fn asked(mut self) -> Result<Asked, Failure> {
         if self.begins(STEPS, 2) {
             self.files.remove(0);
@@ -169,6 +200,13 @@ impl Given {
         if self.begins(RUN, 1) {
             self.files.remove(0);
             return self.run();
+        }
+        if self.begins(EVIDENCE, 2) {
+            self.files.remove(0);
+            return self.filing();
+        }
+        if self.begins(AUDIT, 1) {
+            return self.auditing();
         }
         self.only_of_check()?;
         if self.begins(QUESTION, 2) {
@@ -201,6 +239,8 @@ impl Given {
             (self.numbers, "--numbers", STEPS),
             (self.sorts.is_some(), "--sorts", RUN),
             (self.arguments.is_some(), "--arguments", RUN),
+            (self.output.is_some(), "--output", EVIDENCE),
+            (self.text.is_some(), "--text", AUDIT),
         ];
         match options.into_iter().find(|(given, ..)| *given) {
             Some((_, option, word)) => Err(usage(format!("{option} is an option of {word}"))),
@@ -238,8 +278,69 @@ impl Given {
         }
     }
 
+    /// How the outcome is said.
+    fn form(&self) -> Form {
+        match (self.json, self.quiet) {
+            (true, _) => Form::Json,
+            (false, true) => Form::Quiet,
+            (false, false) => Form::Full,
+        }
+    }
+
+    /// Whether nothing is given but files and how the outcome is said.
+    fn is_plain(&self) -> bool {
+        let (files, json, quiet) = (self.files.clone(), self.json, self.quiet);
+        let plain = Given {
+            files,
+            json,
+            quiet,
+            ..Given::default()
+        };
+        *self == plain
+    }
+
+    /// The evidence file that the arguments ask for.
+    fn filing(mut self) -> Result<Asked, Failure> {
+        let target = self.output.take().unwrap_or(Target::Beside);
+        if !self.is_plain() {
+            let options = "has the options --output, --json and --quiet";
+            return Err(usage(format!("{EVIDENCE} {options}")));
+        }
+        if self.json && target == Target::StandardOutput {
+            let why = "--json and the file cannot both go to standard output";
+            return Err(usage(why.to_string()));
+        }
+        let Request {
+            script,
+            response,
+            form,
+            ..
+        } = self.request()?;
+        Ok(Asked::Evidence(Filing {
+            script,
+            response,
+            target,
+            form,
+        }))
+    }
+
+    /// The check of an evidence file that the arguments ask for.
+    fn auditing(mut self) -> Result<Asked, Failure> {
+        let text = self.text.take();
+        if !self.is_plain() || text.is_some() && (self.json || self.quiet) {
+            let options = "has the options --text, or --json or --quiet";
+            return Err(usage(format!("{AUDIT} {options}")));
+        }
+        Ok(Asked::Audit(Auditing {
+            form: self.form(),
+            file: self.files.remove(1),
+            text,
+        }))
+    }
+
     /// The request that the arguments make.
     fn request(self) -> Result<Request, Failure> {
+        let form = self.form();
         let points = self.points.unwrap_or(Wanted::Fitting);
         let inputs = self
             .files
@@ -262,11 +363,7 @@ impl Given {
             response,
             points,
             budget: self.budget.unwrap_or(BUDGET),
-            form: match (self.json, self.quiet) {
-                (true, _) => Form::Json,
-                (false, true) => Form::Quiet,
-                (false, false) => Form::Full,
-            },
+            form,
             strict: self.strict,
             refute: self.refute,
         })
@@ -343,6 +440,28 @@ fn function(value: &OsStr) -> Chosen {
     match number(text.as_bytes()) {
         Some(number) => Chosen::Number(number),
         None => Chosen::Name(text.into_owned()),
+    }
+}
+
+/// Where a value says that a file goes: `-` is standard output.
+fn target(value: &OsStr) -> Target {
+    match value.to_str() {
+        Some("-") => Target::StandardOutput,
+        _ => Target::File(value.to_os_string()),
+    }
+}
+
+/// The text that a value names.
+fn which(value: &OsStr) -> Result<Which, Failure> {
+    match value.to_str() {
+        Some("script") => Ok(Which::Script),
+        Some("response") => Ok(Which::Response),
+        _ => {
+            let text = value.to_string_lossy();
+            Err(usage(format!(
+                "--text {text} is neither script nor response"
+            )))
+        }
     }
 }
 
@@ -472,6 +591,64 @@ mod tests {
     }
 
     #[test]
+    fn evidence_and_audits() {
+        let source = |name: &str| Source::named(OsStr::new(name));
+        let beside = Filing {
+            script: source("a"),
+            response: source("b.response"),
+            target: Target::Beside,
+            form: Form::Full,
+        };
+        let asked_for = |target, form| {
+            let beside = beside.clone();
+            Ok(Asked::Evidence(Filing {
+                target,
+                form,
+                ..beside
+            }))
+        };
+        let file = |name: &str| Target::File(OsString::from(name));
+        for (words, target, form) in [
+            ("evidence a b.response", Target::Beside, Form::Full),
+            ("evidence a b.response -o f", file("f"), Form::Full),
+            (
+                "evidence --output=f a b.response --json",
+                file("f"),
+                Form::Json,
+            ),
+            (
+                "evidence a b.response --quiet --output -",
+                Target::StandardOutput,
+                Form::Quiet,
+            ),
+        ] {
+            assert_eq!(asked(words), asked_for(target, form), "{words}");
+        }
+        for (words, file, text, form) in [
+            ("audit f", "f", None, Form::Full),
+            ("audit - --json", "-", None, Form::Json),
+            (
+                "audit f --text script",
+                "f",
+                Some(Which::Script),
+                Form::Full,
+            ),
+            (
+                "audit --text=response f",
+                "f",
+                Some(Which::Response),
+                Form::Full,
+            ),
+        ] {
+            let file = source(file);
+            let wanted = Auditing { file, text, form };
+            assert_eq!(asked(words), Ok(Asked::Audit(wanted)), "{words}");
+        }
+        assert_eq!(request("evidence b").script, source("evidence"));
+        assert_eq!(request("./audit b").script, source("./audit"));
+    }
+
+    #[test]
     fn json_is_asked_for_also_by_wrong_arguments() {
         for (words, asked) in [
             ("--json --fast", true),
@@ -534,6 +711,35 @@ mod tests {
                 "--arguments is given twice",
             ),
             ("steps a b c", "there is one argument too many: b"),
+            ("a b -o f", "--output is an option of evidence"),
+            (
+                "run a --text script",
+                "run has the options --sorts, --arguments and --json",
+            ),
+            ("steps a b --text script", "--text is an option of audit"),
+            ("evidence a b -o f --output g", "--output is given twice"),
+            ("evidence a b -o", "-o needs a value"),
+            (
+                "evidence a b --points p",
+                "evidence has the options --output, --json and --quiet",
+            ),
+            (
+                "evidence a b --json -o -",
+                "--json and the file cannot both go to standard output",
+            ),
+            ("evidence - - -o f", "standard input can be read only once"),
+            (
+                "audit f -o g",
+                "audit has the options --text, or --json or --quiet",
+            ),
+            (
+                "audit f --text script --json",
+                "audit has the options --text, or --json or --quiet",
+            ),
+            (
+                "audit f --text both",
+                "--text both is neither script nor response",
+            ),
             ("- b --points -", "standard input can be read only once"),
         ] {
             let failure = asked(words).expect_err(words);

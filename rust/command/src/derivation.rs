@@ -6,6 +6,7 @@ use simple::grammar::{Form, Grammar, Rule};
 use simple::replay::is_argument;
 use simple::script::Synthesized;
 use simple::tree::{joined, Tree};
+use std::collections::HashSet;
 
 /// One step: a rule replaces the leftmost non-terminal.
 #[derive(Clone, Debug, PartialEq, Eq)]
@@ -35,20 +36,47 @@ enum Part<'a> {
 struct Replay<'a> {
     function: &'a Synthesized,
     term: Vec<Part<'a>>,
+    /// The non-terminals that were used, each with the node of the body, which no other node is.
+    used: HashSet<(usize, *const Tree)>,
+}
+
+/// How far a list of rules can be followed: the steps, and why it cannot be from there on, where it does not derive the body.
+pub struct Followed {
+    pub steps: Vec<Step>,
+    pub stop: Option<String>,
 }
 
 /// The steps by which a function's grammar derives a body; an error says where the rule numbers do not lead to it.
 pub fn steps(function: &Synthesized, body: &Tree, shown: &[u16]) -> Result<Vec<Step>, String> {
+    let followed = follow(function, body, shown);
+    match followed.stop {
+        None => Ok(followed.steps),
+        Some(why) => Err(why),
+    }
+}
+
+/// Follows a list of rules from the start on, as far as it leads to the body and uses no non-terminal twice at one place.
+pub fn follow(function: &Synthesized, body: &Tree, list: &[u16]) -> Followed {
     let mut replay = Replay {
         function,
         term: vec![Part::Nonterminal(0, body)],
+        used: HashSet::new(),
     };
-    let steps = shown.iter().map(|&number| replay.step(number));
-    let steps = steps.collect::<Result<Vec<Step>, String>>()?;
-    match replay.leftmost() {
-        None => Ok(steps),
-        Some(_) => Err(format!("the rules of {} end early", function.name)),
+    let mut steps = Vec::new();
+    for &number in list {
+        match replay.step(number) {
+            Ok(step) => steps.push(step),
+            Err(why) => {
+                let stop = Some(why);
+                return Followed { steps, stop };
+            }
+        }
     }
+    let stop = replay.leftmost().map(|(_, index, node)| {
+        let name = &function.grammar.nonterminals[index].name;
+        format!("the list ends, and {name} is left, which is to derive {node}")
+    });
+    Followed { steps, stop }
 }
 
 impl<'a> Replay<'a> {
@@ -63,15 +91,23 @@ impl<'a> Replay<'a> {
 
     /// Replaces the leftmost non-terminal by a rule.
     fn step(&mut self, number: u16) -> Result<Step, String> {
-        let (place, index, node) = self.leftmost().ok_or("there is no non-terminal left")?;
+        let (place, index, node) = self.leftmost().ok_or("no non-terminal is left")?;
         let grammar = &self.function.grammar;
         let name = &grammar.nonterminals[index].name;
         let rule = grammar.rules.get(usize::from(number));
-        let rule = rule.filter(|rule| rule.nonterminal == index);
-        let rule = rule.ok_or(format!("{number} is no rule of {name}"))?;
-        let parts = self.parts(rule, node);
-        let parts = parts.ok_or(format!("rule {number} does not derive {node}"))?;
+        let rule = rule.ok_or(format!("the grammar has no rule {number}"))?;
+        if rule.nonterminal != index {
+            let other = &grammar.nonterminals[rule.nonterminal].name;
+            return Err(format!(
+                "rule {number} is one of {other}, and {name} is next"
+            ));
+        }
+        if !self.used.insert((index, node as *const Tree)) {
+            return Err(format!("{name} is used twice at one place, {node}"));
+        }
         let own = rule.form.to_string();
+        let parts = self.parts(rule, node);
+        let parts = parts.ok_or(format!("rule {number}, {own}, does not derive {node}"))?;
         let written = Some(self.text(&parts)).filter(|written| *written != own);
         let (given, written) = match rule.form {
             Form::Term(_) => (None, written),
@@ -236,6 +272,53 @@ mod tests {
         ] {
             assert!(steps(&function, &body, shown).is_err(), "{shown:?}");
         }
+    }
+
+    #[test]
+    fn where_a_list_cannot_be_followed() {
+        let script = "(set-logic BV)
+            (synth-fun f ((a (_ BitVec 8))) (_ BitVec 8) ((S (_ BitVec 8)) (T (_ BitVec 8)))
+            ((S (_ BitVec 8) (T (bvand S T))) (T (_ BitVec 8) (S a #x0f))))
+            (check-synth)";
+        let (function, body) = parts(script, "(bvand a #x0f)");
+        for (list, entry, why) in [
+            (&[1, 0, 3, 4][..], 4, None),
+            (&[1, 0, 3, 4, 4], 4, Some("no non-terminal is left")),
+            (
+                &[1, 0, 3],
+                3,
+                Some("the list ends, and T is left, which is to derive #x0f"),
+            ),
+            (
+                &[],
+                0,
+                Some("the list ends, and S is left, which is to derive (bvand a #x0f)"),
+            ),
+            (&[1, 7], 1, Some("the grammar has no rule 7")),
+            (&[1, 3], 1, Some("rule 3 is one of T, and S is next")),
+            (&[1, 0, 4], 2, Some("rule 4, #x0f, does not derive a")),
+            (
+                &[0, 2, 1, 0, 3, 4],
+                2,
+                Some("S is used twice at one place, (bvand a #x0f)"),
+            ),
+            (
+                &[1, 0, 2, 0, 3, 4],
+                3,
+                Some("S is used twice at one place, a"),
+            ),
+            (
+                &[1, 0, 3, 2, 0, 4],
+                5,
+                Some("T is used twice at one place, #x0f"),
+            ),
+        ] {
+            let followed = follow(&function, &body, list);
+            let found = (followed.steps.len(), followed.stop.as_deref());
+            assert_eq!(found, (entry, why), "{list:?}");
+        }
+        let (_, twice) = parts(script, "(bvand (bvand a a) a)");
+        assert!(steps(&function, &twice, &[1, 1, 0, 3, 3, 3]).is_ok());
     }
 
     #[test]

@@ -2,6 +2,7 @@
 
 use crate::derivation::{steps, Step};
 use crate::evaluation::{differing, is_signed};
+use crate::evidence::Evidence;
 use crate::failure::Failure;
 use crate::guards::Guard;
 use crate::listing::Listed;
@@ -97,6 +98,8 @@ pub struct Facts {
     pub claim: Option<Claim>,
     /// The steps that were asked for, after 0.
     pub listed: Option<Listed>,
+    /// The evidence file, of a call that writes or checks one.
+    pub evidence: Option<Evidence>,
     pub strict: bool,
 }
 
@@ -124,6 +127,7 @@ pub fn gather(
         guards: guards(library, &given, run.guards)?,
         claim: run.claim,
         listed: None,
+        evidence: None,
         strict,
         answer,
         given,

@@ -3,9 +3,11 @@
 use crate::answers::{meaning, sentence, status, text_name, verdict};
 use crate::derivation::Step;
 use crate::evaluation::whole;
+use crate::evidence::{Held, Which};
 use crate::facts::{Derived, Facts, Judged, Located, Note};
 use crate::failure::{Failure, FAILED};
 use crate::guards::Guard;
+use crate::layout::{Block, Lengths};
 use crate::listing::{words, Listed};
 use crate::ran;
 use crate::refute::Claim;
@@ -19,7 +21,7 @@ use sverdhyll::{Position, STEP};
 /// The name of the format, and its version: a later one keeps the keys of an earlier one.
 const FORMAT: [(&str, Json); 2] = [
     ("format", Json::Word("sverdhyll")),
-    ("version", Json::Number(7)),
+    ("version", Json::Number(8)),
 ];
 
 /// A JSON value.
@@ -72,10 +74,10 @@ pub fn object(facts: &Facts, library: &str) -> String {
         ("place", Number(answer.place)),
         ("second", Number(answer.second)),
         ("units", Number(answer.units)),
-        ("budget", Number(facts.given.budget)),
+        ("budget", Number(budget(facts))),
         ("library", Object(vec![("sha256", text(library))])),
-        ("script", file(&facts.given.script)),
-        ("response", file(&facts.given.response)),
+        ("script", text_of(facts, Which::Script)),
+        ("response", text_of(facts, Which::Response)),
         ("points", points(facts)),
         ("location", or_null(facts.located.as_ref(), location)),
         ("declared", or_null(facts.declared.as_ref(), location)),
@@ -90,6 +92,7 @@ pub fn object(facts: &Facts, library: &str) -> String {
         ),
         ("steps", or_null(facts.listed.as_ref(), steps)),
         ("value", Null),
+        ("evidence", evidence(facts)),
     ];
     Object(FORMAT.into_iter().chain(facts).collect()).to_string()
 }
@@ -124,8 +127,79 @@ pub fn run(outcome: &ran::Outcome, library: &str) -> String {
         empty("functions"),
         ("steps", given_steps(outcome)),
         ("value", or_null(outcome.value.as_ref(), |one| value(*one))),
+        none("evidence"),
     ];
     Object(FORMAT.into_iter().chain(facts).collect()).to_string()
+}
+
+/// The budget; 0 of a call that evaluates nothing.
+fn budget(facts: &Facts) -> u64 {
+    match facts.evidence {
+        Some(_) => 0,
+        None => facts.given.budget,
+    }
+}
+
+/// One of the two texts; null where the blocks of an evidence file are not right.
+fn text_of(facts: &Facts, which: Which) -> Json {
+    match which {
+        _ if facts.answer.number == 21 => Null,
+        Which::Script => file(&facts.given.script),
+        Which::Response => file(&facts.given.response),
+    }
+}
+
+/// The evidence file: what its blocks and its payload hold, and what is wrong with it.
+fn evidence(facts: &Facts) -> Json {
+    let evidence = facts.evidence.as_ref();
+    let Some((evidence, held)) = evidence.and_then(|one| Some((one, one.held()?))) else {
+        return Null;
+    };
+    let wrong = facts.answer.number == 21;
+    let fault = held.layout.fault.filter(|_| wrong);
+    let stopped = evidence.stopped().filter(|stopped| stopped.why.is_some());
+    let contents = held.layout.contents.as_ref().filter(|_| !wrong);
+    let lists = contents.into_iter().flat_map(|one| &one.lists);
+    let list = |list: &Vec<u16>| List(list.iter().map(|&rule| Number(rule.into())).collect());
+    Object(vec![
+        ("file", file(&held.file)),
+        ("blocks", blocks(held)),
+        ("lengths", or_null(held.layout.lengths.as_ref(), lengths)),
+        ("lists", List(lists.map(list).collect())),
+        (
+            "fault",
+            or_null(fault.as_ref(), |(_, fault)| text(fault.kind())),
+        ),
+        (
+            "entry",
+            or_null(stopped, |stopped| Number(stopped.steps.len() as u64)),
+        ),
+    ])
+}
+
+/// The blocks of an evidence file, each with its sums where it is whole.
+fn blocks(held: &Held) -> Json {
+    let block = |block: &Block| {
+        Object(vec![
+            ("bytes", Number(block.bytes as u64)),
+            (
+                "stored",
+                or_null(block.sums.as_ref(), |sums| Number(sums.stored)),
+            ),
+            ("sum", or_null(block.sums.as_ref(), |sums| Number(sums.sum))),
+        ])
+    };
+    List(held.layout.blocks.iter().map(block).collect())
+}
+
+/// The lengths that the payload of an evidence file begins with.
+fn lengths(lengths: &Lengths) -> Json {
+    let rules = lengths.rules.iter().map(|&rules| Number(rules));
+    Object(vec![
+        ("script", Number(lengths.script)),
+        ("response", Number(lengths.response)),
+        ("rules", List(rules.collect())),
+    ])
 }
 
 /// The steps of a function's body.
@@ -179,8 +253,11 @@ fn file(file: &Text) -> Json {
     ])
 }
 
-/// The points and the variables that they are for.
+/// The points and the variables that they are for; null where none are taken.
 fn points(facts: &Facts) -> Json {
+    if facts.evidence.is_some() {
+        return Null;
+    }
     let points = &facts.given.points;
     let variable = |one: &Sorted| {
         Object(vec![

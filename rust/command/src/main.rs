@@ -10,11 +10,14 @@ mod derivation;
 mod digits;
 mod edges;
 mod evaluation;
+mod evidence;
 mod explain;
 mod facts;
 mod failure;
 mod guards;
+mod holding;
 mod json;
+mod layout;
 mod listing;
 mod notes;
 mod pieces;
@@ -35,10 +38,11 @@ mod text;
 mod trials;
 
 use answers::{status, thorough, MOST_RESPONSE_BYTES, MOST_SCRIPT_BYTES};
-use arguments::{Asked, Form, Request, Stepwise, BUDGET};
+use arguments::{Asked, Auditing, Filing, Form, Request, Stepwise, BUDGET};
+use evidence::Evidence;
 use facts::Facts;
 use failure::{said, Failure, FAILED};
-use points::{Points, Wanted};
+use points::Wanted;
 use run::{Given, Run};
 use source::Source;
 use std::ffi::OsString;
@@ -93,6 +97,8 @@ fn run(asked: Asked) -> Result<u8, Failure> {
         Asked::Question { script, response } => question(&script, &response),
         Asked::Steps(stepwise) => steps(&stepwise),
         Asked::Run(wanted) => ran(&wanted),
+        Asked::Evidence(wanted) => write_evidence(&wanted),
+        Asked::Audit(wanted) => audit(&wanted),
         Asked::Example => check(
             &Request {
                 script: EXAMPLE_SCRIPT,
@@ -186,6 +192,46 @@ fn ran(wanted: &ran::Wanted) -> Result<u8, Failure> {
     })
 }
 
+/// Writes the evidence file of a response whose bodies are derived, and says so; else what is wrong, and nothing is written.
+fn write_evidence(wanted: &Filing) -> Result<u8, Failure> {
+    let given = read(&wanted.script, &wanted.response)?;
+    let path = wanted.target.path(&wanted.script, &wanted.response)?;
+    let mut library = open()?;
+    let name = evidence::name(path.as_deref());
+    let (facts, bytes) = evidence::write_evidence(&mut library, given, &name)?;
+    let status = status(&facts);
+    match (&path, facts.answer.number) {
+        (Some(path), 0) => evidence::store(path, &bytes)?,
+        (None, _) => {
+            text::write_line(&facts, &mut io::stderr())?;
+            return print(status, |to| to.write_all(&bytes));
+        }
+        _ => {}
+    }
+    print(status, |to| {
+        write(&facts, library.digest(), wanted.form, to)
+    })
+}
+
+/// Checks an evidence file and says what it holds, or writes one of the texts that it holds.
+fn audit(wanted: &Auditing) -> Result<u8, Failure> {
+    let mut library = open()?;
+    let facts = evidence::check_evidence(&mut library, &wanted.file)?;
+    let status = status(&facts);
+    let Some(which) = wanted.text else {
+        return print(status, |to| {
+            write(&facts, library.digest(), wanted.form, to)
+        });
+    };
+    if status != 0 {
+        text::write_line(&facts, &mut io::stderr())?;
+    }
+    let held = facts.evidence.as_ref().and_then(Evidence::held);
+    let text = held.and_then(|held| held.text(which));
+    let text = text.filter(|_| facts.answer.number != 21);
+    print(status, |to| to.write_all(&text.unwrap_or_default().bytes))
+}
+
 /// Writes the question for an SMT solver; where the checker refuses the texts, that is said on standard error in its place.
 fn question(script: &Source, response: &Source) -> Result<u8, Failure> {
     let given = read(script, response)?;
@@ -203,16 +249,7 @@ fn question(script: &Source, response: &Source) -> Result<u8, Failure> {
 /// The two texts and what they say, without points.
 fn read(script: &Source, response: &Source) -> Result<Given, Failure> {
     let script = script.read(MOST_SCRIPT_BYTES)?;
-    let response = response.read(MOST_RESPONSE_BYTES)?;
-    let read = simple::script::read(&script.bytes).unwrap_or_default();
-    Ok(Given {
-        bodies: simple::response::read(&response.bytes, &read).unwrap_or_default(),
-        points: Points::none(),
-        budget: BUDGET,
-        script,
-        response,
-        read,
-    })
+    Ok(Given::texts(script, response.read(MOST_RESPONSE_BYTES)?))
 }
 
 /// The checker, ready for calls.

@@ -1,7 +1,7 @@
 //! The calls of the checker: one for the texts alone, then one for each part of the point list. Every answer is the checker's own; only the index of a point is
 //! put to that of the whole list, and units and the points whose assumptions hold are summed.
 
-use crate::arguments::Solver;
+use crate::arguments::{Solver, BUDGET};
 use crate::failure::Failure;
 use crate::guards::{Count, Guard};
 use crate::listing::{self, Listed};
@@ -28,6 +28,21 @@ pub struct Given {
     pub bodies: Vec<Tree>,
 }
 
+impl Given {
+    /// Two texts and what they say, without points.
+    pub fn texts(script: Text, response: Text) -> Given {
+        let read = simple::script::read(&script.bytes).unwrap_or_default();
+        Given {
+            bodies: simple::response::read(&response.bytes, &read).unwrap_or_default(),
+            points: Points::none(),
+            budget: BUDGET,
+            script,
+            response,
+            read,
+        }
+    }
+}
+
 /// What the calls came to.
 pub struct Run {
     pub answer: Answer,
@@ -48,13 +63,9 @@ pub struct Run {
 /// Asks the checker about the texts alone: nothing is evaluated, unless there are no variables.
 pub fn texts(library: &mut Library, given: &Given) -> Result<Run, Failure> {
     let mut run = Run {
-        answer: Answer::default(),
         done: u64::from(given.read.variables.is_empty()),
         area: vec![0; AREA_LENGTH],
-        first: Vec::new(),
-        point: Vec::new(),
-        guards: Vec::new(),
-        claim: None,
+        ..Run::answered(Answer::default())
     };
     run.call(library, given, &[], given.budget)?;
     Ok(run)
@@ -83,6 +94,19 @@ pub fn run(library: &mut Library, given: &mut Given, wanted: &Wanted) -> Result<
 }
 
 impl Run {
+    /// An answer to a call without points, which shows no derivation.
+    pub fn answered(answer: Answer) -> Run {
+        Run {
+            answer,
+            done: 0,
+            area: Vec::new(),
+            first: Vec::new(),
+            point: Vec::new(),
+            guards: Vec::new(),
+            claim: None,
+        }
+    }
+
     /// Asks for the steps of a function's body once the response is accepted, at the points of the first call; where the body has none, that is the answer.
     pub fn steps(
         &mut self,

@@ -18,7 +18,7 @@ pub enum Source {
 }
 
 /// The first bytes of a text, and how many it has in all.
-#[derive(Clone, Debug, PartialEq, Eq)]
+#[derive(Clone, Debug, Default, PartialEq, Eq)]
 pub struct Text {
     pub name: String,
     pub bytes: Vec<u8>,

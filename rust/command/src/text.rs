@@ -3,7 +3,9 @@
 use crate::answers::{counted, file, grouped, sentence, verdict};
 use crate::derivation::Step;
 use crate::evaluation::shown;
+use crate::evidence::{Evidence, Stopped};
 use crate::facts::{Derived, Facts, Judged, Located, Note};
+use crate::holding;
 use crate::listing::Listed;
 use crate::refute::Claim;
 use std::env;
@@ -33,7 +35,7 @@ pub fn write_line(facts: &Facts, to: &mut impl Write) -> io::Result<()> {
         answer.number,
         sentence(facts)
     )?;
-    if matches!(answer.number, 0 | 14 | 15) {
+    if is_judged(facts) {
         write!(to, " ({} spent)", counted(answer.units, "unit"))?;
     }
     writeln!(to)
@@ -51,7 +53,7 @@ pub fn write(facts: &Facts, columns: usize, to: &mut impl Write) -> io::Result<(
     for note in &facts.notes {
         write_note(note, columns, to)?;
     }
-    if matches!(facts.answer.number, 0 | 14 | 15) {
+    if is_judged(facts) {
         writeln!(to, "points: {}", facts.given.points.origin)?;
         write_guards(facts, to)?;
         write_claim(facts, to)?;
@@ -59,13 +61,32 @@ pub fn write(facts: &Facts, columns: usize, to: &mut impl Write) -> io::Result<(
     if let Some(listed) = &facts.listed {
         return write_list(listed, to);
     }
+    let evidence = facts.evidence.as_ref();
+    if let Some(Evidence::Checked(held, _)) = evidence {
+        holding::write(facts, held, to)?;
+    }
+    let whole = match evidence {
+        Some(evidence) => matches!(evidence, Evidence::Checked(..)),
+        None => facts.answer.number == 0,
+    };
     for derived in &facts.derived {
-        match facts.answer.number {
-            0 => write_derivation(derived, facts.given.read.weights, to)?,
-            _ => write_rules(derived, facts.given.read.weights, to)?,
+        match whole {
+            true => write_derivation(derived, facts.given.read.weights, to)?,
+            false => write_rules(derived, facts.given.read.weights, to)?,
         }
     }
-    Ok(())
+    match evidence {
+        Some(Evidence::Written(None)) => writeln!(to, "no file is written"),
+        Some(Evidence::Checked(_, Some(stopped))) => {
+            write_stopped(stopped, facts.given.read.weights, to)
+        }
+        _ => Ok(()),
+    }
+}
+
+/// Whether constraints were evaluated, or would have been at more points.
+fn is_judged(facts: &Facts) -> bool {
+    facts.evidence.is_none() && matches!(facts.answer.number, 0 | 14 | 15)
 }
 
 /// Writes how often the left side of each `=>` held, with a warning where it never did.
@@ -184,6 +205,23 @@ fn write_derivation(derived: &Derived, weights: bool, to: &mut impl Write) -> io
     Ok(())
 }
 
+/// Writes how far a list can be followed, and why not further.
+fn write_stopped(stopped: &Stopped, weights: bool, to: &mut impl Write) -> io::Result<()> {
+    let (Some((name, start)), Some(why)) = (&stopped.name, &stopped.why) else {
+        return Ok(());
+    };
+    let count = stopped.steps.len();
+    writeln!(
+        to,
+        "\n{name}: from {start}, the list can be followed for {}",
+        counted(count as u64, "step")
+    )?;
+    for (index, step) in stopped.steps.iter().enumerate() {
+        write_step(index + 1, step, weights, to)?;
+    }
+    writeln!(to, "{:>4}. {why}", count + 1)
+}
+
 /// Writes one step: rule, non-terminal, the rule's text and how the body has it, its weight, and below it the term so far.
 fn write_step(count: usize, step: &Step, weights: bool, to: &mut impl Write) -> io::Result<()> {
     let Step {
@@ -235,8 +273,8 @@ pub fn write_numbers(listed: &Listed, to: &mut impl Write) -> io::Result<()> {
 }
 
 /// Numbers with single spaces.
-fn spaced(numbers: &[u64]) -> String {
-    let numbers: Vec<String> = numbers.iter().map(u64::to_string).collect();
+pub fn spaced(numbers: &[impl ToString]) -> String {
+    let numbers: Vec<String> = numbers.iter().map(ToString::to_string).collect();
     numbers.join(" ")
 }
 

@@ -2,7 +2,7 @@
 
 use crate::kinds::{kinds, KINDS};
 use crate::trial::Trial;
-use crate::{controller, enquiries, texts};
+use crate::{auditor, controller, enquiries, texts};
 use std::{fmt, io};
 use sverdhyll::{Answer, Library};
 
@@ -11,15 +11,18 @@ pub struct Agreed {
     pub answer: Answer,
     /// Of which kinds it is that must come out.
     pub kinds: [bool; KINDS],
-    /// What came out of the calls for steps and their runs.
-    pub controlled: [u64; controller::KINDS],
+    /// What came out of the calls for steps and their runs, and of those for evidence.
+    pub called: Called,
 }
+
+/// What came out of the calls for steps and their runs, and of those for evidence.
+pub type Called = ([u64; controller::KINDS], [u64; auditor::KINDS]);
 
 /// Where the proved checker and the simple one part.
 pub struct Disagreement {
     pub proved: Answer,
     pub simple: Answer,
-    /// What is wrong: with the area, an enquiry, the texts' own answer, steps or their run where the answers are the same.
+    /// What is wrong: with the area, an enquiry, the texts' own answer, steps, their run or evidence where the answers are the same.
     pub fault: String,
 }
 
@@ -90,15 +93,15 @@ pub fn judged(library: &mut Library, trial: &Trial) -> io::Result<Result<Agreed,
         false => Some("the answers differ".to_string()),
         true => area_fault(&area, &simple_area),
     };
-    let controlled = match fault {
+    let called = match fault {
         Some(fault) => Err(fault),
         None => other_calls(library, trial, &proved)?,
     };
-    Ok(match controlled {
-        Ok(controlled) => Ok(Agreed {
+    Ok(match called {
+        Ok(called) => Ok(Agreed {
             kinds: kinds(case, &proved),
             answer: proved,
-            controlled,
+            called,
         }),
         Err(fault) => Err(Disagreement {
             proved,
@@ -108,20 +111,22 @@ pub fn judged(library: &mut Library, trial: &Trial) -> io::Result<Result<Agreed,
     })
 }
 
-/// What comes out of the calls for steps and their runs, or what is wrong with these or another call of the proved checker.
+/// What comes out of the calls for steps, their runs and evidence, or what is wrong with these or another call of the proved checker.
 fn other_calls(
     library: &mut Library,
     trial: &Trial,
     answer: &Answer,
-) -> io::Result<controller::Counted> {
+) -> io::Result<Result<Called, String>> {
     let fault = match texts::fault(library, trial, answer)? {
         Some(fault) => Some(fault),
         None => enquiries::fault(library, trial, answer)?,
     };
-    match fault {
-        Some(fault) => Ok(Err(fault)),
-        None => controller::counted(library, trial),
+    if let Some(fault) = fault {
+        return Ok(Err(fault));
     }
+    let controlled = controller::counted(library, trial)?;
+    let audited = auditor::counted(library, trial)?;
+    Ok(controlled.and_then(|controlled| Ok((controlled, audited?))))
 }
 
 /// What is wrong with the proved checker's area, if anything: "the shown list is unique", and so is every entry.

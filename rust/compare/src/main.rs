@@ -2,6 +2,7 @@
 //!
 //! A case is made from the seed and its number alone; numbers go from FIRST on. Where FIRST is not given they go from 0 on, and every answer must come out.
 
+mod auditor;
 mod controller;
 mod enquiries;
 mod judge;

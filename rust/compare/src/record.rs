@@ -1,5 +1,6 @@
 //! Cases written to files.
 
+use crate::auditor::damaged_file;
 use crate::trial::Trial;
 use std::path::{Path, PathBuf};
 use std::{fs, io};
@@ -15,11 +16,12 @@ pub fn write(seed: u64, number: u64, trial: &Trial, small: &Trial) -> io::Result
     folder.canonicalize()
 }
 
-/// Writes script, response, points and budget of a case to files of a folder.
+/// Writes script, response, points, budget and evidence of a case to files of a folder.
 fn write_one(folder: &Path, trial: &Trial) -> io::Result<()> {
     fs::create_dir_all(folder)?;
     fs::write(folder.join("script.sy"), &trial.case.script)?;
     fs::write(folder.join("response"), &trial.case.response)?;
+    fs::write(folder.join("evidence"), damaged_file(trial))?;
     fs::write(folder.join("numbers"), numbers(trial))
 }
 
@@ -28,13 +30,14 @@ fn numbers(trial: &Trial) -> String {
     let (case, area) = (&trial.case, &trial.area);
     let lent = area.first().map_or(0, |&entry| entry);
     format!(
-        "points {:?}\nbudget {}\narea of {} entries, each {lent}\nenquiries at {:?}\nsteps of function {} to an area of {} numbers\n",
+        "points {:?}\nbudget {}\narea of {} entries, each {lent}\nenquiries at {:?}\nsteps of function {} to an area of {} numbers\nevidence to an area of {:?}\n",
         case.points,
         case.budget,
         area.len(),
         trial.enquiries,
         trial.asked.function,
-        trial.asked.area.len()
+        trial.asked.area.len(),
+        trial.evidence.room
     )
 }
 

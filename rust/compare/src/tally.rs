@@ -1,8 +1,8 @@
 //! How often each answer came out.
 
-use crate::controller;
 use crate::judge::Agreed;
 use crate::kinds::{KINDS, NAMES};
+use crate::{auditor, controller};
 use std::fmt;
 
 /// The texts that an answer may speak of.
@@ -28,12 +28,13 @@ const SPOKEN_OF: [&[u8]; 17] = [
     &[2],
 ];
 
-/// How often each answer came out of each text, how often each kind did, and what came out of the calls for steps and their runs.
+/// How often each answer came out of each text, how often each kind did, and what came out of the calls for steps, their runs and evidence.
 #[derive(Default)]
 pub struct Tally {
     answers: [[u64; 4]; 17],
     kinds: [u64; KINDS],
     controlled: [u64; controller::KINDS],
+    audited: [u64; auditor::KINDS],
 }
 
 impl Tally {
@@ -44,7 +45,9 @@ impl Tally {
         for (count, &is_one) in self.kinds.iter_mut().zip(&agreed.kinds) {
             *count += u64::from(is_one);
         }
-        for (count, more) in self.controlled.iter_mut().zip(agreed.controlled) {
+        let (controlled, audited) = &agreed.called;
+        let counts = self.controlled.iter_mut().chain(&mut self.audited);
+        for (count, more) in counts.zip(controlled.iter().chain(audited)) {
             *count += more;
         }
     }
@@ -52,9 +55,9 @@ impl Tally {
     /// Adds another tally.
     pub fn add(&mut self, other: &Tally) {
         let counts = self.answers.iter_mut().flatten().chain(&mut self.kinds);
-        let counts = counts.chain(&mut self.controlled);
+        let counts = counts.chain(&mut self.controlled).chain(&mut self.audited);
         let others = other.answers.iter().flatten().chain(&other.kinds);
-        let others = others.chain(&other.controlled);
+        let others = others.chain(&other.controlled).chain(&other.audited);
         for (count, others) in counts.zip(others) {
             *count += others;
         }
@@ -68,6 +71,7 @@ impl Tally {
         let name = |(number, text)| format!("answer {number} about {}", TEXTS[usize::from(text)]);
         let kinds = NAMES.iter().zip(self.kinds);
         let kinds = kinds.chain(controller::NAMES.iter().zip(self.controlled));
+        let kinds = kinds.chain(auditor::NAMES.iter().zip(self.audited));
         let kinds = kinds.filter(|&(_, count)| count == 0);
         let kinds = kinds.map(|(name, _)| name.to_string());
         none.map(name).chain(kinds).collect()
@@ -84,7 +88,8 @@ impl fmt::Display for Tally {
         for (name, count) in NAMES.iter().zip(self.kinds) {
             writeln!(to, "{name}: {count} cases")?;
         }
-        for (name, count) in controller::NAMES.iter().zip(self.controlled) {
+        let called = controller::NAMES.iter().zip(self.controlled);
+        for (name, count) in called.chain(auditor::NAMES.iter().zip(self.audited)) {
             writeln!(to, "{name}: {count}")?;
         }
         Ok(())

@@ -1,6 +1,6 @@
 //! A case with its lent area, from a seed and a number.
 
-use crate::controller::Asked;
+use crate::{auditor, controller};
 use simple::generate::random::Random;
 use simple::generate::{crowded, mutated, noise, sized, tangled, valid, Case};
 use simple::AREA_LENGTH;
@@ -13,7 +13,9 @@ pub struct Trial {
     /// A place of the script and one of the response where enquiries are made.
     pub enquiries: [usize; 2],
     /// What is asked about steps.
-    pub asked: Asked,
+    pub asked: controller::Asked,
+    /// What is asked about evidence.
+    pub evidence: auditor::Asked,
 }
 
 /// Makes a case from a seed.
@@ -57,7 +59,8 @@ pub fn trial(seed: u64, number: u64) -> Trial {
         case,
         area: vec![lent; length],
         enquiries,
-        asked: Asked::new(&mut random),
+        asked: controller::Asked::new(&mut random),
+        evidence: auditor::Asked::new(&mut random),
     }
 }
 

@@ -4,6 +4,7 @@
 //! means as an enum, whose documentation is the table of answers. [`Library::read`] gives the answer of the two texts alone, where there are no points yet.
 //! [`Library::word`] and [`Library::position`] say of any place of a text which word starts there, and in which line and column it stands.
 //! [`Library::steps`] turns the body of an accepted response into steps for a small stack controller, and [`Library::run`] runs any list of such steps.
+//! [`Library::write_evidence`] writes a file that holds two texts and a derivation of each body, and [`Library::check_evidence`] checks any file, without a search.
 //!
 //! ```no_run
 //! use sverdhyll::{Library, Outcome, AREA_LENGTH};
@@ -62,6 +63,8 @@ pub const FUNCTIONS: usize = 8;
 pub const STEPS_LENGTH: usize = 1_024;
 /// A step has so many numbers.
 pub const STEP: usize = 4;
+/// No evidence file has more bytes: 274 blocks of 512.
+pub const EVIDENCE_LENGTH: usize = 140_288;
 /// So many numbers make an answer.
 const NUMBERS: usize = 16;
 
@@ -84,7 +87,7 @@ pub struct Answer {
     pub line: u64,
     /// The column of its place.
     pub column: u64,
-    /// The total weight of the derivation shown for each function; 0 for one that has none, and after all answers but 0, 14 and 15.
+    /// The total weight of the derivation shown for each function, or written as evidence; 0 for one that has none, and after all answers but 0, 14 and 15.
     pub weights: [u64; FUNCTIONS],
 }
 
@@ -116,6 +119,14 @@ pub struct Ran {
     pub value: u64,
     /// Its sort: 0 for Bool, else the width; 0 where the answer is not 0.
     pub sort: u64,
+}
+
+/// What the writing of an evidence file comes to.
+#[derive(Clone, Copy, Debug, PartialEq, Eq, Hash)]
+pub struct Written {
+    pub answer: Answer,
+    /// How many bytes the file has; 0 after any answer but 0.
+    pub length: usize,
 }
 
 impl Ran {
@@ -242,6 +253,29 @@ impl Library {
     /// The answer is 0 with the value that the list ends with, 20 at the argument or its sort that is at fault, or 19 at the step that is refused.
     pub fn run(&mut self, sorts: &[u64], arguments: &[u64], steps: &[u64]) -> io::Result<Ran> {
         self.held.run(sorts, arguments, steps)
+    }
+
+    /// Writes an evidence file for a script and a response: both texts, and the least derivation of each body. Fails only where the worker has gone.
+    ///
+    /// Where a text is refused, or a body has no derivation, the answer is 1 to 13, as [`Library::check`] has it; where the file is longer than the lent area it
+    /// is 17. Else it is 0, about no text, with the weights of the lists, which says no more than that: nothing is evaluated, so that [`Answer::outcome`], which
+    /// speaks of checks, would say too much. The file stands in the first `length` bytes of the area; what it does not take stays as it was lent. An area of
+    /// [`EVIDENCE_LENGTH`] bytes suffices for every file.
+    pub fn write_evidence(
+        &mut self,
+        script: &[u8],
+        response: &[u8],
+        area: &mut [u8],
+    ) -> io::Result<Written> {
+        self.held.write_evidence(script, response, area)
+    }
+
+    /// Checks an evidence file, whoever wrote it, without a search. Fails only where the worker has gone.
+    ///
+    /// The answer is 21 at a block that is not as it should be, the own answer of the texts that the file holds, with lines and columns in that text, 22 at a
+    /// function whose list does not derive its body, or 0, which says that each list derives its body and no more.
+    pub fn check_evidence(&mut self, file: &[u8]) -> io::Result<Answer> {
+        self.held.check_evidence(file)
     }
 
     /// The SHA-256 of the static library that answers, in hexadecimal.

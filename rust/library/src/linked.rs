@@ -2,7 +2,7 @@
 
 #![allow(unsafe_code)]
 
-use crate::{Answer, Position, Ran, Stepped, NUMBERS};
+use crate::{Answer, Position, Ran, Stepped, Written, NUMBERS};
 use std::io;
 
 // As include/sverdhyll.h declares them.
@@ -66,6 +66,20 @@ extern "C" {
         value: *mut u64,
         sort: *mut u64,
     ) -> u8;
+    /// The writer of evidence: returns the answer's number, writes the file to the area, and puts its length and the numbers of the answer where the last two
+    /// pointers lead.
+    fn sverdhyll_write_evidence(
+        script: *const u8,
+        script_len: usize,
+        response: *const u8,
+        response_len: usize,
+        area: *mut u8,
+        area_len: usize,
+        length: *mut usize,
+        answer: *mut u64,
+    ) -> u8;
+    /// The check of evidence: returns the answer's number, and puts the numbers of the answer where the last pointer leads.
+    fn sverdhyll_check_evidence(file: *const u8, file_len: usize, answer: *mut u64) -> u8;
 }
 
 /// The linked library, which keeps nothing between calls.
@@ -186,6 +200,39 @@ impl Held {
             )
         };
         Ok(Ran::of([number.into(), place, value, sort]))
+    }
+
+    /// Calls `sverdhyll_write_evidence`.
+    pub fn write_evidence(
+        &mut self,
+        script: &[u8],
+        response: &[u8],
+        area: &mut [u8],
+    ) -> io::Result<Written> {
+        let (mut length, mut numbers) = (0, [0; NUMBERS]);
+        // SAFETY: each pointer is that of a slice with its length, of the file's length or of the sixteen numbers, and the library keeps none of them.
+        unsafe {
+            sverdhyll_write_evidence(
+                script.as_ptr(),
+                script.len(),
+                response.as_ptr(),
+                response.len(),
+                area.as_mut_ptr(),
+                area.len(),
+                &mut length,
+                numbers.as_mut_ptr(),
+            )
+        };
+        let answer = Answer::of(numbers);
+        Ok(Written { answer, length })
+    }
+
+    /// Calls `sverdhyll_check_evidence`.
+    pub fn check_evidence(&mut self, file: &[u8]) -> io::Result<Answer> {
+        let mut numbers = [0; NUMBERS];
+        // SAFETY: the first pointer is that of a slice with its length, which is only read, the other that of the sixteen numbers, and the library keeps neither.
+        unsafe { sverdhyll_check_evidence(file.as_ptr(), file.len(), numbers.as_mut_ptr()) };
+        Ok(Answer::of(numbers))
     }
 
     /// The digest of the library that was linked, by build.rs.

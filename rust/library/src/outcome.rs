@@ -54,10 +54,12 @@ impl fmt::Display for Position {
 /// | 14 | `ConstraintFalse` | a constraint is false at a point | point, constraint, units |
 /// | 15 | `BudgetEnded` | the budget does not suffice for a constraint or an assumption at a point | point, constraint, or [`FIRST_ASSUMPTION`] and the assumption, units |
 /// | 16 | `BadPoints` | the points are not whole, or a number is outside its sort | the list's length, or the number's index |
-/// | 17 | `AreaMissized` | an area for steps that is not of its size | its length |
+/// | 17 | `AreaMissized` | an area for steps that is not of its size, or one for an evidence file that is too short | its length |
 /// | 18 | `NoSteps` | the script has no function of this number, or its body uses a `define-fun` | the function |
 /// | 19 | `BadStep` | a step that is malformed or cut short, or cannot be run; a list that does not end with one value | the step, or the number of steps |
 /// | 20 | `BadArgument` | arguments that are not as many as sorts, a number that is no sort, or an argument outside its sort | the number of arguments, or the index |
+/// | 21 | `WrongBlock` | an evidence file that is empty, has a block cut short, with a wrong sum, spare or wrongly filled, or lengths past its end | the block, 0 for an empty file and for lengths |
+/// | 22 | `NotFollowed` | a list of an evidence file does not derive its body, or the script has no function for it | the function |
 #[derive(Clone, Copy, Debug, PartialEq, Eq, Hash)]
 #[non_exhaustive]
 pub enum Outcome {
@@ -136,7 +138,7 @@ pub enum Outcome {
     },
     /// 16: points that are not whole, or a number outside its sort.
     BadPoints { at: u64 },
-    /// 17: an area for steps that is not of its size.
+    /// 17: an area for steps that is not of its size, or one for an evidence file that is too short.
     AreaMissized { length: u64 },
     /// 18: a function that the script lacks, or whose body uses a `define-fun`.
     NoSteps { function: u64 },
@@ -144,6 +146,10 @@ pub enum Outcome {
     BadStep { step: u64 },
     /// 20: arguments of wrong count or range.
     BadArgument { at: u64 },
+    /// 21: a block of an evidence file that is not as it should be; 0 also where the file is empty, or its lengths lead past its end.
+    WrongBlock { block: u64 },
+    /// 22: a function whose list in an evidence file does not derive its body, or that the script lacks.
+    NotFollowed { function: u64 },
     /// A number that this version of the crate does not know.
     Other(Answer),
 }
@@ -210,6 +216,8 @@ impl From<Answer> for Outcome {
             18 => Outcome::NoSteps { function: place },
             19 => Outcome::BadStep { step: place },
             20 => Outcome::BadArgument { at },
+            21 => Outcome::WrongBlock { block: place },
+            22 => Outcome::NotFollowed { function: place },
             _ => Outcome::Other(answer),
         }
     }
@@ -246,10 +254,14 @@ impl fmt::Display for Outcome {
                 write!(to, "the budget ends before {kind} {number} at point {point}; units spent: {units}")
             }
             Outcome::BadPoints { at } => write!(to, "the points are not whole, or number {at} is outside its sort"),
-            Outcome::AreaMissized { length } => write!(to, "the area for steps has {length} numbers, not {}", crate::STEPS_LENGTH),
+            Outcome::AreaMissized { length } => {
+                write!(to, "the area for steps is not of {} numbers, or that for evidence is too short: {length}", crate::STEPS_LENGTH)
+            }
             Outcome::NoSteps { function } => write!(to, "function {function} has no steps: the script lacks it, or its body uses a define-fun"),
             Outcome::BadStep { step } => write!(to, "step {step} cannot be run, or the list does not end there with one value"),
             Outcome::BadArgument { at } => write!(to, "there are not as many arguments as sorts, or number {at} is no sort or outside its sort"),
+            Outcome::WrongBlock { block } => write!(to, "block {block} of the evidence file is cut short, spare, wrongly filled or with a wrong sum, or the lengths lead past the file"),
+            Outcome::NotFollowed { function } => write!(to, "the list of function {function} does not derive its body, or the script lacks it"),
             Outcome::Other(Answer { number, .. }) => write!(to, "answer {number}, which this version does not know"),
         }
     }
@@ -277,7 +289,7 @@ mod tests {
 
     #[test]
     fn every_number_has_its_own_outcome() {
-        let outcomes: Vec<Outcome> = (0..=20).map(|number| answer(number, 0).into()).collect();
+        let outcomes: Vec<Outcome> = (0..=22).map(|number| answer(number, 0).into()).collect();
         for (number, outcome) in outcomes.iter().enumerate() {
             assert!(!matches!(outcome, Outcome::Other(_)), "{number}");
             assert_eq!(
@@ -288,7 +300,7 @@ mod tests {
                 1
             );
         }
-        assert_eq!(Outcome::from(answer(21, 3)), Outcome::Other(answer(21, 3)));
+        assert_eq!(Outcome::from(answer(23, 3)), Outcome::Other(answer(23, 3)));
     }
 
     #[test]
@@ -324,5 +336,9 @@ mod tests {
         }
         assert_eq!(said(1, 3), "the area has 4 entries, not 32768");
         assert_eq!(said(1, 2), "the point list is too long: 4");
+        assert_eq!(
+            said(22, 3),
+            "the list of function 4 does not derive its body, or the script lacks it"
+        );
     }
 }

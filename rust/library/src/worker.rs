@@ -1,7 +1,7 @@
 //! The static library in a worker process. Both sides send frames: eight bytes with a length, low byte first, then so many bytes. All numbers have their
 //! low byte first.
 
-use crate::{Answer, Position, Ran, Stepped};
+use crate::{Answer, Position, Ran, Stepped, Written};
 use std::env;
 use std::io::{self, Read, Write};
 use std::path::PathBuf;
@@ -29,6 +29,10 @@ const POSITION: &[u8] = b"position";
 const STEPS: &[u8] = b"steps";
 /// The frame that asks for a run of steps.
 const RUN: &[u8] = b"run";
+/// The frame that asks for an evidence file.
+const WRITE: &[u8] = b"write evidence";
+/// The frame that asks for the check of an evidence file.
+const EVIDENCE: &[u8] = b"check evidence";
 /// How many bytes a number has.
 const BYTES: usize = 8;
 
@@ -160,6 +164,27 @@ impl Held {
     pub fn run(&mut self, sorts: &[u64], arguments: &[u64], steps: &[u64]) -> io::Result<Ran> {
         self.send(&[RUN, &bytes(sorts), &bytes(arguments), &bytes(steps)])?;
         Ok(Ran::of(self.receive_numbers()?))
+    }
+
+    /// Asks the worker for `sverdhyll_write_evidence`.
+    pub fn write_evidence(
+        &mut self,
+        script: &[u8],
+        response: &[u8],
+        area: &mut [u8],
+    ) -> io::Result<Written> {
+        self.send(&[WRITE, script, response, &*area])?;
+        let answer = Answer::of(self.receive_numbers()?);
+        let [length] = self.receive_numbers()?;
+        self.receive(area)?;
+        let length = length as usize;
+        Ok(Written { answer, length })
+    }
+
+    /// Asks the worker for `sverdhyll_check_evidence`.
+    pub fn check_evidence(&mut self, file: &[u8]) -> io::Result<Answer> {
+        self.send(&[EVIDENCE, file])?;
+        Ok(Answer::of(self.receive_numbers()?))
     }
 
     /// Sends frames.

@@ -1,8 +1,9 @@
 //! The library through its Rust interface: the swap case, refusals, the texts' own answers, names that are taken, places, the enquiries, steps and
-//! their runs, its digest, and many checks by one process.
+//! their runs, evidence files, its digest, and many checks by one process.
 
 use sverdhyll::{
-    Answer, Library, Outcome, Position, Stepped, Text, AREA_LENGTH, STEP, STEPS_LENGTH, UNUSED,
+    Answer, Library, Outcome, Position, Stepped, Text, Written, AREA_LENGTH, EVIDENCE_LENGTH, STEP,
+    STEPS_LENGTH, UNUSED,
 };
 
 /// The script of the shipped example.
@@ -313,4 +314,109 @@ fn runs_that_are_refused() {
         .answer
         .outcome();
     assert_eq!(outcome, Outcome::BadArgument { at: 0 });
+}
+
+/// The evidence file of a response to the shipped example, written to an area of so many bytes, with the area.
+fn evidence(library: &mut Library, response: &[u8], length: usize) -> (Written, Vec<u8>) {
+    let mut area = vec![7; length];
+    let written = library.write_evidence(SCRIPT, response, &mut area);
+    (written.expect("an answer"), area)
+}
+
+/// What is answered to an evidence file.
+fn audited(library: &mut Library, file: &[u8]) -> Answer {
+    library.check_evidence(file).expect("an answer")
+}
+
+/// A file with the sums of its blocks put right.
+fn with_sums(mut file: Vec<u8>) -> Vec<u8> {
+    for block in file.chunks_mut(512) {
+        let products = (1..=510)
+            .zip(&*block)
+            .map(|(at, &byte)| at * u32::from(byte));
+        let sum = products.sum::<u32>() % 65_521;
+        block[510..].copy_from_slice(&(sum as u16).to_le_bytes());
+    }
+    file
+}
+
+#[test]
+fn an_evidence_file() {
+    let mut library = Library::open().expect("a library");
+    let (written, area) = evidence(&mut library, RESPONSE, EVIDENCE_LENGTH);
+    let rules_at = 24 + SCRIPT.len() + RESPONSE.len();
+    let length = (rules_at + 8).div_ceil(510) * 512;
+    let accepted = answer(0, 3, 0, 0);
+    assert_eq!((written.answer, written.length), (accepted, length));
+    let (file, rest) = area.split_at(length);
+    assert!(rest.iter().all(|&byte| byte == 7));
+    let payload: Vec<u8> = file
+        .chunks(512)
+        .flat_map(|block| &block[..510])
+        .copied()
+        .collect();
+    assert_eq!(payload[..4], (SCRIPT.len() as u32).to_le_bytes());
+    assert_eq!(payload[4..8], (RESPONSE.len() as u32).to_le_bytes());
+    assert_eq!(
+        payload[8..24],
+        [4, 0, 0, 0, 0, 0, 0, 0, 0, 0, 0, 0, 0, 0, 0, 0]
+    );
+    assert_eq!(payload[24..rules_at], [SCRIPT, RESPONSE].concat());
+    assert_eq!(payload[rules_at..rules_at + 8], [7, 0, 15, 0, 3, 0, 8, 0]);
+    assert!(payload[rules_at + 8..].iter().all(|&byte| byte == 0));
+    assert_eq!(with_sums(file.to_vec()), file);
+    assert_eq!(audited(&mut library, file), accepted);
+}
+
+#[test]
+fn evidence_that_is_refused() {
+    let mut library = Library::open().expect("a library");
+    let (written, area) = evidence(&mut library, RESPONSE, EVIDENCE_LENGTH);
+    let file = &area[..written.length];
+    for at in [0, 511, 512, file.len() - 1] {
+        let mut changed = file.to_vec();
+        changed[at] ^= 64;
+        let block = at as u64 / 512;
+        assert_eq!(audited(&mut library, &changed), answer(21, 3, block, 0));
+    }
+    let last = file.len() as u64 / 512;
+    let cut = audited(&mut library, &file[..file.len() - 1]);
+    assert_eq!(cut, answer(21, 3, last - 1, 0));
+    let spare = audited(&mut library, &[file, &[0; 512]].concat());
+    assert_eq!(spare.outcome(), Outcome::WrongBlock { block: last });
+    assert_eq!(audited(&mut library, &[]), answer(21, 3, 0, 0));
+    let mut lists = file.to_vec();
+    lists[8] = 3;
+    let lists = with_sums(lists);
+    assert_eq!(audited(&mut library, &lists), answer(21, 3, last - 1, 0));
+    let mut absent = file.to_vec();
+    absent[8..12].copy_from_slice(&[3, 0, 1, 0]);
+    let unfollowed = audited(&mut library, &with_sums(absent));
+    assert_eq!(unfollowed.outcome(), Outcome::NotFollowed { function: 0 });
+    let mut word = file.to_vec();
+    word[24] = b')';
+    let closed = Answer {
+        end: 1,
+        line: 1,
+        column: 1,
+        ..answer(3, 0, 0, 0)
+    };
+    assert_eq!(audited(&mut library, &with_sums(word)), closed);
+}
+
+#[test]
+fn evidence_that_is_not_written() {
+    let mut library = Library::open().expect("a library");
+    let (written, _) = evidence(&mut library, RESPONSE, EVIDENCE_LENGTH);
+    let short = written.length - 1;
+    for (response, length, expected) in [
+        (RESPONSE, short, answer(17, 3, short as u64, 0)),
+        (RESPONSE, 0, answer(17, 3, 0, 0)),
+        (b"fail", 0, answer(10, 1, 0, 0)),
+        (b"infeasible", EVIDENCE_LENGTH, answer(11, 1, 0, 0)),
+    ] {
+        let (written, area) = evidence(&mut library, response, length);
+        assert_eq!((written.answer, written.length), (expected, 0));
+        assert!(area.iter().all(|&byte| byte == 7));
+    }
 }

@@ -1,6 +1,7 @@
 //! Random cases from a seed, for tests that compare two checkers: sound ones, such whose bodies have many derivations, mutations of them, cases about the limits,
-//! and noise; and lists of steps.
+//! and noise; and lists of steps, and evidence files.
 
+mod damaged;
 mod draft;
 mod foreign;
 mod mutate;
@@ -15,6 +16,7 @@ use crate::{
     check, response, script, words, AREA_LENGTH, FIRST_ASSUMPTION, MOST_RESPONSE_BYTES,
     MOST_SCRIPT_BYTES,
 };
+pub use damaged::{damaged, evidence};
 pub use draft::value;
 use draft::{draft, tower, Draft};
 pub use foreign::{foreign, Run};

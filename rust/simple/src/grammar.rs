@@ -215,7 +215,7 @@ impl<'a> Search<'a> {
             weight: self.grammar.rules[fitting.number].weight,
             parts: parts.collect::<Option<_>>()?,
         };
-        let first = known.is_none_or(|known| candidate.comes_before(known));
+        let first = known.map_or(true, |known| candidate.comes_before(known));
         first.then(|| Derivation {
             weight: candidate.price().0,
             rules: candidate.rules().collect(),

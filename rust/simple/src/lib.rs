@@ -2,12 +2,13 @@
 //!
 //! `check` is the whole of it, and `read` what the two texts answer by themselves. Its parts are there for other programs that read the same texts: the words of
 //! a text (`words`), their ends with lines and columns (`places`), trees of words (`tree`), sorts (`operators`), the forms of commands, terms and constants
-//! (`commands`, `terms`, `constants`), what a script and a response say (`script`, `response`, `grammar`), values and costs of terms (`eval`), and the steps of
-//! a body with the controller that runs them (`steps`).
+//! (`commands`, `terms`, `constants`), what a script and a response say (`script`, `response`, `grammar`), values and costs of terms (`eval`), the steps of
+//! a body with the controller that runs them (`steps`), and the evidence file with its check (`evidence`).
 
 pub mod commands;
 pub mod constants;
 pub mod eval;
+pub mod evidence;
 pub mod generate;
 pub mod grammar;
 pub mod operators;
@@ -67,6 +68,18 @@ pub struct Answer {
     pub weights: [u64; MOST_SYNTHESIZED],
 }
 
+impl Answer {
+    /// An answer about no text.
+    fn about_none(number: u8, place: u64) -> Answer {
+        Answer {
+            number,
+            text: NONE,
+            place,
+            ..Answer::default()
+        }
+    }
+}
+
 /// The number and place of a fault in a text, and its second number: where a name that is taken was declared, else 0.
 #[derive(Clone, Copy, Debug, PartialEq, Eq)]
 pub struct Fault {
@@ -116,14 +129,16 @@ pub fn check(
 
 /// "the texts' own answers, 1 to 12, else 0": what a script and a response are refused for, and 0 about no text where neither is.
 pub fn read(script: &[u8], response: &[u8]) -> Answer {
-    let told = texts_fit(script, response).and_then(|()| texts_said(script, response));
-    match told {
-        Ok(_) => Answer {
-            text: NONE,
-            ..Answer::default()
-        },
-        Err(refusal) => located(refusal, script, response),
+    match told(script, response) {
+        Ok(_) => Answer::about_none(0, 0),
+        Err(refusal) => refusal,
     }
+}
+
+/// What a script and a response say, or the answer of the one that is refused.
+fn told(script: &[u8], response: &[u8]) -> Result<(script::Script, Vec<tree::Tree>), Answer> {
+    let said = texts_fit(script, response).and_then(|()| texts_said(script, response));
+    said.map_err(|refusal| located(refusal, script, response))
 }
 
 /// "Answers 2 to 9, 12 and 13 carry the new numbers; ... the other answers carry 0."

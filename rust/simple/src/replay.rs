@@ -1,5 +1,5 @@
-//! A judge of the lent area that shares nothing with the search: it replays the shown rule numbers, leftmost first, on the
-//! words of the body.
+//! A list of rule numbers followed without a search: it is replayed, leftmost first, on the words of the body. So the lent area is judged, and an evidence file
+//! is checked.
 
 use crate::grammar::{Form, Sorted};
 use crate::operators::Sort;
@@ -7,6 +7,23 @@ use crate::script::{self, Synthesized};
 use crate::tree::Tree;
 use crate::{response, AREA_LENGTH, LIST_LENGTH, UNUSED};
 use std::collections::HashSet;
+
+/// Why a list of rules does not derive a body.
+#[derive(Clone, Debug, PartialEq, Eq)]
+pub enum Break {
+    /// The rules give another word than the body has at this place.
+    Word(usize),
+    /// A non-terminal is used a second time at this place.
+    Twice(usize),
+    /// The list ends early.
+    Ended,
+    /// This number is no rule of the leftmost non-terminal.
+    NoRule(u16),
+    /// The rule of this number derives literals or arguments of a sort, and not what the body has.
+    Underived(u16),
+    /// The body has words left, or the list rules.
+    Left,
+}
 
 /// What is wrong with an area of the right size after an answer to a script and a response; none if nothing is.
 pub fn area_fault(script: &[u8], response: &[u8], number: u8, area: &[u16]) -> Option<String> {
@@ -28,7 +45,7 @@ pub fn area_fault(script: &[u8], response: &[u8], number: u8, area: &[u16]) -> O
         match (script.synthesized.get(index), bodies.get(index)) {
             (Some(function), Some(body)) => {
                 if let Err(fault) = replay(function, body, shown) {
-                    return Some(format!("list {index}: {fault}"));
+                    return Some(format!("list {index}: {fault:?}"));
                 }
             }
             _ if !shown.is_empty() => return Some(format!("list {index} has no function")),
@@ -38,31 +55,31 @@ pub fn area_fault(script: &[u8], response: &[u8], number: u8, area: &[u16]) -> O
     None
 }
 
-/// Replaces the leftmost non-terminal by the next rule shown, from the start on, and compares the words with the body's;
+/// Replaces the leftmost non-terminal by the next rule of the list, from the start on, and compares the words with the body's, which are counted from 0;
 /// "No non-terminal is used twice at the same place of the body".
-fn replay(function: &Synthesized, body: &Tree, shown: &[u16]) -> Result<(), String> {
+pub fn replay(function: &Synthesized, body: &Tree, list: &[u16]) -> Result<(), Break> {
     let grammar = &function.grammar;
     let mut body = spelt(body).into_iter().peekable();
     let mut place = 0;
-    let mut shown = shown.iter();
+    let mut list = list.iter();
     let mut used = HashSet::new();
     let mut pending = vec![grammar.nonterminals[0].name.clone()];
     while let Some(word) = pending.pop() {
         let nonterminal = grammar.nonterminals.iter().position(|one| one.name == word);
         let Some(nonterminal) = nonterminal else {
             if body.next().as_ref() != Some(&word) {
-                return Err(format!("word {place} of the body is not {word}"));
+                return Err(Break::Word(place));
             }
             place += 1;
             continue;
         };
         if !used.insert((place, nonterminal)) {
-            return Err(format!("{word} twice at word {place} of the body"));
+            return Err(Break::Twice(place));
         }
-        let number = shown.next().ok_or("the list ends early")?;
-        let rule = grammar.rules.get(usize::from(*number));
+        let &number = list.next().ok_or(Break::Ended)?;
+        let rule = grammar.rules.get(usize::from(number));
         let rule = rule.filter(|rule| rule.nonterminal == nonterminal);
-        let rule = rule.ok_or(format!("{number} is no rule of {word}"))?;
+        let rule = rule.ok_or(Break::NoRule(number))?;
         let given = body.peek().map_or("", String::as_str);
         match &rule.form {
             Form::Term(term) => pending.extend(spelt(term).into_iter().rev()),
@@ -70,13 +87,12 @@ fn replay(function: &Synthesized, body: &Tree, shown: &[u16]) -> Result<(), Stri
             Form::Variable(sort) if is_argument(given, *sort, &function.arguments) => {
                 pending.push(given.to_string());
             }
-            _ => return Err(format!("rule {number} does not derive {given}")),
+            _ => return Err(Break::Underived(number)),
         }
     }
-    match (body.next(), shown.next()) {
+    match (body.next(), list.next()) {
         (None, None) => Ok(()),
-        (Some(word), _) => Err(format!("{word} is left of the body")),
-        (None, Some(number)) => Err(format!("{number} is left of the list")),
+        _ => Err(Break::Left),
     }
 }
 

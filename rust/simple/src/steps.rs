@@ -5,7 +5,7 @@ use crate::operators::{operator_number, Sort, OPERATORS};
 use crate::script::Synthesized;
 use crate::terms::{extract_indices, operands, MOST_WIDTH};
 use crate::tree::Tree;
-use crate::{check, response, script, Answer, AREA_LENGTH, NONE};
+use crate::{check, response, script, Answer, AREA_LENGTH};
 
 /// "an area not of 1,024 64-bit numbers".
 pub const STEPS_LENGTH: usize = 1_024;
@@ -34,28 +34,18 @@ pub fn steps(
     area: &mut [u64],
 ) -> (Answer, usize) {
     if area.len() != STEPS_LENGTH {
-        return (refused(17, area.len() as u64), 0);
+        return (Answer::about_none(17, area.len() as u64), 0);
     }
     let answer = check(script, response, points, budget, &mut [0; AREA_LENGTH]);
     if answer.number != 0 {
         return (answer, 0);
     }
     let Some(list) = list_of(script, response, function) else {
-        return (refused(18, function), 0);
+        return (Answer::about_none(18, function), 0);
     };
     let numbers = list.concat();
     area[..numbers.len()].copy_from_slice(&numbers);
     (answer, list.len())
-}
-
-/// An answer about no text.
-fn refused(number: u8, place: u64) -> Answer {
-    Answer {
-        number,
-        text: NONE,
-        place,
-        ..Answer::default()
-    }
 }
 
 /// The list of a function of texts that are accepted; none for "A body using a `define-fun`, or a function number the script lacks".

@@ -1,5 +1,6 @@
 //! Document 01 run: the readings, the vectors, the bench, constants, signed operators, assumptions, ends, lines and columns, names that are taken, non-terminals that
-//! derive no term, the least of several derivations, weights, the texts' own answers, steps for the controller, every limit and every row of the table of answers.
+//! derive no term, the least of several derivations, weights, the texts' own answers, steps for the controller, the evidence file, every limit and every row of the
+//! table of answers.
 
 mod answers;
 mod assumptions;
@@ -7,6 +8,7 @@ mod bench;
 mod cases;
 mod constants;
 mod dead;
+mod evidence;
 mod generated;
 mod judge;
 mod least;
