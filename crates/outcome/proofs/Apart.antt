@@ -18,7 +18,7 @@ use Rattle.names.specs.New.{namedBy, newName, newPairs}
 use Rattle.names.specs.Scopes.{isNamed}
 use Rattle.names.proofs.Taken.{name-free, pairs-free}
 use Rattle.script.proofs.WordsBelow.{Below, item-below}
-use Rattle.outcome.specs.Scoped.{AllBefore, Apart}
+use Rattle.outcome.specs.Scoped.{AllBefore, Apart, declaredBefore}
 
 -- Whether two names are the same is asked in either order.
 turned : (u v : List ℕ) → sameBytes u v ≡ false → sameBytes v u ≡ false
@@ -76,11 +76,6 @@ apart-without (e ∷ front) back d apart =
     )
 
 -- ---- new names before a word that is not past the first at fault
-
--- Those that are declared before word w.
-unfoldable pub declaredBefore : (w : ℕ) → List Declared → List Declared
-declaredBefore w [] = []
-declaredBefore w (d ∷ more) = cond (ltb (d .at) w) (d ∷ declaredBefore w more) (declaredBefore w more)
 
 -- Of two lists.
 pub before-append : (w : ℕ) (front back : List Declared) → declaredBefore w (front ++ back) ≡ declaredBefore w front ++ declaredBefore w back

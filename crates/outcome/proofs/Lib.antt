@@ -29,6 +29,7 @@ pub mod SmallTerms
 pub mod Promised
 pub mod Apart
 pub mod Scoped
+pub mod Refusals
 pub mod Second
 pub mod NameTable
 pub mod Alive

@@ -29,9 +29,9 @@ use Rattle.script.specs.Outcome.{byWords, said, scriptOutcome}
 use Rattle.script.specs.Script.{Known, argumentsOf, declaredIn, judged, knownAfter, namePlace, newNames, nothingKnown, passed, readAll, scope}
 use Rattle.script.proofs.Within.{past-neither}
 use Rattle.script.proofs.WordsBelow.{Below, WordsBelow, inside-below, item-below, stands-below}
-use Rattle.outcome.specs.Scoped.{AllBefore, AllScoped, Apart, InScope, Scoped}
+use Rattle.outcome.specs.Scoped.{AllBefore, AllScoped, Apart, InScope, Scoped, declaredBefore}
 use Rattle.outcome.proofs.Apart.{Covers, Untaken, apart-among, apart-new, apart-pairs, before-all, before-among, before-append, before-both}
-use Rattle.outcome.proofs.Apart.{before-later, covers-more, declaredBefore, new-name, pairs-before}
+use Rattle.outcome.proofs.Apart.{before-later, covers-more, new-name, pairs-before}
 use Rattle.outcome.proofs.OneCommand.{Command, Tests, another, assuming, command, constraining, declaring, defining, other-word, synthesizing}
 use Rattle.outcome.proofs.Promised.{by-commands, not-said}
 use Rattle.outcome.proofs.Sorted.{followed, never-passed, no-faults, only-passed}

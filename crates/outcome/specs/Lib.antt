@@ -1,4 +1,5 @@
 pub mod Sorted
+pub mod Met
 pub mod Scoped
 pub mod Alive
 pub mod Derived
