@@ -1,20 +1,19 @@
 //! The texts of a file without a fault: their own answer, or that on the lists.
 use crate::lists::follow_all;
 use both_texts::read_texts;
+use both_texts::tables::are_short;
 use both_texts::tables::form_room;
 use both_texts::tables::no_names;
 use both_texts::tables::no_places;
 use both_texts::tables::node_room;
 use both_texts::tables::short_forms;
 use both_texts::tables::short_nodes;
-use evidence::NOT_FOLLOWED;
 use forest::limits::FUNCTIONS;
 use outcome::NONE;
 use outcome::Outcome;
 use outcome::refusal;
 use script::answers::ACCEPTED;
-use texts::SHORT_RESPONSE;
-use texts::SHORT_SCRIPT;
+use script::answers::NOT_FOLLOWED;
 use words::response_limits;
 ghost use Rattle.words.specs.Limits.{responseLimits};
 ghost use Rattle.evidence.specs.Evidence.{Audited};
@@ -60,7 +59,7 @@ pub(crate) fn audit_texts(file: &[u8], script: &[u8], response: &[u8]) -> Outcom
     requires { ⌜ FileTexts (now file) (now script) (now response) ⌝ }
     ensures { λ r. ⌜ Audited (now (file .entry)) r ⌝ }
 {
-    if (script.len() <= SHORT_SCRIPT) & (response.len() <= SHORT_RESPONSE) {
+    if are_short(script.len(), response.len()) {
         let mut nodes = short_nodes();
         let mut forms = short_forms();
         return audit_in(file, script, response, &mut nodes, &mut forms);

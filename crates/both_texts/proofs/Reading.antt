@@ -2,7 +2,7 @@
 use Prim.Native.Nat.{ℕ, _+_, _*_, _≤_}
 use native.Mathlib.Omega.{arith}
 use mathlib.Core.Path.{_≡_, refl, sym, ap, _∙_}
-use mathlib.Core.Bool.{true, _&&_}
+use mathlib.Core.Bool.{Bool, true, _&&_}
 use mathlib.Core.List.{List}
 use lib.Dec.{leb}
 use borrow.Author.Tests.{leb-true}
@@ -34,9 +34,10 @@ use Rattle.both_texts.proofs.BothTables.{held}
 
 module _ {limits : Limits} {script response nodes forms : List ℕ} where
   -- the tables of short texts have room for them
-  pub short-rooms : length nodes ≡ nodeWidth * (shortScript + shortResponse) → length forms ≡ nodeWidth * shortScript
-      → (leb (length script) shortScript && leb (length response) shortResponse) ≡ true → Rooms limits script response nodes forms
-  short-rooms nodes-long forms-long t =
+  pub short-rooms : {short : Bool} → length nodes ≡ nodeWidth * (shortScript + shortResponse) → length forms ≡ nodeWidth * shortScript
+      → short ≡ (leb (length script) shortScript && leb (length response) shortResponse) → short ≡ true → Rooms limits script response nodes forms
+  short-rooms nodes-long forms-long is taken =
+      let t = sym is ∙ taken in
       let one : length script ≤ shortScript = leb-true _ _ (and-left (leb (length script) shortScript) (leb (length response) shortResponse) t) in
       let two : length response ≤ shortResponse = leb-true _ _ (and-right (leb (length script) shortScript) (leb (length response) shortResponse) t) in
       record { nodes-room = λ n m a b c d. omega (arith, one, two); forms-room = short-room forms-long one }

@@ -8,6 +8,8 @@ use texts::SHORT_SCRIPT;
 ghost use mathlib.Core.Path.{_≡_};
 ghost use lib.ListN.{length};
 ghost use Prim.Native.Nat.{_+_, _*_};
+ghost use mathlib.Core.Bool.{_&&_};
+ghost use lib.Dec.{leb};
 ghost use Rattle.forest.specs.Limits.{responseWords, scriptWords};
 ghost use Rattle.script.specs.code.Places.{placesLength};
 ghost use Rattle.terms.specs.code.Nodes.{rowWidth as nodeWidth};
@@ -40,6 +42,13 @@ pub fn form_room() -> [u64; terms::ROW * SCRIPT_WORDS]
     ensures { λ r. ⌜ length r ≡ nodeWidth * scriptWords ⌝ }
 {
     [0; terms::ROW * SCRIPT_WORDS]
+}
+
+// Whether a script and a response are short, by their lengths: they are then read into small tables.
+pub fn are_short(script: usize, response: usize) -> bool
+    ensures { λ r. ⌜ r ≡ (leb script shortScript && leb response shortResponse) ⌝ }
+{
+    (script <= SHORT_SCRIPT) & (response <= SHORT_RESPONSE)
 }
 
 // The same of a short script and a short response.

@@ -15,7 +15,7 @@ use Rattle.script.specs.Response.{Body}
 use Rattle.script.specs.Outcome.{given, responseOutcome, said, scriptOutcome}
 use Rattle.script.specs.code.Answers.{pointsAnswer}
 use Rattle.outcome.specs.Accepted.{Declined}
-use Rattle.outcome.specs.Checked.{Checked, judged, missized, refusal, unshown}
+use Rattle.outcome.specs.Checked.{Checked, judged, missized, refusal}
 use Rattle.outcome.specs.Demands.{BodiesDerived, Showing, accepted, showing}
 use Rattle.outcome.specs.Derived.{blankArea, noTotals}
 use Rattle.outcome.specs.Located.{located, unlocated}
@@ -27,15 +27,14 @@ use Rattle.outcome.specs.declared.Weighed.{Weighed}
 use Rattle.outcome.proofs.Areas.{blank-long, unshown-blank}
 use Rattle.outcome.proofs.Exact.{exact}
 use Rattle.both_texts.specs.code.Both.{Lent}
-use Rattle.verdicts.specs.code.Evaluate.{Evaluable, Evaluates}
 use Rattle.accepting.specs.code.Bodies.{AllDerived, TextsAnswered}
 use Rattle.accepting.specs.declared.TextsWeighed.{TextsWeighed}
-use Rattle.checker.specs.code.Judge.{PointsJudged}
+use Rattle.checker.specs.code.Judge.{Judgeable, PointsJudged}
 use Rattle.checker.specs.code.Sizes.{SizesTold}
-use Rattle.checker.specs.code.Stepping.{AnsweredAlone, AnsweredFrom, BodiesAnswered, BodySteps, HeldAnswer, HeldJudged, Judgeable, ListGiven, TextsListed, applying, lacking, written}
+use Rattle.checker.specs.code.Stepping.{AnsweredAlone, AnsweredFrom, BodiesAnswered, BodySteps, HeldAnswer, ListGiven, TextsListed, applying, lacking}
+use Rattle.checker.specs.code.Stepping.{written}
 use Rattle.checker.specs.declared.stepping.Listed.{Listed}
-use Rattle.both_texts.proofs.Reading.{lent}
-use Rattle.checker.proofs.Judgements.{all-derive, declined-checked, evaluable}
+use Rattle.checker.proofs.Judgements.{AreaAfter, all-derive, declined-checked, evaluable}
 
 -- an answer that speaks of no text
 pub refused-is : {number place : ℕ} {o : Outcome} {answer : Answer} → o ≡ refusal number 3 place → answer ≡ unlocated o
@@ -84,7 +83,7 @@ module _ {script response points names places nodes : List ℕ} {told : TextsWei
     pub judgeable : Judgeable names places nodes told
     judgeable = record { evaluable! = λ z. evaluable (answered .all! z .all) }
 
-    module _ {budget : ℕ} {w : Weighed} (judged-so : HeldJudged names places nodes told points budget w) where
+    module _ {budget : ℕ} {w : Weighed} (judged-so : PointsJudged names places nodes told points budget w) where
       -- an answer on the bodies stays
       stays : (told .weighed .outcome .number ≡ 0 → ⊥) → Checked script response points budget blankArea (w .outcome) blankArea (w .totals)
       stays other =
@@ -93,24 +92,13 @@ module _ {script response points names places nodes : List ℕ} {told : TextsWei
 
       module _ (zero : told .weighed .outcome .number ≡ 0) where
         -- the points, where every body is derived
-        points-judged : {after : List ℕ}
-            → PointsJudged names places nodes (told .progress) points budget (answered .all! zero .shown) (w .outcome) after
+        points-judged : {after : List ℕ} → AreaAfter (w .outcome .number) (answered .all! zero .shown) after
             → Checked script response points budget blankArea (w .outcome) after (w .totals)
-        points-judged p =
+        points-judged area-after =
             let d = answered .all! zero in
             let passing = d .all .both .passing in
             judged (record { sized = d .sized; says = passing .says; gives = passing .gives })
-            (all-derive (d .all) (d .long) p (judged-so .bad! zero) (judged-so .other! zero))
-
-        -- after 16 the area would show nothing
-        after-16 : w .outcome .number ≡ pointsAnswer
-            → PointsJudged names places nodes (told .progress) points budget (answered .all! zero .shown) (w .outcome) (unshown (answered .all! zero .shown))
-        after-16 e = record { given = judged-so .given! zero; bad! = λ n. refl; other! = λ other. absurd (other e) }
-
-        -- after any other it would be as it was
-        after-other : (w .outcome .number ≡ pointsAnswer → ⊥)
-            → PointsJudged names places nodes (told .progress) points budget (answered .all! zero .shown) (w .outcome) (answered .all! zero .shown)
-        after-other other = record { given = judged-so .given! zero; bad! = λ n. absurd (other n); other! = λ n. refl }
+            (all-derive (d .all) zero judged-so (d .long) area-after)
 
       module _ {l : Location} (carried : l ≡ located script response (w .outcome)) where
         -- the checker's own answer
@@ -119,9 +107,9 @@ module _ {script response points names places nodes : List ℕ} {told : TextsWei
           where
             at : (zero : told .weighed .outcome .number ≡ 0) (b : Bool) → eqb (w .outcome .number) pointsAnswer ≡ b
                 → AnsweredAlone script response points budget (record { outcome = w .outcome; location = l; totals = w .totals })
-            at z true e = record { shown = _; given = record { checked = points-judged z (after-16 z (eqb-true _ _ e)); carried = carried } }
+            at z true e = record { shown = _; given = record { checked = points-judged z (record { bad! = λ n. refl; other! = λ other. absurd (other (eqb-true _ _ e)) }); carried = carried } }
             at z false e =
-                record { shown = _; given = record { checked = points-judged z (after-other z (eqb-false _ _ e)); carried = carried } }
+                record { shown = _; given = record { checked = points-judged z (record { bad! = λ n. absurd (eqb-false _ _ e n); other! = λ n. refl }); carried = carried } }
 
             go : (n : ℕ) → told .weighed .outcome .number ≡ n
                 → AnsweredFrom script response points budget told (record { outcome = w .outcome; location = l; totals = w .totals })
@@ -159,31 +147,6 @@ module _ {script response points names places nodes : List ℕ} {told : TextsWei
 pub relent : {limits : Limits} {script response names places nodes forms : List ℕ} → limits ≡ responseLimits
     → Lent responseLimits script response names places nodes forms → Lent limits script response names places nodes forms
 relent e tables = rw e tables
-
--- the constraints may be evaluated
-pub to-evaluate : {names places nodes : List ℕ} {told : TextsWeighed} → Judgeable names places nodes told → told .weighed .outcome .number ≡ 0
-    → Evaluable names places nodes (told .progress)
-to-evaluate held none = held .evaluable! none
-
-module _ {names places nodes points : List ℕ} {told : TextsWeighed} {budget : ℕ} where
-  -- an answer on the bodies
-  pub judge-stays : (told .weighed .outcome .number ≡ 0 → ⊥) → HeldJudged names places nodes told points budget (told .weighed)
-  judge-stays other =
-      record { declined! = λ o. refl; given! = λ z. absurd (other z); bad! = λ z. absurd (other z); other! = λ z. absurd (other z) }
-
-  module _ (none : told .weighed .outcome .number ≡ 0) where
-    module _ {found : Outcome} (run : Evaluates names places nodes (told .progress) points budget found) where
-      -- 16
-      pub judge-16 : {w : Weighed} → found .number ≡ pointsAnswer → w ≡ record { outcome = found; totals = noTotals }
-          → HeldJudged names places nodes told points budget w
-      judge-16 bad e =
-          rw e (record { declined! = λ o. absurd (o none); given! = λ z. run; bad! = λ z n. refl; other! = λ z o. absurd (o bad) })
-
-      -- what the run gives
-      pub judge-run : (found .number ≡ pointsAnswer → ⊥)
-          → HeldJudged names places nodes told points budget (record { outcome = found; totals = told .weighed .totals })
-      judge-run other =
-          record { declined! = λ o. absurd (o none); given! = λ z. run; bad! = λ z n. absurd (other n); other! = λ z o. refl }
 
 module _ {script response points : List ℕ} {budget : ℕ} where
   -- an area of another size

@@ -1,6 +1,7 @@
 //! The two texts' own answer.
 use both_texts::lengths::length_answer;
 use both_texts::read_texts;
+use both_texts::tables::are_short;
 use both_texts::tables::form_room;
 use both_texts::tables::no_names;
 use both_texts::tables::no_places;
@@ -11,8 +12,6 @@ use outcome::NONE;
 use outcome::Outcome;
 use outcome::refusal;
 use script::answers::ACCEPTED;
-use texts::SHORT_RESPONSE;
-use texts::SHORT_SCRIPT;
 use words::response_limits;
 ghost use mathlib.Core.Path.{_≡_};
 ghost use mathlib.Core.Option.{none as nothing};
@@ -52,7 +51,7 @@ pub(crate) fn texts_told(script: &[u8], response: &[u8]) -> Outcome
     if long.number != ACCEPTED {
         return long;
     }
-    if (script.len() <= SHORT_SCRIPT) & (response.len() <= SHORT_RESPONSE) {
+    if are_short(script.len(), response.len()) {
         let mut nodes = short_nodes();
         let mut forms = short_forms();
         return told_in(script, response, &mut nodes, &mut forms);

@@ -1,10 +1,12 @@
 //! The list of steps of an accepted body.
+use crate::judge::judge_points;
 use crate::sizes::size_answer;
 use accepting::TextsWeighed;
 use accepting::accept;
 use accepting::area::no_lists;
 use both_texts::answers::unlocated;
 use both_texts::located::locate;
+use both_texts::tables::are_short;
 use both_texts::tables::form_room;
 use both_texts::tables::no_names;
 use both_texts::tables::no_places;
@@ -16,20 +18,18 @@ use forest::limits::NODES;
 use outcome::Answer;
 use outcome::NONE;
 use outcome::Outcome;
-use outcome::Weighed;
 use outcome::refusal;
 use outcome::unweighed;
 use script::Progress;
 use script::answers::ACCEPTED;
-use script::answers::POINTS;
+use script::answers::AREA_SIZE;
+use script::answers::UNLISTED;
 use script::places::body_of;
+use script_reader::scripts::nothing_said;
 use steps::list::STEP;
 use steps::list::uses_defined;
 use steps::list::write_steps;
 use terms::size_at;
-use texts::SHORT_RESPONSE;
-use texts::SHORT_SCRIPT;
-use verdicts::evaluate::evaluate;
 use words::response_limits;
 ghost use mathlib.Core.Path.{_≡_};
 ghost use lib.ListN.{length};
@@ -37,16 +37,10 @@ ghost use Rattle.words.specs.Limits.{responseLimits};
 ghost use Rattle.outcome.specs.Derived.{noTotals};
 ghost use Rattle.outcome.specs.StepList.{StepList, stepNumbers, stepRefusal};
 ghost use Rattle.both_texts.specs.code.Both.{Lent, Rooms};
-ghost use Rattle.checker.specs.code.Stepping.{AnsweredFrom, BodiesAnswered, BodiesStand, BodyListed, HeldAnswer, HeldJudged, Judgeable, ListGiven};
+ghost use Rattle.checker.specs.code.Stepping.{AnsweredFrom, BodiesAnswered, BodiesStand, BodyListed, HeldAnswer, ListGiven};
 
 // How many numbers the lent area has to have.
 const NUMBERS: usize = STEP * NODES;
-
-// The lent area has another size.
-const MISSIZED: usize = 17;
-
-// The script lacks the function, or its body uses a `define-fun`.
-const UNLISTED: usize = 18;
 
 // An answer, and how many steps were written.
 pub struct Listed {
@@ -70,18 +64,7 @@ fn unread(outcome: Outcome) -> TextsWeighed
 {
     TextsWeighed {
         weighed: unweighed(outcome),
-        progress: Progress {
-            logic: false,
-            weights: false,
-            ended: false,
-            variables: 0,
-            defined: 0,
-            functions: 0,
-            constraints: 0,
-            assumptions: 0,
-            nodes: 0,
-            forms: 0,
-        },
+        progress: nothing_said(),
     }
 }
 
@@ -118,33 +101,6 @@ fn accept_alone(
     )
 }
 
-// The answer on the points where every body is derived, with the totals, which are 0 after 16.
-fn judge_held(
-    names: &[u8],
-    places: &[u64],
-    nodes: &[u64],
-    told: TextsWeighed,
-    points: &[u64],
-    budget: u64,
-) -> Weighed
-    requires { ⌜ Judgeable (now names) (now places) (now nodes) told ⌝ }
-    ensures { λ r. ⌜ HeldJudged (now (names .entry)) (now (places .entry)) (now (nodes .entry)) told (now (points .entry)) budget r ⌝ }
-{
-    let weighed = told.weighed;
-    if weighed.outcome.number != ACCEPTED {
-        return weighed;
-    }
-    let found = evaluate(names, places, nodes, told.progress, points, budget);
-    if found.number == POINTS {
-        return unweighed(found);
-    }
-    let totals = weighed.totals;
-    Weighed {
-        outcome: found,
-        totals,
-    }
-}
-
 // The checker's answer with what it carries, from that on the bodies, whose texts stand in the tables.
 fn answer_held(
     script: &[u8],
@@ -159,7 +115,7 @@ fn answer_held(
     requires { ⌜ BodiesAnswered (now script) (now response) (now points) (now names) (now places) (now nodes) told ⌝ }
     ensures { λ r. ⌜ AnsweredFrom (now (script .entry)) (now (response .entry)) (now (points .entry)) budget told r ⌝ }
 {
-    let found = judge_held(names, places, nodes, told, points, budget);
+    let found = judge_points(names, places, nodes, told, points, budget);
     let outcome = found.outcome;
     let totals = found.totals;
     Answer {
@@ -273,9 +229,9 @@ pub fn step_list(
         (r .answer) (r .count) (now (area .exit)) ⌝ }
 {
     if area.len() != NUMBERS {
-        return refused(MISSIZED, area.len());
+        return refused(AREA_SIZE, area.len());
     }
-    if (script.len() <= SHORT_SCRIPT) & (response.len() <= SHORT_RESPONSE) {
+    if are_short(script.len(), response.len()) {
         let mut nodes = short_nodes();
         let mut forms = short_forms();
         return list_in(

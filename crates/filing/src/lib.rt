@@ -7,21 +7,20 @@ use blocks::writing::write_file;
 use both_texts::answers::unlocated;
 use both_texts::lengths::length_answer;
 use both_texts::located::locate;
+use both_texts::tables::are_short;
 use both_texts::tables::form_room;
 use both_texts::tables::no_names;
 use both_texts::tables::no_places;
 use both_texts::tables::node_room;
 use both_texts::tables::short_forms;
 use both_texts::tables::short_nodes;
-use evidence::AREA_SHORT;
 use outcome::Answer;
 use outcome::Location;
 use outcome::NONE;
 use outcome::Weighed;
 use outcome::refusal;
 use script::answers::ACCEPTED;
-use texts::SHORT_RESPONSE;
-use texts::SHORT_SCRIPT;
+use script::answers::AREA_SIZE;
 use words::response_limits;
 ghost use mathlib.Core.Path.{_≡_};
 ghost use Rattle.words.specs.Limits.{responseLimits};
@@ -76,7 +75,7 @@ fn derive_texts(script: &[u8], response: &[u8], shown: &mut [u16]) -> Weighed
     requires { ⌜ Derivable (now script) (now response) (now shown) ⌝ }
     ensures { λ r. ⌜ ListsFound (now (script .entry)) (now (response .entry)) r (now (shown .exit)) ⌝ }
 {
-    if (script.len() <= SHORT_SCRIPT) & (response.len() <= SHORT_RESPONSE) {
+    if are_short(script.len(), response.len()) {
         let mut nodes = short_nodes();
         let mut forms = short_forms();
         return derive_in(script, response, shown, &mut nodes, &mut forms);
@@ -107,7 +106,7 @@ fn write_found(
         });
     }
     if area.len() < file_length(script.len(), response.len(), rules_in(shown)) {
-        return unwritten(unlocated(refusal(AREA_SHORT, NONE, area.len())));
+        return unwritten(unlocated(refusal(AREA_SIZE, NONE, area.len())));
     }
     let length = write_file(area, script, response, shown);
     Written {

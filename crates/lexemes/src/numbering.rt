@@ -99,9 +99,9 @@ pub fn number_words(text: &[u8], words: &[u32], values: &[u64], count: usize, le
     let names = first_names();
     let starts = first_starts();
     let slots = first_slots();
-    let operators = operator_names();
-    let places = operator_starts();
-    let others = operator_slots();
+    let names_of_operators = operator_names();
+    let starts_of_operators = operator_starts();
+    let slots_of_operators = operator_slots();
     let mut word = 0;
     while word < count {
         let start = start_at(words, word);
@@ -112,9 +112,9 @@ pub fn number_words(text: &[u8], words: &[u32], values: &[u64], count: usize, le
             &names,
             &starts,
             &slots,
-            &operators,
-            &places,
-            &others,
+            &names_of_operators,
+            &starts_of_operators,
+            &slots_of_operators,
         );
         put_row(words, values, word, code, lexemes);
         word += 1;

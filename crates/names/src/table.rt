@@ -41,7 +41,7 @@ pub fn sort_in(names: &[u8], row: usize) -> u64
 }
 
 // The word at which the name in a row is declared.
-pub fn word_in(names: &[u8], row: usize) -> usize
+pub(crate) fn word_in(names: &[u8], row: usize) -> usize
     requires { ⌜ Names (now names) ⌝ }
     requires { ⌜ row < rowCount ⌝ }
     ensures { λ r. ⌜ r ≡ wordIn (now (names .entry)) row ⌝ }
@@ -51,7 +51,7 @@ pub fn word_in(names: &[u8], row: usize) -> usize
 }
 
 // The name in a row.
-pub fn name_in<'a>(names: &'a [u8], row: usize) -> &'a [u8]
+pub(crate) fn name_in<'a>(names: &'a [u8], row: usize) -> &'a [u8]
     requires { ⌜ Names (now names) ⌝ }
     requires { ⌜ row < rowCount ⌝ }
     ensures { λ r. ⌜ now r ≡ nameIn (now (names .entry)) row ⌝ }
@@ -63,7 +63,7 @@ pub fn name_in<'a>(names: &'a [u8], row: usize) -> &'a [u8]
 }
 
 // Whether the name in a row is the word.
-pub fn is_name(names: &[u8], row: usize, word: &[u8]) -> bool
+pub(crate) fn is_name(names: &[u8], row: usize, word: &[u8]) -> bool
     requires { ⌜ Names (now names) ⌝ }
     requires { ⌜ row < rowCount ⌝ }
     ensures { λ r. ⌜ r ≡ sameBytes (nameIn (now (names .entry)) row) (now (word .entry)) ⌝ }

@@ -1,4 +1,4 @@
-//! The numbers of the answers, each once (those of words are theirs), and the verdict that has one.
+//! The numbers of the answers, each once (those of words and of the runner are theirs), and the verdict that has one.
 use crate::Verdict;
 ghost use mathlib.Core.Path.{_≡_};
 
@@ -46,6 +46,18 @@ pub const BUDGET: usize = 15;
 
 // The list of points is not whole points, or has a value outside its sort.
 pub const POINTS: usize = 16;
+
+// A lent area is not of its size, or too short.
+pub const AREA_SIZE: usize = 17;
+
+// The script lacks the function, or its body uses a `define-fun`.
+pub const UNLISTED: usize = 18;
+
+// A block of an evidence file is cut short, wrong, spare or wrongly filled.
+pub const WRONG_BLOCK: usize = 21;
+
+// A list of an evidence file does not derive its body, or an absent function has one.
+pub const NOT_FOLLOWED: usize = 22;
 
 // The verdict of a number at a word, with so many rows.
 pub fn verdict(number: usize, place: usize, rows: usize) -> Verdict

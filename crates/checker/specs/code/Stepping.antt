@@ -48,17 +48,6 @@ pub record BodiesAnswered (script response points names places nodes : List ℕ)
   pub declined! : (r .weighed .outcome .number ≡ 0 → ⊥) → (budget : ℕ)
       → Checked script response points budget blankArea (r .weighed .outcome) blankArea (r .weighed .totals)
 
--- Where every body is derived, the constraints may be evaluated.
-pub record Judgeable (names places nodes : List ℕ) (told : TextsWeighed) : Type 0 where
-  pub evaluable! : told .weighed .outcome .number ≡ 0 → Evaluable names places nodes (told .progress)
-
--- What the points give where every body is derived, with totals that are 0 after 16; else the answer on the bodies.
-pub record HeldJudged (names places nodes : List ℕ) (told : TextsWeighed) (points : List ℕ) (budget : ℕ) (r : Weighed) : Type 0 where
-  pub declined! : (told .weighed .outcome .number ≡ 0 → ⊥) → r ≡ told .weighed
-  pub given! : told .weighed .outcome .number ≡ 0 → Evaluates names places nodes (told .progress) points budget (r .outcome)
-  pub bad! : told .weighed .outcome .number ≡ 0 → r .outcome .number ≡ pointsAnswer → r .totals ≡ noTotals
-  pub other! : told .weighed .outcome .number ≡ 0 → (r .outcome .number ≡ pointsAnswer → ⊥) → r .totals ≡ told .weighed .totals
-
 -- The checker's own answer, which is 0 only where every body is derived.
 pub record AnsweredFrom (script response points : List ℕ) (budget : ℕ) (told : TextsWeighed) (answer : Answer) : Type 0 where
   pub alone : AnsweredAlone script response points budget answer

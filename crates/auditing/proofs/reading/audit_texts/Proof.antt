@@ -3,6 +3,9 @@ use borrow.Author.Needs.{needs}
 use Rattle.auditing.proofs.reading.audit_texts.Statement.{statement}
 use Rattle.auditing.proofs.reading.audit_texts.Tie as tie
 
+are-short-requires : tie.Need-are-short-requires
+are-short-requires c κs = search needs
+
 short-nodes-requires : tie.Need-short-nodes-requires
 short-nodes-requires c κs = search needs
 
@@ -16,7 +19,7 @@ slice-aggregate-audit-in-2 : tie.Need-slice-aggregate-audit-in-2
 slice-aggregate-audit-in-2 c = search needs
 
 audit-in-requires : tie.Need-audit-in-requires
-audit-in-requires c κs = (c .before .before .before .before .before .before .before .before .pre, short-rooms (c .before .before .before .short-nodes .ensures) (c .before .before .short-forms .ensures) (c .before .before .before .before .if1 .taken))
+audit-in-requires c κs = (c .before .before .before .before .before .before .before .before .before .pre, short-rooms (c .before .before .before .short-nodes .ensures) (c .before .before .short-forms .ensures) (c .before .before .before .before .before .are-short .ensures) (c .before .before .before .before .if1 .taken))
 
 returns : tie.Need-returns
 returns c = search needs
@@ -43,6 +46,7 @@ pub audit-texts-spec : {M : Type 1} → statement M
 audit-texts-spec =
     tie.close
     (tie.spec
+    are-short-requires
     short-nodes-requires
     short-forms-requires
     slice-aggregate-audit-in

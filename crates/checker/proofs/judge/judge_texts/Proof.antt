@@ -4,6 +4,9 @@ use borrow.Author.Needs.{needs}
 use Rattle.checker.proofs.judge.judge_texts.Statement.{statement}
 use Rattle.checker.proofs.judge.judge_texts.Tie as tie
 
+are-short-requires : tie.Need-are-short-requires
+are-short-requires c κs = search needs
+
 short-nodes-requires : tie.Need-short-nodes-requires
 short-nodes-requires c κs = search needs
 
@@ -17,7 +20,7 @@ slice-aggregate-judge-in-2 : tie.Need-slice-aggregate-judge-in-2
 slice-aggregate-judge-in-2 c = search needs
 
 judge-in-requires : tie.Need-judge-in-requires
-judge-in-requires c κs = (c .before .before .before .before .before .before .before .before .before .before .pre, short-rooms (c .before .before .before .before .short-nodes .ensures) (c .before .before .before .short-forms .ensures) (c .before .before .before .before .before .if1 .taken))
+judge-in-requires c κs = (c .before .before .before .before .before .before .before .before .before .before .before .pre, short-rooms (c .before .before .before .before .short-nodes .ensures) (c .before .before .before .short-forms .ensures) (c .before .before .before .before .before .before .are-short .ensures) (c .before .before .before .before .before .if1 .taken))
 
 same-length : tie.Need-same-length
 same-length c = search needs
@@ -38,7 +41,7 @@ slice-aggregate-judge-in-4 : tie.Need-slice-aggregate-judge-in-4
 slice-aggregate-judge-in-4 c = search needs
 
 judge-in-requires-2 : tie.Need-judge-in-requires-2
-judge-in-requires-2 c κs = (c .before .before .before .before .before .before .before .before .before .before .pre, full-rooms (omega arith) (c .before .before .before .before .node-room .ensures) (c .before .before .before .form-room .ensures))
+judge-in-requires-2 c κs = (c .before .before .before .before .before .before .before .before .before .before .before .pre, full-rooms (omega arith) (c .before .before .before .before .node-room .ensures) (c .before .before .before .form-room .ensures))
 
 same-length-2 : tie.Need-same-length-2
 same-length-2 c = search needs
@@ -50,6 +53,7 @@ pub judge-texts-spec : {M : Type 1} → statement M
 judge-texts-spec =
     tie.close
     (tie.spec
+    are-short-requires
     short-nodes-requires
     short-forms-requires
     slice-aggregate-judge-in

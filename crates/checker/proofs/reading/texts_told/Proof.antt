@@ -11,6 +11,9 @@ length-answer-requires c κs = search needs
 returns : tie.Need-returns
 returns c = texts-long (c .before .before .length-answer .ensures) (c .if1 .taken)
 
+are-short-requires : tie.Need-are-short-requires
+are-short-requires c κs = search needs
+
 short-nodes-requires : tie.Need-short-nodes-requires
 short-nodes-requires c κs = search needs
 
@@ -24,7 +27,7 @@ slice-aggregate-told-in-2 : tie.Need-slice-aggregate-told-in-2
 slice-aggregate-told-in-2 c = search needs
 
 told-in-requires : tie.Need-told-in-requires
-told-in-requires c κs = (texts-short _ _ (c .before .before .before .before .before .before .before .length-answer .ensures) (c .before .before .before .before .before .if1 .left), short-rooms (c .before .before .before .short-nodes .ensures) (c .before .before .short-forms .ensures) (c .before .before .before .before .if2 .taken))
+told-in-requires c κs = (texts-short _ _ (c .before .before .before .before .before .before .before .before .length-answer .ensures) (c .before .before .before .before .before .before .if1 .left), short-rooms (c .before .before .before .short-nodes .ensures) (c .before .before .short-forms .ensures) (c .before .before .before .before .before .are-short .ensures) (c .before .before .before .before .if2 .taken))
 
 returns-2 : tie.Need-returns-2
 returns-2 c = c .before .before .told-in .ensures
@@ -42,7 +45,7 @@ slice-aggregate-told-in-4 : tie.Need-slice-aggregate-told-in-4
 slice-aggregate-told-in-4 c = search needs
 
 told-in-requires-2 : tie.Need-told-in-requires-2
-told-in-requires-2 c κs = (texts-short _ _ (c .before .before .before .before .before .before .before .length-answer .ensures) (c .before .before .before .before .before .if1 .left), full-rooms (omega arith) (c .before .before .before .node-room .ensures) (c .before .before .form-room .ensures))
+told-in-requires-2 c κs = (texts-short _ _ (c .before .before .before .before .before .before .before .before .length-answer .ensures) (c .before .before .before .before .before .before .if1 .left), full-rooms (omega arith) (c .before .before .before .node-room .ensures) (c .before .before .form-room .ensures))
 
 returns-3 : tie.Need-returns-3
 returns-3 c = c .before .before .told-in2 .ensures
@@ -53,6 +56,7 @@ texts-told-spec =
     (tie.spec
     length-answer-requires
     returns
+    are-short-requires
     short-nodes-requires
     short-forms-requires
     slice-aggregate-told-in

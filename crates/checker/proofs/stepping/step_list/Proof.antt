@@ -10,6 +10,9 @@ refused-requires c κs = search needs
 returns : tie.Need-returns
 returns c = wrong-size (c .before .if1 .taken) (c .refused .ensures)
 
+are-short-requires : tie.Need-are-short-requires
+are-short-requires c κs = search needs
+
 short-nodes-requires : tie.Need-short-nodes-requires
 short-nodes-requires c κs = search needs
 
@@ -58,6 +61,7 @@ step-list-spec =
     (tie.spec
     refused-requires
     returns
+    are-short-requires
     short-nodes-requires
     short-forms-requires
     slice-aggregate-list-in

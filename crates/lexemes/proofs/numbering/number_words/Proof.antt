@@ -6,11 +6,11 @@ use Rattle.lexemes.proofs.numbering.number_words.Statement.{statement}
 use Rattle.lexemes.proofs.numbering.number_words.Tie as tie
 
 abbrev Inv-loop : tie.InvT-loop
-Inv-loop text words values count lexemes₀ names starts slots operators places others word₀ lexemes word =
+Inv-loop text words values count lexemes₀ names starts slots names_of_operators starts_of_operators slots_of_operators word₀ lexemes word =
     Filling text lexemes₀ count lexemes word
 
 abbrev μ-loop : tie.MeasureT-loop
-μ-loop text words values count lexemes₀ names starts slots operators places others word₀ lexemes word =
+μ-loop text words values count lexemes₀ names starts slots names_of_operators starts_of_operators slots_of_operators word₀ lexemes word =
     count - word
 
 first-names-requires : tie.Need-first-names-requires Inv-loop μ-loop
