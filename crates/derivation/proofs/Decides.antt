@@ -18,7 +18,7 @@ use Rattle.derivation.specs.Derivation.{AnyLeaf, Argument, Item, headOf,
 use Rattle.derivation.specs.Derivation.Item.{anyArgument, anyLiteral, nonTerminal, the}
 use Rattle.derivation.specs.Derivation.AnyLeaf.{constant, variable}
 use Rattle.derivation.specs.Derivation.Derives.{done, use-rule, leaf, same}
-use Rattle.derivation.specs.code.Search.{DerivesAt}
+use Rattle.derivation.specs.code.Forms.{DerivesAt}
 use Rattle.derivation.proofs.PassedTests.{and-both, and-true, or-first, or-second, or-true}
 use Rattle.derivation.proofs.Same.{same?, same-complete, same-sound}
 use Rattle.derivation.proofs.Splits.{one-then}

@@ -1,8 +1,9 @@
 -- Masks as sets: the digit at a place of an or, and of a power of two.
+use mathlib.Core.Bool.{false}
 use mathlib.Core.Path.{_≡_, ap, _∙_, subst}
 use Prim.Native.Nat.{ℕ, suc, _+_, _-_, _/_, _%_, _^_, _<_, max}
 use native.Mathlib.Decide.{decLt}
-use native.Mathlib.Nat.{mod-lt, div-self, div-eq-of-lt, mul-div-cancel, pow-suc, mul-mod-left}
+use native.Mathlib.Nat.{mod-lt, div-self, div-eq-of-lt, mul-div-cancel, pow-suc, mul-mod-left, zero-div}
 use native.Mathlib.Omega.{arith}
 use lib.Dec.{eqb}
 use lib.Bits.{bitOr, or-step, or-shr}
@@ -37,3 +38,7 @@ puts m a = record {
       let e : bitOr m (2 ^ a) / 2 ^ b % 2 ≡ m / 2 ^ b % 2 = digit-or m (2 ^ a) b ∙ omega (arith, digit-other a b ne) in
       ap (λ (x : ℕ). eqb x 1) e;
 }
+
+pub has-zero : (A : ℕ) → has 0 A ≡ false
+unfolding has
+has-zero A = ap (λ (x : ℕ). eqb (x % 2) 1) (zero-div (2 ^ A))

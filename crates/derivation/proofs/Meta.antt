@@ -9,7 +9,7 @@ use Rattle.forest.specs.code.Cursors.{first}
 use Rattle.forest.proofs.Laws.{count-join, first-join}
 use Rattle.terms.specs.Labels.{Label, Terms}
 use Rattle.derivation.specs.Derivation.{Item, nonTerminal, headOf, formOf, Derives, done, use-rule, leaf, same, Grammar}
-use Rattle.derivation.specs.code.Search.{DerivesAt, Fits}
+use Rattle.derivation.specs.code.Forms.{DerivesAt, Fits}
 use Rattle.derivation.proofs.Likeness.{Alike, Bare, NotHole, any, any-not-hole, labels}
 use Rattle.derivation.proofs.Splits.{Kind, Uncons, one-then, over-first}
 

@@ -16,7 +16,7 @@ use Rattle.derivation.specs.Productive.{formYields, onePass, passes, pro
 use Rattle.derivation.specs.code.Masks.{Puts, has}
 use Rattle.derivation.specs.code.Productive.{AsksDead, AsksForm, FindsDead, FormTested, Found, Grown, Marks, Passed, Tabled, grownBy}
 use Rattle.derivation.specs.code.Rules.{nonTerminalAt, ruleWidth}
-use Rattle.derivation.proofs.Closed.{has-zero}
+use Rattle.derivation.proofs.Mask.{has-zero}
 use Rattle.derivation.proofs.FoundExactly.{adds-none, pass-same, passes-same}
 use Rattle.derivation.proofs.RuleRows.{length-rules, rule-at}
 use Rattle.derivation.proofs.YieldWalk.{drop-none}

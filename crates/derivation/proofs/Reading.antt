@@ -1,5 +1,5 @@
 -- What the numbers of the tables say of the nodes of the right sides and of the body.
-use Prim.Native.Nat.{ℕ, suc, _*_, _<_}
+use Prim.Native.Nat.{ℕ, suc, _+_, _*_, _<_}
 use mathlib.Core.Path.{_≡_, refl, sym, ap, _∙_}
 use mathlib.Core.List.{List, [], append-nil}
 use lib.Dec.{lit<}
@@ -38,6 +38,11 @@ item-says all t {p} {i} {ops} {more} e =
 pub body-says : {body : List ℕ} (all : Terms) → body ≡ nodeTable all → {j : ℕ} {l : Label} {ops more : Terms} → from all j ≡ tree l ops more
     → Says body j l ops
 body-says all t {j} {l} {ops} {more} e = says all [] j l ops more (t ∙ sym (append-nil (nodeTable all))) e
+
+-- how many nodes a tree and those behind it have
+pub size-node : {L : Type 0} (l : L) (ps qs : Forest L) → size (tree l ps qs) ≡ suc (size ps + size qs)
+unfolding size
+size-node l ps qs = refl
 
 -- how long the tables are
 pub forms-length : {forms : List ℕ} (all : Forest Item) → forms ≡ formTable all → length forms ≡ rowWidth * size all

@@ -14,7 +14,7 @@ use Rattle.derivation.specs.Derivation.{Item, nonTerminal, headOf, formO
 use Rattle.derivation.specs.code.Admitted.{Proper}
 use Rattle.derivation.specs.code.Tables.{Given, itemValue, rightSides}
 use Rattle.derivation.specs.code.Rules.{nonTerminalAt, ruleWidth, startAt, weightAt}
-use Rattle.derivation.specs.code.Search.{NoChain}
+use Rattle.derivation.specs.code.Forms.{NoChain}
 use Rattle.derivation.proofs.Reading.{ItemSays, forms-length, item-says}
 use Rattle.derivation.proofs.Likeness.{hole-item}
 use Rattle.derivation.proofs.RuleRows.{RuleAt, rule-at, length-rules}

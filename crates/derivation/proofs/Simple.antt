@@ -10,7 +10,7 @@ use Rattle.derivation.specs.Derivation.{Item, headOf, formOf, Derives, F
 use Rattle.derivation.specs.Derivation.Item.{nonTerminal}
 use Rattle.derivation.specs.Derivation.Derives.{done, use-rule, leaf, same}
 use Rattle.derivation.specs.Derivation.Simple.{s-done, s-rule, s-leaf, s-same}
-use Rattle.derivation.specs.code.Search.{NoChain}
+use Rattle.derivation.specs.code.Forms.{NoChain}
 use Rattle.derivation.proofs.Splits.{Kind, Uncons, one-then}
 
 module _ (G : Grammar) where

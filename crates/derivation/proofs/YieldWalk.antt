@@ -27,9 +27,8 @@ use Rattle.derivation.specs.code.Productive.{AsksForm, AsksNode, FormTes
 use Rattle.derivation.specs.code.Rules.{startAt}
 use Rattle.derivation.specs.code.Tables.{rightSides}
 use Rattle.derivation.proofs.Likeness.{label-kind, proper-on}
-use Rattle.derivation.proofs.Reading.{ItemSays, forms-length, item-says}
+use Rattle.derivation.proofs.Reading.{ItemSays, forms-length, item-says, size-node}
 use Rattle.derivation.proofs.RuleRows.{RuleAt, rule-at}
-use Rattle.derivation.proofs.RuleWalk.{size-node}
 
 -- nothing stands past a list's end
 pub drop-none : {A : Type 0} (l : List A) (n : ℕ) → length l ≤ n → drop n l ≡ []

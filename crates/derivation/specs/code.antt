@@ -1,11 +1,7 @@
 pub mod Tables
-pub mod Ranks
 pub mod Matching
-pub mod Search
-pub mod Derive
+pub mod Forms
 pub mod Admitted
 pub mod Rules
 pub mod Masks
-pub mod Filling
-pub mod Showing
 pub mod Productive

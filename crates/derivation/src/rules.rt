@@ -21,7 +21,7 @@ pub fn non_terminal_at(rules: &[u64], rule: usize) -> u64
 }
 
 // The weight of a rule.
-pub(crate) fn weight_at(rules: &[u64], rule: usize) -> u64
+pub fn weight_at(rules: &[u64], rule: usize) -> u64
     ensures { λ r. ⌜ r ≡ weightAt (now (rules .entry)) rule ⌝ }
 {
     number_at(rules, RULE, rule, 2)

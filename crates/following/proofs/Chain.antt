@@ -17,8 +17,8 @@ use Rattle.derivation.specs.Derivation.{Fresh, Grammar, Item, formOf, nonTermin
 use Rattle.terms.specs.code.Codes.{nonTerminalKind}
 use Rattle.derivation.specs.code.Masks.{has, Puts}
 use Rattle.derivation.specs.code.Rules.{startAt}
-use Rattle.derivation.specs.code.Search.{NoChain}
-use Rattle.derivation.proofs.Closed.{has-zero}
+use Rattle.derivation.specs.code.Forms.{NoChain}
+use Rattle.derivation.proofs.Mask.{has-zero}
 use Rattle.derivation.proofs.Simple.{no-chain-any}
 use Rattle.derivation.proofs.RuleFirst.{chain-view, no-chain-view}
 use Rattle.following.specs.code.Steps.{ChainFound, ChainPost, ChainPre, NoneRead, Reads, usable}

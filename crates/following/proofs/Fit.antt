@@ -24,7 +24,7 @@ use Rattle.derivation.proofs.Likeness.{NotHole, alike-complete, alike-sound, ho
 use Rattle.derivation.proofs.Reading.{ItemSays, body-length, body-says, forms-length, item-says}
 use Rattle.derivation.proofs.RuleRows.{RuleAt}
 use Rattle.derivation.proofs.RuleFirst.{past-fits, past-is, there}
-use Rattle.derivation.proofs.RuleWalk.{size-node}
+use Rattle.derivation.proofs.Reading.{size-node}
 use Rattle.following.specs.code.Steps.{FitPre, Found, FoundOr, Reads, UsePre, oneAt}
 use Rattle.following.proofs.Prefix.{hole-then, opened, part, part-at, reads-as, reads-none, shut}
 use Rattle.forest.specs.Limits.{mostNonTerminals}

@@ -104,7 +104,7 @@ module _ {rules forms body list : List ℕ} where
             let z : drop w list ≡ [] = same-rest (p .given .G) (f .reads) (reads-whole p d) in
             true≢false (sym (eq-eqb w (length list) (omega (arith, f .within, ap length z, length-drop w list))) ∙ e)
 
--- a list that derives the body is accepted: what `derivation::derive` shows, among others
+-- a list that derives the body is accepted: what `searching::derive` shows, among others
 pub accepts : {rules forms body list : List ℕ} {p : FollowsPre rules forms body} {answer : Bool} → FollowsPost rules forms body list p answer
     → Simple (p .given .G) [] start (p .given .F) list → answer ≡ true
 accepts {answer = true} f d = refl

@@ -1,4 +1,4 @@
-//! Whether a list of rules derives a body: the list is read as `derivation::showing` writes it, leftmost rule first, and nothing is searched for.
+//! Whether a list of rules derives a body: the list is read as `searching::showing` writes it, leftmost rule first, and nothing is searched for.
 //!
 //! `rules`, `forms` and `body` are the tables of crate `derivation`.
 ghost use mathlib.Core.Path.{_≡_};
@@ -8,6 +8,7 @@ ghost use Rattle.forest.specs.Limits.{mostNonTerminals};
 ghost use Rattle.derivation.specs.Answer.{unused};
 ghost use Rattle.following.specs.code.Follows.{Follows, FollowsPre};
 ghost use Rattle.following.specs.code.Steps.{ChainPre, Chained, FitPre, Fitted, UsePre, Uses, usable};
+use derivation::START;
 use derivation::UNUSED;
 use derivation::masks::has;
 use derivation::masks::put;
@@ -19,9 +20,6 @@ use terms::code_at;
 use terms::codes::NON_TERMINAL;
 use terms::size_at;
 use terms::value_at;
-
-// The first non-terminal.
-const START: u64 = 0;
 
 // Whether the chain rules of a list lead to a rule that is no chain rule; that rule, and the place of the list after it.
 struct Last {

@@ -11,7 +11,7 @@ use Rattle.terms.specs.code.Nodes.{AllPlain, nodeTable}
 use Rattle.derivation.specs.Derivation.{formOf, headOf, weightOf}
 use Rattle.derivation.specs.code.Admitted.{LeavesFit, Proper}
 use Rattle.derivation.specs.code.Tables.{Given, formTable, rightSides, ruleTable}
-use Rattle.derivation.specs.code.Derive.{DerivePre}
+use Rattle.searching.specs.code.Derive.{DerivePre}
 use Rattle.forest.specs.Limits.{areaSize}
 use Rattle.following.specs.code.Follows.{FollowsPre}
 use Rattle.derivation.proofs.Bench.{ring, ringBody}

@@ -55,7 +55,7 @@ fn main() {
     let forms: [u64; 12] = [5, 1, 0, 1, 5, 0, 0, 1, 513, 0, 0, 1];
     let body: [u64; 4] = [513, 0, 0, 1];
     let mut area = unused_area();
-    let derived = derivation::derive(&rules, &forms, &body, 1, &mut area);
+    let derived = searching::derive(&rules, &forms, &body, 1, &mut area);
     if derived.found {
         let line = [
             digit(area[PLACE]),

@@ -5,7 +5,7 @@ use mathlib.Core.Bool.{Bool}
 use mathlib.Core.List.{List}
 use Rattle.forest.specs.Limits.{mostFunctions}
 use Rattle.terms.specs.code.Nodes.{sizeAt}
-use Rattle.derivation.specs.code.Derive.{Decides, DerivePre}
+use Rattle.searching.specs.code.Derive.{Decides, DerivePre}
 use Rattle.script.specs.code.Places.{bodyIn, formRowsIn, formsIn, rulesOf}
 use Rattle.one_function.specs.code.OneFunction.{rowsFrom}
 use Rattle.one_function.proofs.OneFunction.{one-body, one-given}

@@ -1,6 +1,4 @@
 //! Derivations of the bodies of all functions, in script order.
-use derivation::Derived;
-use derivation::derive;
 use forest::numbers::put_entry;
 use one_function::rows_from;
 use script::Progress;
@@ -8,6 +6,8 @@ use script::places::body_of;
 use script::places::form_rows_of;
 use script::places::forms_of;
 use script::places::rules_of;
+use searching::Derived;
+use searching::derive;
 use terms::size_at;
 ghost use Rattle.verdicts.specs.code.Derive.{Derivable, Judges, JudgesOne, OneDerivable};
 

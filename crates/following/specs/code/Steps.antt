@@ -12,7 +12,7 @@ use Rattle.derivation.specs.Derivation.{Grammar, Item, Simple, formOf, nonTermi
 use Rattle.derivation.specs.code.Tables.{Given}
 use Rattle.derivation.specs.code.Masks.{has}
 use Rattle.derivation.specs.code.Rules.{nonTerminalAt, ruleWidth}
-use Rattle.derivation.specs.code.Search.{NoChain}
+use Rattle.derivation.specs.code.Forms.{NoChain}
 use Rattle.forest.specs.Limits.{mostNonTerminals}
 
 -- The list begins with rules that derive the terms T from the forms P, where those of `seen` were used at the place of the first tree; `rest` follows them.

@@ -5,7 +5,7 @@ use mathlib.Core.List.{List}
 use mathlib.Core.Path.{_≡_}
 use lib.ListN.{length}
 use Rattle.forest.specs.Limits.{areaSize}
-use Rattle.derivation.specs.code.Derive.{NotDerived, Shown as ShownIn}
+use Rattle.searching.specs.code.Derive.{NotDerived, Shown as ShownIn}
 use Rattle.script.specs.Script.{Known}
 use Rattle.script.specs.code.Places.{offsetIn}
 use Rattle.script.specs.declared.Progress.{Progress}

@@ -1,0 +1,15 @@
+pub mod Rank
+pub mod LeastParts
+pub mod RuleWalk
+pub mod Parts
+pub mod Pricing
+pub mod Uses
+pub mod Closed
+pub mod Members
+pub mod Sweep
+pub mod Trail
+pub mod Track
+pub mod Whole
+pub mod Top
+pub mod Copying
+pub mod One
