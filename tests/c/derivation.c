@@ -1,8 +1,9 @@
-/* How the time to search for the least derivation grows, on the slowest grammar known: 16 non-terminals, each the last rule of the one before it, and only the
-   last of them derives a node by itself, so that a node takes 16 turns, each of which goes through the prices of all rules. All other rules have seven nodes and
-   differ from the body in the last of them only; each is matched with a node once. Every list shown has 16 entries a node, the most there are. A call is measured with two
-   such functions; the time of the same call with bodies of one node is taken off, which leaves the search and the reading of the bodies. Prints that time, of
-   the shortest of 20 calls each, and its ratio to the time with half the nodes, and with half the rules. */
+/* How the time to search for the least derivation grows, on the slowest grammar known: 16 non-terminals, each the last rule of the one before it, and only
+   the last of them derives a node by itself, so that a node takes 16 turns, each of which goes through the rules that are chain rules or have a price there.
+   All other rules have seven nodes and differ from the body in the last of them only; each is matched with a node once. Every list shown has 16 entries a
+   node, the most there are. A call is measured with two such functions; the time of the same call with bodies of one node is taken off, which leaves the
+   search and the reading of the bodies. Prints that time, of the shortest of 20 calls each, and its ratio to the time with half the nodes, and with half the
+   rules. */
 #include <time.h>
 
 #include "calls.h"

@@ -1,4 +1,5 @@
--- Which derivation is shown: "of least total weight among all of any length, then with fewest rules, then with the least rule numbers at the first difference".
+-- Which derivation is shown: "of least total weight among all of any length, then with fewest rules, then with the least rule numbers at the first difference"
+-- (E13).
 use mathlib.Core.Path.{_≡_}
 use mathlib.Core.Logic.{_⊎_}
 use Prim.Native.Nat.{ℕ, _+_, _<_}

@@ -8,8 +8,8 @@ use Rattle.forest.specs.Lists.{among}
 use Rattle.terms.specs.Labels.{Terms}
 use Rattle.derivation.specs.Derivation.{Derives, Grammar, Item, Rule, anyArgument, anyLiteral, nonTerminal, rule, the}
 
--- Whether a node of a rule has something to stand for it, where the non-terminals of `found` derive a term: "`(Variable σ)` with no argument of that sort counts
--- for nothing"; literals are there of every sort.
+-- Whether a node of a rule has something to stand for it, where the non-terminals of `found` derive a term: "`(Variable σ)` with no argument of that sort
+-- counts for nothing"; literals are there of every sort.
 abbrev pub nodeYields : (arguments found : List ℕ) → Item → Bool
 nodeYields arguments found (the l) = true
 nodeYields arguments found (nonTerminal A) = among A found

@@ -15,7 +15,7 @@ use terms::value_at;
 // A rank is a weight times this, and a count of rules.
 pub const PER_WEIGHT: u64 = 2 * LIST as u64;
 
-// The rank of the least list that a rule, which is no chain rule, begins at a node of the body, given the masks past it; 0 if the rule does not derive the node.
+// The rank of the least list that a rule, which is no chain rule, begins at a node of the body, given the masks past it; 0 if it does not derive the node.
 pub(crate) fn rank_of(
     rules: &[u64],
     forms: &[u64],

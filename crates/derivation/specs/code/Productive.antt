@@ -1,4 +1,4 @@
--- What the search for the non-terminals that derive a term asks and gives.
+-- What finding the non-terminals that derive a term asks and gives.
 use Prim.Native.Nat.{ℕ, _<_, _≤_}
 use mathlib.Core.Bool.{Bool, true, false, cond, _&&_, not}
 use mathlib.Core.List.{List, _∷_}
@@ -89,8 +89,8 @@ pub record FirstOut (found : List ℕ) (n A : ℕ) : Type 0 where
 abbrev pub FindsDead : (rules forms arguments : List ℕ) → (n A : ℕ) → Type 0
 FindsDead rules forms arguments n A = (t : AsksDead rules forms arguments n) → FirstOut (productive (t .tabled .G) n) n A
 
--- "A non-terminal is refused exactly if it derives no term" (E9): the non-terminals that are found are those that derive a term. It holds of grammars as they are
--- read: one tree a rule, non-terminals and patterns without operands, patterns of at most 64 bits, heads below n.
+-- "A non-terminal is refused exactly if it derives no term" (E9): the non-terminals that are found are those that derive a term. It holds of grammars as they
+-- are read: one tree a rule, non-terminals and patterns without operands, patterns of at most 64 bits, heads below n.
 pub record Productive (G : Grammar) (n : ℕ) : Type 0 where
   pub found-derives : (A : ℕ) → among A (productive G n) ≡ true → DerivesSome G A
   pub derives-found : (A : ℕ) → DerivesSome G A → among A (productive G n) ≡ true
