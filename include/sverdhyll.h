@@ -220,7 +220,7 @@ enum {
 
    The list has four numbers a step, from area[0] on: operands in their order, the operator after them. area[4 * count] and what is behind it stay as they were
    lent; so does the whole area after any answer but 0. Run on arguments of the function's sorts, in their order, the list ends with the body's value alone on
-   the stack, and never has more than 256 values on it. */
+   the stack, and never has more than 255 values on it. */
 uint8_t sverdhyll_steps(const uint8_t *script, size_t script_len, const uint8_t *response, size_t response_len, const uint64_t *points, size_t points_len,
                         uint64_t budget, uint64_t function, uint64_t *area, size_t area_len, size_t *count, uint64_t answer[SVERDHYLL_ANSWER]);
 
@@ -228,7 +228,8 @@ uint8_t sverdhyll_steps(const uint8_t *script, size_t script_len, const uint8_t 
    those who build one.
 
    A sort is 0 for Bool, else a width from 1 to 64; sorts[k] is the sort of arguments[k], and a Bool is 0 or 1. There may be any number of arguments and of
-   steps; the stack, which is empty at first, holds at most 256 values. A step has four numbers:
+   steps; the stack, which is empty at first, holds at most 256 values. `steps_len` is how many numbers there are, four for each step: 4 * count for a list of
+   sverdhyll_steps. A step has four numbers:
 
    | First | Meaning       | Second                       | Third                            | Fourth               |
    |-------|---------------|------------------------------|----------------------------------|----------------------|
