@@ -88,7 +88,7 @@ held-none = record {
 
 -- Step k and those behind it, where it is whole.
 step-next : (steps : List ℕ) (k : ℕ) → k < length steps / 4
-    → drop (4 * k) steps ≡ stepIn steps k .kind ∷ stepIn steps k .first ∷ stepIn steps k .second ∷ stepIn steps k .third ∷ drop (4 * (k + 1)) steps
+    → drop (4 * k) steps ≡ stepIn steps k .first ∷ stepIn steps k .second ∷ stepIn steps k .third ∷ stepIn steps k .fourth ∷ drop (4 * (k + 1)) steps
 step-next steps k h =
     let whole : 4 * k + 3 < length steps = omega arith in
     let one : 4 * k + 1 + 1 ≡ 4 * k + 2 = omega arith in
@@ -101,28 +101,28 @@ step-next steps k h =
     ∙ ap (λ (n : ℕ). getD steps (4 * k + 3) 0 ∷ drop n steps) three)))
 
 -- The steps before k are run, and gave the stack that the tables hold.
-pub record Reached (sorts arguments steps values kinds : List ℕ) (top k : ℕ) : Type 0 where
+pub record Reached (sorts arguments steps values stackSorts : List ℕ) (top k : ℕ) : Type 0 where
   pub stack : List Value
-  pub held : Held values kinds top stack
+  pub held : Held values stackSorts top stack
   pub low : k ≤ length steps / 4
   pub so-far : runFrom (asValues sorts arguments) k (drop (4 * k) steps) stack ≡ runFrom (asValues sorts arguments) 0 steps []
 
 -- Nothing is run at the start.
-pub reached-none : (sorts arguments steps : List ℕ) {values kinds : List ℕ} → values ≡ noValues → kinds ≡ noValues
-    → Reached sorts arguments steps values kinds 0 0
+pub reached-none : (sorts arguments steps : List ℕ) {values stackSorts : List ℕ} → values ≡ noValues → stackSorts ≡ noValues
+    → Reached sorts arguments steps values stackSorts 0 0
 reached-none sorts arguments steps a b = record { stack = []; held = rw (a, b) held-none; low = omega arith; so-far = refl }
 
 -- A step that is refused, or not.
-refused-none : {values kinds : List ℕ} {top : ℕ} {m : Option (List Value)} → Stepped values kinds top m → top ≡ refused → m ≡ nothing
+refused-none : {values stackSorts : List ℕ} {top : ℕ} {m : Option (List Value)} → Stepped values stackSorts top m → top ≡ refused → m ≡ nothing
 refused-none (not-done q) h = refl
 refused-none (done held) h = absurd (omega (arith, held .most))
 
-pub record Went (values kinds : List ℕ) (top : ℕ) (m : Option (List Value)) : Type 0 where
+pub record Went (values stackSorts : List ℕ) (top : ℕ) (m : Option (List Value)) : Type 0 where
   pub stack : List Value
   pub is : m ≡ some stack
-  pub held : Held values kinds top stack
+  pub held : Held values stackSorts top stack
 
-went : {values kinds : List ℕ} {top : ℕ} {m : Option (List Value)} → Stepped values kinds top m → (top ≡ refused → ⊥) → Went values kinds top m
+went : {values stackSorts : List ℕ} {top : ℕ} {m : Option (List Value)} → Stepped values stackSorts top m → (top ≡ refused → ⊥) → Went values stackSorts top m
 went (not-done q) n = absurd (n q)
 went (done {stack = stack} held) n = record { stack = stack; is = refl; held = held }
 
@@ -146,24 +146,24 @@ first-of : (l : List ℕ) (x : ℕ) → take 1 l ≡ x ∷ [] → getD l 0 0 ≡
 first-of l x e = sym (getD-take 1 l 0 0 (omega arith)) ∙ ap (λ (m : List ℕ). getD m 0 0) e
 
 -- A stack of one value.
-single : {values kinds : List ℕ} (st : List Value) → Held values kinds 1 st → st ≡ value (getD kinds 0 0) (getD values 0 0) ∷ []
+single : {values stackSorts : List ℕ} (st : List Value) → Held values stackSorts 1 st → st ≡ value (getD stackSorts 0 0) (getD values 0 0) ∷ []
 unfolding turned
 single [] h = absurd (omega (arith, h .counted))
-single {values} {kinds} (v ∷ []) h = rw (first-of values (v .number) (h .numbers-are), first-of kinds (v .sort) (h .sorts-are))
+single {values} {stackSorts} (v ∷ []) h = rw (first-of values (v .number) (h .numbers-are), first-of stackSorts (v .sort) (h .sorts-are))
 single (v ∷ u ∷ more) h = absurd (omega (arith, h .counted))
 
-module _ {sorts arguments steps values kinds : List ℕ} {top k : ℕ} (fit : AllFit sorts arguments) (s : Reached sorts arguments steps values kinds top k) where
+module _ {sorts arguments steps values stackSorts : List ℕ} {top k : ℕ} (fit : AllFit sorts arguments) (s : Reached sorts arguments steps values stackSorts top k) where
   -- A step can be run.
-  pub prepared : Prepared sorts arguments values kinds top
+  pub prepared : Prepared sorts arguments values stackSorts top
   prepared = record { fit = fit; ready = record { stack = s .stack; held = s .held } }
 
-  module _ (h : k < length steps / 4) {step : Step} (step-is : step ≡ stepIn steps k) {values′ kinds′ : List ℕ} {top′ : ℕ}
-      (one : OneStep sorts arguments step values kinds values′ kinds′ top top′) where
+  module _ (h : k < length steps / 4) {step : Step} (step-is : step ≡ stepIn steps k) {values′ stackSorts′ : List ℕ} {top′ : ℕ}
+      (one : OneStep sorts arguments step values stackSorts values′ stackSorts′ top top′) where
     -- What it gives.
     abbrev outcome : Option (List Value)
-    outcome = stepOn (asValues sorts arguments) (step .kind) (step .first) (step .second) (step .third) (s .stack)
+    outcome = stepOn (asValues sorts arguments) (step .first) (step .second) (step .third) (step .fourth) (s .stack)
 
-    gave : Stepped values′ kinds′ top′ outcome
+    gave : Stepped values′ stackSorts′ top′ outcome
     unfolding prepared
     gave = one prepared
 
@@ -180,7 +180,7 @@ module _ {sorts arguments steps values kinds : List ℕ} {top k : ℕ} (fit : Al
         ap (endedWith n) stops
 
     -- The step is done.
-    pub step-done : (top′ ≡ refused → ⊥) → Reached sorts arguments steps values′ kinds′ top′ (k + 1)
+    pub step-done : (top′ ≡ refused → ⊥) → Reached sorts arguments steps values′ stackSorts′ top′ (k + 1)
     step-done q =
         let w = went gave q in
         record { stack = w .stack; held = w .held; low = omega arith; so-far = rw (w .is) at goes }
@@ -205,7 +205,7 @@ module _ {sorts arguments steps values kinds : List ℕ} {top k : ℕ} (fit : Al
 
     -- One value is left.
     pub value-alone : eqb (length steps % 4) 0 && eqb top 1 ≡ true
-        → record { number = 0; place = 0; value = value (getD kinds 0 0) (getD values 0 0) }
+        → record { number = 0; place = 0; value = value (getD stackSorts 0 0) (getD values 0 0) }
         ≡ endedWith (length steps / 4) (runFrom (asValues sorts arguments) 0 steps [])
     value-alone q =
         let none-cut = eqb-true (length steps % 4) 0 (and-left (eqb (length steps % 4) 0) (eqb top 1) q) in

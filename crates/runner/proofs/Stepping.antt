@@ -60,33 +60,33 @@ none-used true true h = (refl, refl)
 none-used true false h = apart (sym h)
 none-used false b h = apart (sym h)
 
-module _ {sorts arguments values kinds : List ℕ} {top : ℕ} (s : Step) (e : Prepared sorts arguments values kinds top) where
+module _ {sorts arguments values stackSorts : List ℕ} {top : ℕ} (s : Step) (e : Prepared sorts arguments values stackSorts top) where
   -- An unused number that is not 0.
-  pub argument-malformed : not (eqb (s .second) 0) || not (eqb (s .third) 0) ≡ true
-      → Stepped values kinds refused (argumentOn (asValues sorts arguments) s (e .ready .stack))
+  pub argument-malformed : not (eqb (s .third) 0) || not (eqb (s .fourth) 0) ≡ true
+      → Stepped values stackSorts refused (argumentOn (asValues sorts arguments) s (e .ready .stack))
   argument-malformed h =
-      rw (one-used (ltb (s .first) (length (asValues sorts arguments))) (eqb (s .second) 0) (eqb (s .third) 0) h) (not-done refl)
+      rw (one-used (ltb (s .second) (length (asValues sorts arguments))) (eqb (s .third) 0) (eqb (s .fourth) 0) h) (not-done refl)
 
   -- An argument that is not there.
-  pub argument-missing : length arguments ≤ s .first → Stepped values kinds refused (argumentOn (asValues sorts arguments) s (e .ready .stack))
-  argument-missing h = rw (le-ltb (s .first) (length (asValues sorts arguments)) (omega (arith, given-length (e .fit) .1))) (not-done refl)
+  pub argument-missing : length arguments ≤ s .second → Stepped values stackSorts refused (argumentOn (asValues sorts arguments) s (e .ready .stack))
+  argument-missing h = rw (le-ltb (s .second) (length (asValues sorts arguments)) (omega (arith, given-length (e .fit) .1))) (not-done refl)
 
-  module _ (h : s .first < length arguments) where
+  module _ (h : s .second < length arguments) where
     -- One that is there.
-    pub argument-place : s .first < length sorts
+    pub argument-place : s .second < length sorts
     argument-place = omega (arith, given-length (e .fit) .0, given-length (e .fit) .1)
 
-    pub argument-pushable : Pushable values kinds top (value (getD sorts (s .first) 0) (getD arguments (s .first) 0))
-    argument-pushable = record { ready = e .ready; fit = fit-at (e .fit) (s .first) argument-place }
+    pub argument-pushable : Pushable values stackSorts top (value (getD sorts (s .second) 0) (getD arguments (s .second) 0))
+    argument-pushable = record { ready = e .ready; fit = fit-at (e .fit) (s .second) argument-place }
 
-    pub argument-pushed : {values′ kinds′ : List ℕ} {r : ℕ} → not (eqb (s .second) 0) || not (eqb (s .third) 0) ≡ false
-        → Pushing values kinds values′ kinds′ top (value (getD sorts (s .first) 0) (getD arguments (s .first) 0)) r
-        → Stepped values′ kinds′ r (argumentOn (asValues sorts arguments) s (e .ready .stack))
+    pub argument-pushed : {values′ stackSorts′ : List ℕ} {r : ℕ} → not (eqb (s .third) 0) || not (eqb (s .fourth) 0) ≡ false
+        → Pushing values stackSorts values′ stackSorts′ top (value (getD sorts (s .second) 0) (getD arguments (s .second) 0)) r
+        → Stepped values′ stackSorts′ r (argumentOn (asValues sorts arguments) s (e .ready .stack))
     unfolding argument-pushable
     argument-pushed u p =
-        let z = none-used (eqb (s .second) 0) (eqb (s .third) 0) u in
+        let z = none-used (eqb (s .third) 0) (eqb (s .fourth) 0) u in
         rw (
-          lt-ltb (s .first) (length (asValues sorts arguments)) (omega (arith, given-length (e .fit) .1)),
+          lt-ltb (s .second) (length (asValues sorts arguments)) (omega (arith, given-length (e .fit) .1)),
           z .0,
           z .1,
           sorts-given (e .fit),
@@ -94,93 +94,93 @@ module _ {sorts arguments values kinds : List ℕ} {top : ℕ} (s : Step) (e : P
         )
         (p argument-pushable)
 
-module _ {values kinds : List ℕ} {top : ℕ} (s : Step) (e : Ready values kinds top) where
+module _ {values stackSorts : List ℕ} {top : ℕ} (s : Step) (e : Ready values stackSorts top) where
   -- A constant with an unused number that is not 0.
-  pub constant-malformed : (s .third ≡ 0 → ⊥) → Stepped values kinds refused (constantOn s (e .stack))
-  constant-malformed h = rw (ne-eqb (s .third) 0 h, and-false) (not-done refl)
+  pub constant-malformed : (s .fourth ≡ 0 → ⊥) → Stepped values stackSorts refused (constantOn s (e .stack))
+  constant-malformed h = rw (ne-eqb (s .fourth) 0 h, and-false) (not-done refl)
 
-  module _ {t : Bool} (t-is : t ≡ fits (s .second) (s .first)) where
+  module _ {t : Bool} (t-is : t ≡ fits (s .third) (s .second)) where
     -- One that is no value of its sort.
-    pub constant-wrong : not t ≡ true → Stepped values kinds refused (constantOn s (e .stack))
-    constant-wrong h = let q : fits (s .second) (s .first) ≡ false = sym t-is ∙ not-true t h in rw q (not-done refl)
+    pub constant-wrong : not t ≡ true → Stepped values stackSorts refused (constantOn s (e .stack))
+    constant-wrong h = let q : fits (s .third) (s .second) ≡ false = sym t-is ∙ not-true t h in rw q (not-done refl)
 
     module _ (h : not t ≡ false) where
       -- One that is.
-      constant-fits : fits (s .second) (s .first) ≡ true
+      constant-fits : fits (s .third) (s .second) ≡ true
       constant-fits = sym t-is ∙ not-false t h
 
-      pub constant-pushable : Pushable values kinds top (value (s .second) (s .first))
+      pub constant-pushable : Pushable values stackSorts top (value (s .third) (s .second))
       constant-pushable =
-          let sort = leb (s .second) maxWidth in
-          let below = ltb (s .first) (valuesOf (s .second)) in
+          let sort = leb (s .third) maxWidth in
+          let below = ltb (s .second) (valuesOf (s .third)) in
           record {
             ready = e;
             fit = record {
-              sort = leb-true (s .second) maxWidth (and-left sort below constant-fits);
-              value = ltb-true (s .first) (valuesOf (s .second)) (and-right sort below constant-fits);
+              sort = leb-true (s .third) maxWidth (and-left sort below constant-fits);
+              value = ltb-true (s .second) (valuesOf (s .third)) (and-right sort below constant-fits);
             };
           }
 
-      pub constant-pushed : {values′ kinds′ : List ℕ} {r : ℕ} → s .third ≡ 0 → Pushing values kinds values′ kinds′ top (value (s .second) (s .first)) r
-          → Stepped values′ kinds′ r (constantOn s (e .stack))
+      pub constant-pushed : {values′ stackSorts′ : List ℕ} {r : ℕ} → s .fourth ≡ 0 → Pushing values stackSorts values′ stackSorts′ top (value (s .third) (s .second)) r
+          → Stepped values′ stackSorts′ r (constantOn s (e .stack))
       unfolding constant-pushable
-      constant-pushed u p = rw (constant-fits, eq-eqb (s .third) 0 u) (p constant-pushable)
+      constant-pushed u p = rw (constant-fits, eq-eqb (s .fourth) 0 u) (p constant-pushable)
 
   -- `extract`
-  pub cut-applied : {values′ kinds′ : List ℕ} {r : ℕ} → s .first ≡ extractNumber
-      → Applying (s .first) (s .second) (s .third) 1 values kinds values′ kinds′ top r → Stepped values′ kinds′ r (operatorOn s (e .stack))
-  cut-applied h p = rw (eq-eqb (s .first) _ (h ∙ sym extract-is)) (p e)
+  pub cut-applied : {values′ stackSorts′ : List ℕ} {r : ℕ} → s .second ≡ extractNumber
+      → Applying (s .second) (s .third) (s .fourth) 1 values stackSorts values′ stackSorts′ top r → Stepped values′ stackSorts′ r (operatorOn s (e .stack))
+  cut-applied h p = rw (eq-eqb (s .second) _ (h ∙ sym extract-is)) (p e)
 
-  module _ (n : s .first ≡ extractNumber → ⊥) where
+  module _ (n : s .second ≡ extractNumber → ⊥) where
     -- Another operator with an unused number that is not 0.
-    pub operator-malformed : (s .third ≡ 0 → ⊥) → Stepped values kinds refused (operatorOn s (e .stack))
-    operator-malformed h = rw (ne-eqb (s .first) _ (λ q. n (q ∙ extract-is)), ne-eqb (s .third) 0 h) (not-done refl)
+    pub operator-malformed : (s .fourth ≡ 0 → ⊥) → Stepped values stackSorts refused (operatorOn s (e .stack))
+    operator-malformed h = rw (ne-eqb (s .second) _ (λ q. n (q ∙ extract-is)), ne-eqb (s .fourth) 0 h) (not-done refl)
 
     -- Another operator.
-    pub operator-applied : {values′ kinds′ : List ℕ} {r : ℕ} → s .third ≡ 0 → Applying (s .first) 0 0 (s .second) values kinds values′ kinds′ top r
-        → Stepped values′ kinds′ r (operatorOn s (e .stack))
-    operator-applied h p = rw (ne-eqb (s .first) _ (λ q. n (q ∙ extract-is)), eq-eqb (s .third) 0 h) (p e)
+    pub operator-applied : {values′ stackSorts′ : List ℕ} {r : ℕ} → s .fourth ≡ 0 → Applying (s .second) 0 0 (s .third) values stackSorts values′ stackSorts′ top r
+        → Stepped values′ stackSorts′ r (operatorOn s (e .stack))
+    operator-applied h p = rw (ne-eqb (s .second) _ (λ q. n (q ∙ extract-is)), eq-eqb (s .fourth) 0 h) (p e)
 
 -- What a step does, by its kind.
 module _ (arguments : List Value) (s : Step) (stack : List Value) where
   abbrev on : Option (List Value)
-  on = stepOn arguments (s .kind) (s .first) (s .second) (s .third) stack
+  on = stepOn arguments (s .first) (s .second) (s .third) (s .fourth) stack
 
-  argument-on : s .kind ≡ pushArgument → on ≡ argumentOn arguments s stack
+  argument-on : s .first ≡ pushArgument → on ≡ argumentOn arguments s stack
   unfolding stepOn
-  argument-on h = rw (eq-eqb (s .kind) pushArgument h)
+  argument-on h = rw (eq-eqb (s .first) pushArgument h)
 
-  module _ (a : s .kind ≡ pushArgument → ⊥) where
-    constant-on : s .kind ≡ pushConstant → on ≡ constantOn s stack
+  module _ (a : s .first ≡ pushArgument → ⊥) where
+    constant-on : s .first ≡ pushConstant → on ≡ constantOn s stack
     unfolding stepOn
-    constant-on h = rw (ne-eqb (s .kind) pushArgument a, eq-eqb (s .kind) pushConstant h)
+    constant-on h = rw (ne-eqb (s .first) pushArgument a, eq-eqb (s .first) pushConstant h)
 
-    module _ (b : s .kind ≡ pushConstant → ⊥) where
-      operator-on : s .kind ≡ applyOperator → on ≡ operatorOn s stack
+    module _ (b : s .first ≡ pushConstant → ⊥) where
+      operator-on : s .first ≡ applyOperator → on ≡ operatorOn s stack
       unfolding stepOn
-      operator-on h = rw (ne-eqb (s .kind) pushArgument a, ne-eqb (s .kind) pushConstant b, eq-eqb (s .kind) applyOperator h)
+      operator-on h = rw (ne-eqb (s .first) pushArgument a, ne-eqb (s .first) pushConstant b, eq-eqb (s .first) applyOperator h)
 
-      none-on : (s .kind ≡ applyOperator → ⊥) → on ≡ nothing
+      none-on : (s .first ≡ applyOperator → ⊥) → on ≡ nothing
       unfolding stepOn
-      none-on h = rw (ne-eqb (s .kind) pushArgument a, ne-eqb (s .kind) pushConstant b, ne-eqb (s .kind) applyOperator h)
+      none-on h = rw (ne-eqb (s .first) pushArgument a, ne-eqb (s .first) pushConstant b, ne-eqb (s .first) applyOperator h)
 
-module _ {sorts arguments values kinds : List ℕ} {top : ℕ} (s : Step) {values′ kinds′ : List ℕ} {r : ℕ} where
+module _ {sorts arguments values stackSorts : List ℕ} {top : ℕ} (s : Step) {values′ stackSorts′ : List ℕ} {r : ℕ} where
   -- An argument is pushed.
-  pub argument-step : s .kind ≡ pushArgument → ArgumentStep sorts arguments s values kinds values′ kinds′ top r
-      → OneStep sorts arguments s values kinds values′ kinds′ top r
+  pub argument-step : s .first ≡ pushArgument → ArgumentStep sorts arguments s values stackSorts values′ stackSorts′ top r
+      → OneStep sorts arguments s values stackSorts values′ stackSorts′ top r
   argument-step h p e = rw (argument-on (asValues sorts arguments) s (e .ready .stack) h) (p e)
 
-  module _ (a : s .kind ≡ pushArgument → ⊥) where
+  module _ (a : s .first ≡ pushArgument → ⊥) where
     -- A constant is pushed.
-    pub constant-step : s .kind ≡ pushConstant → ConstantStep s values kinds values′ kinds′ top r → OneStep sorts arguments s values kinds values′ kinds′ top r
+    pub constant-step : s .first ≡ pushConstant → ConstantStep s values stackSorts values′ stackSorts′ top r → OneStep sorts arguments s values stackSorts values′ stackSorts′ top r
     constant-step h p e = rw (constant-on (asValues sorts arguments) s (e .ready .stack) a h) (p (e .ready))
 
-    module _ (b : s .kind ≡ pushConstant → ⊥) where
+    module _ (b : s .first ≡ pushConstant → ⊥) where
       -- An operator is applied.
-      pub operator-step : s .kind ≡ applyOperator → OperatorStep s values kinds values′ kinds′ top r
-          → OneStep sorts arguments s values kinds values′ kinds′ top r
+      pub operator-step : s .first ≡ applyOperator → OperatorStep s values stackSorts values′ stackSorts′ top r
+          → OneStep sorts arguments s values stackSorts values′ stackSorts′ top r
       operator-step h p e = rw (operator-on (asValues sorts arguments) s (e .ready .stack) a b h) (p (e .ready))
 
       -- It is none of these.
-      pub no-step : (s .kind ≡ applyOperator → ⊥) → r ≡ refused → OneStep sorts arguments s values kinds values′ kinds′ top r
+      pub no-step : (s .first ≡ applyOperator → ⊥) → r ≡ refused → OneStep sorts arguments s values stackSorts values′ stackSorts′ top r
       no-step h q e = rw (none-on (asValues sorts arguments) s (e .ready .stack) a b h) (not-done q)

@@ -5,6 +5,7 @@ mod stack;
 use running::first_bad;
 use running::not_run;
 use running::run_list;
+use steps::BAD_ARGUMENT;
 use steps::StepsRan;
 ghost use mathlib.Core.Path.{_≡_};
 ghost use Rattle.steps.specs.Stack.{ran};
@@ -16,11 +17,11 @@ pub fn run_steps(sorts: &[u64], arguments: &[u64], steps: &[u64]) -> StepsRan
 {
     let count = arguments.len();
     if sorts.len() != count {
-        return not_run(20, count);
+        return not_run(BAD_ARGUMENT, count);
     }
     let bad = first_bad(sorts, arguments);
     if bad < count {
-        return not_run(20, bad);
+        return not_run(BAD_ARGUMENT, bad);
     }
     run_list(sorts, arguments, steps)
 }

@@ -6,6 +6,7 @@ use crate::stack::push;
 use operators::operators::EXTRACT;
 use operators::rules::MAX_WIDTH;
 use operators::sorting;
+use steps::BAD_STEP;
 use steps::Step;
 use steps::StepsRan;
 use steps::list::APPLY;
@@ -65,10 +66,10 @@ fn step_at(steps: &[u64], k: usize) -> Step
 {
     let start = STEP * k;
     Step {
-        kind: steps[start],
-        first: steps[start + 1],
-        second: steps[start + 2],
-        third: steps[start + 3],
+        first: steps[start],
+        second: steps[start + 1],
+        third: steps[start + 2],
+        fourth: steps[start + 3],
     }
 }
 
@@ -78,57 +79,65 @@ fn push_argument(
     arguments: &[u64],
     step: Step,
     values: &mut [u64],
-    kinds: &mut [u64],
+    stack_sorts: &mut [u64],
     top: usize,
 ) -> usize
-    requires { ⌜ Prepared (now sorts) (now arguments) (now values) (now kinds) top ⌝ }
-    ensures { λ r. ⌜ ArgumentStep (now (sorts .entry)) (now (arguments .entry)) step (now (values .entry)) (now (kinds .entry))
-        (now (values .exit)) (now (kinds .exit)) top r ⌝ }
+    requires { ⌜ Prepared (now sorts) (now arguments) (now values) (now «stack_sorts») top ⌝ }
+    ensures { λ r. ⌜ ArgumentStep (now (sorts .entry)) (now (arguments .entry)) step (now (values .entry)) (now («stack_sorts» .entry))
+        (now (values .exit)) (now («stack_sorts» .exit)) top r ⌝ }
 {
-    if (step.second != 0) | (step.third != 0) {
+    if (step.third != 0) | (step.fourth != 0) {
         return REFUSED;
     }
-    if arguments.len() as u64 <= step.first {
+    if arguments.len() as u64 <= step.second {
         return REFUSED;
     }
-    let place = step.first as usize;
+    let place = step.second as usize;
     let value = Value {
         sort: sorts[place],
         number: arguments[place],
     };
-    push(values, kinds, top, value)
+    push(values, stack_sorts, top, value)
 }
 
 // Pushes a constant.
-fn push_constant(step: Step, values: &mut [u64], kinds: &mut [u64], top: usize) -> usize
-    requires { ⌜ Ready (now values) (now kinds) top ⌝ }
-    ensures { λ r. ⌜ ConstantStep step (now (values .entry)) (now (kinds .entry)) (now (values .exit)) (now (kinds .exit)) top r ⌝ }
+fn push_constant(step: Step, values: &mut [u64], stack_sorts: &mut [u64], top: usize) -> usize
+    requires { ⌜ Ready (now values) (now «stack_sorts») top ⌝ }
+    ensures { λ r. ⌜ ConstantStep step (now (values .entry)) (now («stack_sorts» .entry)) (now (values .exit)) (now («stack_sorts» .exit)) top r ⌝ }
 {
-    if step.third != 0 {
+    if step.fourth != 0 {
         return REFUSED;
     }
-    if !is_value(step.second, step.first) {
+    if !is_value(step.third, step.second) {
         return REFUSED;
     }
     let value = Value {
-        sort: step.second,
-        number: step.first,
+        sort: step.third,
+        number: step.second,
     };
-    push(values, kinds, top, value)
+    push(values, stack_sorts, top, value)
 }
 
 // Applies an operator: `extract` by its two numbers, any other by how many operands it has.
-fn apply_step(step: Step, values: &mut [u64], kinds: &mut [u64], top: usize) -> usize
-    requires { ⌜ Ready (now values) (now kinds) top ⌝ }
-    ensures { λ r. ⌜ OperatorStep step (now (values .entry)) (now (kinds .entry)) (now (values .exit)) (now (kinds .exit)) top r ⌝ }
+fn apply_step(step: Step, values: &mut [u64], stack_sorts: &mut [u64], top: usize) -> usize
+    requires { ⌜ Ready (now values) (now «stack_sorts») top ⌝ }
+    ensures { λ r. ⌜ OperatorStep step (now (values .entry)) (now («stack_sorts» .entry)) (now (values .exit)) (now («stack_sorts» .exit)) top r ⌝ }
 {
-    if step.first == EXTRACT as u64 {
-        return apply_operator(step.first, step.second, step.third, 1, values, kinds, top);
+    if step.second == EXTRACT as u64 {
+        return apply_operator(
+            step.second,
+            step.third,
+            step.fourth,
+            1,
+            values,
+            stack_sorts,
+            top,
+        );
     }
-    if step.third != 0 {
+    if step.fourth != 0 {
         return REFUSED;
     }
-    apply_operator(step.first, 0, 0, step.second, values, kinds, top)
+    apply_operator(step.second, 0, 0, step.third, values, stack_sorts, top)
 }
 
 // One step.
@@ -137,23 +146,23 @@ fn one_step(
     arguments: &[u64],
     step: Step,
     values: &mut [u64],
-    kinds: &mut [u64],
+    stack_sorts: &mut [u64],
     top: usize,
 ) -> usize
-    requires { ⌜ Prepared (now sorts) (now arguments) (now values) (now kinds) top ⌝ }
-    ensures { λ r. ⌜ OneStep (now (sorts .entry)) (now (arguments .entry)) step (now (values .entry)) (now (kinds .entry))
-        (now (values .exit)) (now (kinds .exit)) top r ⌝ }
+    requires { ⌜ Prepared (now sorts) (now arguments) (now values) (now «stack_sorts») top ⌝ }
+    ensures { λ r. ⌜ OneStep (now (sorts .entry)) (now (arguments .entry)) step (now (values .entry)) (now («stack_sorts» .entry))
+        (now (values .exit)) (now («stack_sorts» .exit)) top r ⌝ }
 {
-    if step.kind == PUSH_ARGUMENT {
-        return push_argument(sorts, arguments, step, values, kinds, top);
+    if step.first == PUSH_ARGUMENT {
+        return push_argument(sorts, arguments, step, values, stack_sorts, top);
     }
-    if step.kind == PUSH_CONSTANT {
-        return push_constant(step, values, kinds, top);
+    if step.first == PUSH_CONSTANT {
+        return push_constant(step, values, stack_sorts, top);
     }
-    if step.kind != APPLY {
+    if step.first != APPLY {
         return REFUSED;
     }
-    apply_step(step, values, kinds, top)
+    apply_step(step, values, stack_sorts, top)
 }
 
 // Runs the steps of a list on arguments of these sorts.
@@ -164,7 +173,7 @@ pub fn run_list(sorts: &[u64], arguments: &[u64], steps: &[u64]) -> StepsRan
 {
     let whole = steps.len() / STEP;
     let mut values = no_values();
-    let mut kinds = no_values();
+    let mut stack_sorts = no_values();
     let mut top = 0;
     let mut k = 0;
     while k < whole {
@@ -173,17 +182,17 @@ pub fn run_list(sorts: &[u64], arguments: &[u64], steps: &[u64]) -> StepsRan
             arguments,
             step_at(steps, k),
             &mut values,
-            &mut kinds,
+            &mut stack_sorts,
             top,
         );
         if top == REFUSED {
-            return not_run(19, k);
+            return not_run(BAD_STEP, k);
         }
         k += 1;
     }
     if (steps.len() % STEP == 0) & (top == 1) {
         let value = Value {
-            sort: kinds[0],
+            sort: stack_sorts[0],
             number: values[0],
         };
         return StepsRan {
@@ -192,5 +201,5 @@ pub fn run_list(sorts: &[u64], arguments: &[u64], steps: &[u64]) -> StepsRan
             value: value,
         };
     }
-    not_run(19, whole)
+    not_run(BAD_STEP, whole)
 }

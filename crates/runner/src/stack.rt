@@ -21,15 +21,15 @@ pub fn no_values() -> [u64; VALUES]
 }
 
 // Puts a value on the stack, where there is room; returns how many it has then.
-pub fn push(values: &mut [u64], sorts: &mut [u64], top: usize, value: Value) -> usize
-    requires { ⌜ Pushable (now values) (now sorts) top value ⌝ }
-    ensures { λ r. ⌜ Pushing (now (values .entry)) (now (sorts .entry)) (now (values .exit)) (now (sorts .exit)) top value r ⌝ }
+pub fn push(values: &mut [u64], stack_sorts: &mut [u64], top: usize, value: Value) -> usize
+    requires { ⌜ Pushable (now values) (now «stack_sorts») top value ⌝ }
+    ensures { λ r. ⌜ Pushing (now (values .entry)) (now («stack_sorts» .entry)) (now (values .exit)) (now («stack_sorts» .exit)) top value r ⌝ }
 {
     if top == VALUES {
         return REFUSED;
     }
     values[top] = value.number;
-    sorts[top] = value.sort;
+    stack_sorts[top] = value.sort;
     top + 1
 }
 
@@ -53,22 +53,29 @@ pub fn apply_operator(
     low: u64,
     count: u64,
     values: &mut [u64],
-    sorts: &mut [u64],
+    stack_sorts: &mut [u64],
     top: usize,
 ) -> usize
-    requires { ⌜ Ready (now values) (now sorts) top ⌝ }
-    ensures { λ r. ⌜ Applying operator high low count (now (values .entry)) (now (sorts .entry)) (now (values .exit)) (now (sorts .exit)) top r ⌝ }
+    requires { ⌜ Ready (now values) (now «stack_sorts») top ⌝ }
+    ensures { λ r. ⌜ Applying operator high low count (now (values .entry)) (now («stack_sorts» .entry))
+        (now (values .exit)) (now («stack_sorts» .exit)) top r ⌝ }
 {
     if (top as u64) < count {
         return REFUSED;
     }
     let number = operator as usize;
     let base = top - count as usize;
-    if !has_sort(number, high, low, &sorts[base..top]) {
+    if !has_sort(number, high, low, &stack_sorts[base..top]) {
         return REFUSED;
     }
-    let value = value_of(number, high, low, &values[base..top], &sorts[base..top]);
+    let value = value_of(
+        number,
+        high,
+        low,
+        &values[base..top],
+        &stack_sorts[base..top],
+    );
     values[base] = value.number;
-    sorts[base] = value.sort;
+    stack_sorts[base] = value.sort;
     base + 1
 }

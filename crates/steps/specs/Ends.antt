@@ -15,7 +15,7 @@ use Rattle.terms.specs.declared.Value.{Value}
 use Rattle.steps.specs.Stack.{asValues, ended, finished, nodeCount, ran, runFrom, turned}
 use Rattle.steps.specs.Steps.{stepsOf, usesDefined}
 
--- A body that applies no function of the script and has a value over arguments of the right sorts.
+-- A body that applies no function of the script, has a value over arguments of the right sorts, and at most 256 nodes.
 pub record Body (sorts numbers : List ℕ) (t : Terms) : Type 0 where
   pub fit : AllFit sorts numbers
   pub small : nodeCount t ≤ mostNodes

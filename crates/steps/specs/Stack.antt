@@ -111,7 +111,8 @@ ran sorts arguments steps =
 abbrev pub nodeCount : Terms → ℕ
 nodeCount t = length (nodesOf t)
 
--- "the finished subterms whose parent is not finished, oldest lowest", after n steps: the oldest first.
+-- "the finished subterms whose parent is not finished, oldest lowest", after n steps: the oldest first. A subterm is finished when the step of its own node is
+-- done; its steps stand together, as many as it has nodes.
 unfoldable pub finished : (n : ℕ) → Terms → List Terms
 finished n none = []
 finished n (tree l ops rest) =

@@ -40,33 +40,33 @@ fn step_of(nodes: &[u64], node: usize) -> Step
     let head = head_of(code);
     if kind == LITERAL {
         return Step {
-            kind: PUSH_CONSTANT,
-            first: value,
-            second: head,
-            third: 0,
+            first: PUSH_CONSTANT,
+            second: value,
+            third: head,
+            fourth: 0,
         };
     }
     if kind == NAME {
         return Step {
-            kind: PUSH_ARGUMENT,
-            first: value,
-            second: 0,
+            first: PUSH_ARGUMENT,
+            second: value,
             third: 0,
+            fourth: 0,
         };
     }
     if head == EXTRACT as u64 {
         return Step {
-            kind: APPLY,
-            first: head,
-            second: high_in(value),
-            third: low_in(value),
+            first: APPLY,
+            second: head,
+            third: high_in(value),
+            fourth: low_in(value),
         };
     }
     Step {
-        kind: APPLY,
-        first: head,
-        second: operands_at(nodes, node),
-        third: 0,
+        first: APPLY,
+        second: head,
+        third: operands_at(nodes, node),
+        fourth: 0,
     }
 }
 
@@ -76,10 +76,10 @@ fn put_step(area: &mut [u64], place: usize, step: Step)
     ensures { λ _. ⌜ now (area .exit) ≡ sets (now (area .entry)) (stepWidth * place) (numbersOf step) ⌝ }
 {
     let start = STEP * place;
-    area[start] = step.kind;
-    area[start + 1] = step.first;
-    area[start + 2] = step.second;
-    area[start + 3] = step.third;
+    area[start] = step.first;
+    area[start + 1] = step.second;
+    area[start + 2] = step.third;
+    area[start + 3] = step.fourth;
 }
 
 // Writes the steps of the terms from node `start` up to node `stop` from step `at` on; returns the step past them.

@@ -20,12 +20,12 @@ abbrev pub stepWidth : ℕ
 stepWidth = 4
 
 -- A step by its four numbers.
-abbrev pub step : (kind first second third : ℕ) → Step
-step kind first second third = record { kind = kind; first = first; second = second; third = third }
+abbrev pub step : (first second third fourth : ℕ) → Step
+step first second third fourth = record { first = first; second = second; third = third; fourth = fourth }
 
 -- The four numbers of a step.
 abbrev pub numbersOf : Step → List ℕ
-numbersOf s = s .kind ∷ s .first ∷ s .second ∷ s .third ∷ []
+numbersOf s = s .first ∷ s .second ∷ s .third ∷ s .fourth ∷ []
 
 -- The step of a node, by its label's two numbers and how many operands it has.
 abbrev pub stepBy : (code value operands : ℕ) → Step

@@ -7,10 +7,10 @@ use Rattle.runner.proofs.running.run_list.Statement.{statement}
 use Rattle.runner.proofs.running.run_list.Tie as tie
 
 abbrev Inv-loop : tie.InvT-loop
-Inv-loop sorts arguments steps whole values₀ kinds₀ top₀ k₀ values kinds top k = Reached sorts arguments steps values kinds top k
+Inv-loop sorts arguments steps whole values₀ stackSorts₀ top₀ k₀ values stackSorts top k = Reached sorts arguments steps values stackSorts top k
 
 abbrev μ-loop : tie.MeasureT-loop
-μ-loop sorts arguments steps whole values₀ kinds₀ top₀ k₀ values kinds top k = length steps / 4 - k
+μ-loop sorts arguments steps whole values₀ stackSorts₀ top₀ k₀ values stackSorts top k = length steps / 4 - k
 
 no-values-requires : tie.Need-no-values-requires Inv-loop μ-loop
 no-values-requires c κs = tt

@@ -79,11 +79,11 @@ slice-write-values c =
     (c .before .before .before .before .before .before .before .before .before .if1 .left)
     (c .before .before .before .before .before .before .has-sort .ensures) (c .before .before .before .before .before .if2 .left) .0
 
-mul-sorts : tie.Need-mul-sorts
-mul-sorts c = search needs
+mul-stack-sorts : tie.Need-mul-stack-sorts
+mul-stack-sorts c = search needs
 
-slice-write-sorts : tie.Need-slice-write-sorts
-slice-write-sorts c =
+slice-write-stack-sorts : tie.Need-slice-write-stack-sorts
+slice-write-stack-sorts c =
     base-place (c .before .before .before .before .before .before .before .before .before .before .before .before .args .operator)
     (c .before .before .before .before .before .before .before .before .before .before .before .before .args .high)
     (c .before .before .before .before .before .before .before .before .before .before .before .before .args .low)
@@ -132,8 +132,8 @@ apply-operator-spec =
     value-of-requires
     mul-values
     slice-write-values
-    mul-sorts
-    slice-write-sorts
+    mul-stack-sorts
+    slice-write-stack-sorts
     add-result
     same-length-2
     same-length-3

@@ -12,11 +12,11 @@ mul-values c = search needs
 slice-write-values : tie.Need-slice-write-values
 slice-write-values c = search needs
 
-mul-sorts : tie.Need-mul-sorts
-mul-sorts c = search needs
+mul-stack-sorts : tie.Need-mul-stack-sorts
+mul-stack-sorts c = search needs
 
-slice-write-sorts : tie.Need-slice-write-sorts
-slice-write-sorts c = search needs
+slice-write-stack-sorts : tie.Need-slice-write-stack-sorts
+slice-write-stack-sorts c = search needs
 
 add-result : tie.Need-add-result
 add-result c = search needs
@@ -37,8 +37,8 @@ push-spec =
     returns
     mul-values
     slice-write-values
-    mul-sorts
-    slice-write-sorts
+    mul-stack-sorts
+    slice-write-stack-sorts
     add-result
     same-length
     same-length-2

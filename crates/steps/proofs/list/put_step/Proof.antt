@@ -46,7 +46,7 @@ same-length : tie.Need-same-length
 same-length c = search needs
 
 returns : tie.Need-returns
-returns c = put-four (c .args .area .now) (4 * c .args .place) (c .args .step .kind) (c .args .step .first) (c .args .step .second) (c .args .step .third)
+returns c = put-four (c .args .area .now) (4 * c .args .place) (c .args .step .first) (c .args .step .second) (c .args .step .third) (c .args .step .fourth)
 
 pub put-step-spec : {M : Type 1} → statement M
 put-step-spec =
