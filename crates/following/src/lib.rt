@@ -133,7 +133,6 @@ fn fit_rule(
             }
             next = found.at;
             here += size_at(body, here);
-            place += 1;
         } else {
             if !alike(forms, place, body, here) {
                 return Followed {
@@ -142,8 +141,8 @@ fn fit_rule(
                 };
             }
             here += 1;
-            place += 1;
         }
+        place += 1;
     }
     Followed { ok: true, at: next }
 }

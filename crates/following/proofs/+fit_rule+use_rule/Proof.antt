@@ -1,5 +1,6 @@
 use Prim.Native.Nat.{ℕ, _+_, _*_, _-_, _<_}
 use native.Mathlib.Omega.{arith}
+use mathlib.Core.Logic.{⊎-elim}
 use borrow.Author.Needs.{needs}
 use mathlib.Core.Path.{subst}
 use lib.ListN.{length}
@@ -114,25 +115,6 @@ fit-rule-add-here t c =
           (c .before .before .before .before .before .before .before .loop-test .taken) (c .size-at2 .ensures),
     )
 
-fit-rule-add-place : (t : ℕ) → fit-rule-lts.Need-add-place (fit-rule-calls t) (fit-rule-at t) fit-rule.Post fit-rule-Inv-loop fit-rule-μ-loop
-fit-rule-add-place t c =
-    omega (
-      arith,
-      turn-place (c .before .before .before .before .before .before .before .before .loop .inv)
-          (c .before .before .before .before .before .before .before .loop-test .taken),
-    )
-
-fit-rule-loop-less : (t : ℕ) → fit-rule-lts.Need-loop-less (fit-rule-calls t) (fit-rule-at t) fit-rule.Post fit-rule-Inv-loop fit-rule-μ-loop
-fit-rule-loop-less t c = omega arith
-
-fit-rule-loop-again : (t : ℕ) → fit-rule-lts.Need-loop-again (fit-rule-calls t) (fit-rule-at t) fit-rule.Post fit-rule-Inv-loop fit-rule-μ-loop
-fit-rule-loop-again t c =
-    turn-hole (c .before .before .before .before .before .before .before .before .loop .inv)
-    (c .before .before .before .before .before .before .before .loop-test .taken)
-    (c .before .before .before .before .before .before .code-at .ensures) (c .before .before .before .before .before .if1 .taken)
-    (c .before .before .before .before .value-at .ensures) (c .before .before .before .use-rule .ensures) (c .before .if2 .left)
-    (c .size-at2 .ensures)
-
 fit-rule-alike-requires : (t : ℕ) → fit-rule-lts.Need-alike-requires (fit-rule-calls t) (fit-rule-at t) fit-rule.Post fit-rule-Inv-loop fit-rule-μ-loop
 fit-rule-alike-requires t c κs = search needs
 
@@ -144,17 +126,21 @@ fit-rule-returns-2 t c =
 fit-rule-add-here-2 : (t : ℕ) → fit-rule-lts.Need-add-here-2 (fit-rule-calls t) (fit-rule-at t) fit-rule.Post fit-rule-Inv-loop fit-rule-μ-loop
 fit-rule-add-here-2 t c = omega (arith, turn-here (c .before .before .before .before .before .loop .inv) (c .before .before .before .before .loop-test .taken))
 
-fit-rule-add-place-2 : (t : ℕ) → fit-rule-lts.Need-add-place-2 (fit-rule-calls t) (fit-rule-at t) fit-rule.Post fit-rule-Inv-loop fit-rule-μ-loop
-fit-rule-add-place-2 t c =
-    omega (arith, turn-place (c .before .before .before .before .before .loop .inv) (c .before .before .before .before .loop-test .taken))
+fit-rule-add-place : (t : ℕ) → fit-rule-lts.Need-add-place (fit-rule-calls t) (fit-rule-at t) fit-rule.Post fit-rule-Inv-loop fit-rule-μ-loop
+fit-rule-add-place t c = omega (arith, turn-place (c .before .before .before .loop .inv) (c .before .before .loop-test .taken))
 
-fit-rule-loop-less-2 : (t : ℕ) → fit-rule-lts.Need-loop-less-2 (fit-rule-calls t) (fit-rule-at t) fit-rule.Post fit-rule-Inv-loop fit-rule-μ-loop
-fit-rule-loop-less-2 t c = omega arith
+fit-rule-loop-less : (t : ℕ) → fit-rule-lts.Need-loop-less (fit-rule-calls t) (fit-rule-at t) fit-rule.Post fit-rule-Inv-loop fit-rule-μ-loop
+fit-rule-loop-less t c = omega arith
 
-fit-rule-loop-again-2 : (t : ℕ) → fit-rule-lts.Need-loop-again-2 (fit-rule-calls t) (fit-rule-at t) fit-rule.Post fit-rule-Inv-loop fit-rule-μ-loop
-fit-rule-loop-again-2 t c =
-    turn-node (c .before .before .before .before .before .loop .inv) (c .before .before .before .before .loop-test .taken)
-    (c .before .before .before .code-at .ensures) (c .before .before .if1 .left) (c .before .alike .ensures) (c .if3 .left)
+fit-rule-loop-again : (t : ℕ) → fit-rule-lts.Need-loop-again (fit-rule-calls t) (fit-rule-at t) fit-rule.Post fit-rule-Inv-loop fit-rule-μ-loop
+fit-rule-loop-again t c =
+    let inv = c .before .before .before .loop .inv in
+    let more = c .before .before .loop-test .taken in
+    let code = c .before .code-at .ensures in
+    ⊎-elim
+    (λ w. rw (w .6, w .7) (turn-hole inv more code (w .0 .taken) (w .1 .ensures) (w .2 .ensures) (w .4 .left) (w .5 .ensures)))
+    (λ w. rw (w .3, w .4) (turn-node inv more code (w .0 .left) (w .1 .ensures) (w .2 .left)))
+    (c .if1 .came)
 
 fit-rule-returns-3 : (t : ℕ) → fit-rule-lts.Need-returns-3 (fit-rule-calls t) (fit-rule-at t) fit-rule.Post fit-rule-Inv-loop fit-rule-μ-loop
 fit-rule-returns-3 t c = search turn-end
@@ -192,15 +178,12 @@ pub +fit-rule+use-rule-spec : {M : Type 1} → statement M
     (fit-rule-returns t)
     (fit-rule-size-at-requires-2 t)
     (fit-rule-add-here t)
-    (fit-rule-add-place t)
-    (fit-rule-loop-less t)
-    (fit-rule-loop-again t)
     (fit-rule-alike-requires t)
     (fit-rule-returns-2 t)
     (fit-rule-add-here-2 t)
-    (fit-rule-add-place-2 t)
-    (fit-rule-loop-less-2 t)
-    (fit-rule-loop-again-2 t)
+    (fit-rule-add-place t)
+    (fit-rule-loop-less t)
+    (fit-rule-loop-again t)
     (fit-rule-returns-3 t))
     λ t. use-rule-lts.spec
     (use-rule-calls t)
