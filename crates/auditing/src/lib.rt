@@ -3,6 +3,7 @@ mod lists;
 mod reading;
 
 use crate::reading::audit_texts;
+use blocks::HEAD;
 use blocks::blocks_in;
 use blocks::reading::copy_part;
 use blocks::reading::file_fault;
@@ -25,9 +26,6 @@ ghost use lib.ListN.{length};
 ghost use Rattle.forest.specs.Limits.{responseBytes, scriptBytes};
 ghost use Rattle.evidence.specs.Evidence.{AuditForC, AuditGiven};
 ghost use Rattle.auditing.specs.code.Files.{FileTexts, TextRooms};
-
-// How many payload bytes hold the lengths of the texts and of the lists.
-const HEAD: usize = 24;
 
 // The answer on a file without a fault, whose texts are these, with what it carries.
 fn answer_texts(file: &[u8], script: &[u8], response: &[u8]) -> Answer

@@ -9,18 +9,21 @@ ghost use Rattle.blocks.specs.Blocks.{blocksIn, firstWrong, payloadIn, p
 ghost use Rattle.blocks.specs.code.Below.{wrongOr};
 
 // How many bytes a block has, and how many of them are payload.
-pub const BLOCK: usize = 512;
+pub(crate) const BLOCK: usize = 512;
 
-pub const PAY: usize = 510;
+pub(crate) const PAY: usize = 510;
+
+// How many payload bytes hold the lengths of the texts and of the lists.
+pub const HEAD: usize = 24;
 
 // The sum is held modulo this.
-pub const MODULUS: usize = 65521;
+pub(crate) const MODULUS: usize = 65521;
 
 // Where the next payload byte is written: its index in the file, how many payload bytes the open block has, and their sum.
-pub struct Place {
-    pub at: usize,
-    pub filled: usize,
-    pub sum: usize,
+pub(crate) struct Place {
+    pub(crate) at: usize,
+    pub(crate) filled: usize,
+    pub(crate) sum: usize,
 }
 
 // A byte as a number.
@@ -47,7 +50,7 @@ fn sum_at(file: &[u8], start: usize) -> usize
 }
 
 // Whether block `block` of a file is whole and holds its sum.
-pub fn right_block(file: &[u8], block: usize) -> bool
+fn right_block(file: &[u8], block: usize) -> bool
     ensures { λ r. ⌜ r ≡ rightBlock (now (file .entry)) block ⌝ }
 {
     if block >= file.len() / BLOCK {
@@ -73,7 +76,7 @@ pub fn blocks_in(file: &[u8]) -> usize
 }
 
 // The first block that is cut short or has a wrong sum; the number of blocks where there is none.
-pub fn first_wrong(file: &[u8]) -> usize
+pub(crate) fn first_wrong(file: &[u8]) -> usize
     ensures { λ r. ⌜ r ≡ wrongOr (blocksIn (now (file .entry))) (firstWrong (now (file .entry))) ⌝ }
 {
     let count = blocks_in(file);
@@ -88,7 +91,7 @@ pub fn first_wrong(file: &[u8]) -> usize
 }
 
 // Payload byte `place` of a file; 0 past the payload.
-pub fn pay_at(file: &[u8], place: usize) -> u8
+pub(crate) fn pay_at(file: &[u8], place: usize) -> u8
     ensures { λ r. ⌜ r ≡ getD (payloadIn (now (file .entry))) place 0 ⌝ }
 {
     let block = place / PAY;

@@ -1,5 +1,6 @@
 //! What the payload of an evidence file says: its lengths, its texts and its lists, and whether the file is filled as it must be.
 use crate::BLOCK;
+use crate::HEAD;
 use crate::PAY;
 use crate::blocks_in;
 use crate::first_wrong;
@@ -71,7 +72,7 @@ pub fn list_at(file: &[u8], function: usize) -> usize
     requires { ⌜ function ≤ mostFunctions ⌝ }
     ensures { λ r. ⌜ r ≡ listAt (now (file .entry)) function ⌝ }
 {
-    24 + script_length(file) + response_length(file) + 2 * rules_before(file, function)
+    HEAD + script_length(file) + response_length(file) + 2 * rules_before(file, function)
 }
 
 // Whether the payload bytes from `from` up to `end` are zeros.

@@ -1,5 +1,6 @@
 //! The writing of an evidence file: payload bytes one after the other, and behind every 510 of them their sum.
 use crate::BLOCK;
+use crate::HEAD;
 use crate::MODULUS;
 use crate::PAY;
 use crate::Place;
@@ -178,7 +179,7 @@ pub fn file_length(script: usize, response: usize, rules: usize) -> usize
     requires { ⌜ script + response + 2 * rules < 2 ^ 62 ⌝ }
     ensures { λ r. ⌜ r ≡ fileLength script response rules ⌝ }
 {
-    BLOCK * ((24 + script + response + 2 * rules + (PAY - 1)) / PAY)
+    BLOCK * ((HEAD + script + response + 2 * rules + (PAY - 1)) / PAY)
 }
 
 // Writes the lengths of the texts and of the lists.
