@@ -5,3 +5,4 @@ pub mod Bytes
 pub mod Exact
 pub mod Written
 pub mod Changed
+pub mod Sized

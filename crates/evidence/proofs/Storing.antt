@@ -30,6 +30,7 @@ use Rattle.outcome.proofs.ResponseFits.{response-fits}
 use Rattle.outcome.proofs.Script.{script-assured}
 use Rattle.outcome.proofs.Texts.{short-texts}
 use Rattle.blocks.specs.Layout.{Storable}
+use Rattle.blocks.specs.code.Lists.{rulesIn}
 use Rattle.evidence.specs.Evidence.{Fileable, Followed, eightLists}
 use Rattle.evidence.specs.Evidence.Followed.{absent, also, no-more}
 use Rattle.evidence.proofs.FewFunctions.{functions-few}
@@ -129,6 +130,12 @@ followed-bounded defs [] (b ∷ bs) admitted fit q = absurd fit
 followed-bounded defs (f ∷ fs) [] admitted fit q = absurd fit
 followed-bounded defs (f ∷ fs) (b ∷ bs) admitted fit (also {lists = lists} d q) =
     each-bounded lists (simple-bounded (admitted .0) (fit .1) d) (followed-bounded defs fs bs (admitted .1) (fit .2) q)
+
+-- They have so many rules at most.
+pub rules-most : (lists : List (List ℕ)) → ((i : ℕ) → Bounded (getD lists i [])) → rulesIn lists ≤ listSize * length lists
+unfolding rulesIn
+rules-most [] h = omega arith
+rules-most (ds ∷ more) h = omega (arith, h 0 .short, rules-most more (λ i. h (suc i)))
 
 -- The grammars in script order.
 admitted-last : (fs : List Function) (f : Function) → AllAdmitted fs → Admitted (f .grammar) → AllAdmitted (fs ++ f ∷ [])

@@ -16,7 +16,7 @@ use Rattle.blocks.specs.code.Shown.{areaOf, listWith, listsShown}
 use Rattle.blocks.proofs.Laid.{file-length, lists-shown}
 use Rattle.evidence.specs.Evidence.{Fileable, eightLists}
 use Rattle.outcome.proofs.Texts.{short-texts}
-use Rattle.evidence.proofs.Storing.{Bounded, eight-followed, eight-long, lists-bounded, shown-few, shown-followed}
+use Rattle.evidence.proofs.Storing.{Bounded, eight-followed, eight-long, lists-bounded, rules-most, shown-few, shown-followed}
 
 -- Lists one behind the other, each with its unused entries.
 lists-are : (lists : List (List ℕ)) → listsOf lists ≡ rows listWith lists
@@ -29,7 +29,7 @@ area-is : (lists : List (List ℕ)) → shownArea lists ≡ areaOf lists
 unfolding shownArea areaOf
 area-is lists = ap (λ (l : List ℕ). l ++ replicate (areaSize - length l) unused) (lists-are lists)
 
--- Lists that are not too long take so much room,
+-- Lists that are not too long take so much room.
 lists-long : (lists : List (List ℕ)) → ((i : ℕ) → length (getD lists i []) ≤ listSize) → length (rows listWith lists) ≡ listSize * length lists
 unfolding rows
 lists-long [] h = refl
@@ -42,12 +42,6 @@ lists-long (ds ∷ more) h =
       length-replicate {A = ℕ} (listSize - length ds) unused,
       lists-long more (λ i. h (suc i)),
     )
-
--- and have no more rules.
-rules-most : (lists : List (List ℕ)) → ((i : ℕ) → length (getD lists i []) ≤ listSize) → rulesIn lists ≤ listSize * length lists
-unfolding rulesIn
-rules-most [] h = omega arith
-rules-most (ds ∷ more) h = omega (arith, h 0, rules-most more (λ i. h (suc i)))
 
 module _ {script response : List ℕ} {k : Known} {bs : List Body} {lists : List (List ℕ)} (given : Fileable script response k bs lists) where
   -- Each list that is shown can be stored.
@@ -78,7 +72,7 @@ module _ {script response : List ℕ} {k : Known} {bs : List Body} {lists : List
   length-small =
       let both = short-texts script response (given .short) in
       let all = lists-bounded (given .accepted .passing) (eight-followed given) in
-      omega (arith, both .0, both .1, eight-long given, rules-most (eightLists lists) (λ i. all i .short))
+      omega (arith, both .0, both .1, eight-long given, rules-most (eightLists lists) all)
 
   -- and so long is the file.
   pub length-is : length (fileOf script response (eightLists lists)) ≡ fileLength (length script) (length response) (rulesIn (eightLists lists))
