@@ -2,7 +2,6 @@
 use mathlib.Core.Path.{_≡_, refl, sym, ap, _∙_}
 use mathlib.Core.Bool.{Bool, true, false, _&&_, true≢false}
 use Prim.Native.Nat.{ℕ, _+_, _-_, _/_, _%_, _<_, _≤_}
-use native.Mathlib.Nat.{mod-lt}
 use native.Mathlib.Decide.{decLt}
 use native.Mathlib.Omega.{arith}
 use mathlib.Core.List.{List, [], _∷_, _++_, append-cancel-left}
@@ -53,9 +52,10 @@ two-are : (X : List ℕ) → 512 ≤ length X → take 2 (drop 510 X) ≡ getD X
 two-are X h =
     ap (take 2) (drop-cons X 510 0 (omega arith) ∙ ap (λ (l : List ℕ). getD X 510 0 ∷ l) (drop-cons X 511 0 (omega arith)))
 
-sum-low : (pay : List ℕ) → sumOf pay < 65521
+-- two bytes hold the sum
+sum-low : (pay : List ℕ) → sumOf pay < 65536
 unfolding sumOf
-sum-low pay = mod-lt (sumFrom 1 pay) (omega arith)
+sum-low pay = omega arith
 
 and-end : (a b : Bool) → a && (b && true) ≡ a && b
 and-end true true = refl
@@ -108,7 +108,7 @@ module _ (X : List ℕ) (e : rightBytes X ≡ true) (bytes : (k : ℕ) → getD 
       ∙ tail-is (set X o b) f
       ∙ ap (λ (l : List ℕ). low 2 (sumOf l)) (take-set-lt 510 X o b h) in
       let m : sumOf pay ≡ sumOf (set pay o b) =
-      low-one (sumOf pay) (sumOf (set pay o b)) (omega (arith, sum-low pay)) (omega (arith, sum-low (set pay o b))) s in
+      low-one (sumOf pay) (sumOf (set pay o b)) (sum-low pay) (sum-low (set pay o b)) s in
       differ (1 + o) (getD pay o 0) b (sumFrom 1 pay) (sumFrom 1 (set pay o b)) (omega arith) (omega arith) (λ q. other (sym q ∙ g))
       (omega (arith, g, bytes o)) byte (sym (sum-set 1 pay o b (omega arith))) m
 
