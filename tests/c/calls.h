@@ -83,15 +83,15 @@ static inline int is_lent(size_t from, uint64_t lent)
     return 1;
 }
 
-/* The steps of a function's body, by `sverdhyll_steps`, at no points; `size` is said to be that of the area. */
-static inline struct answer steps_all(const char *script, size_t script_size, const char *response, size_t response_size, uint64_t budget, uint64_t function,
-                                      size_t size, size_t *count)
+/* The steps of a function's body, by `sverdhyll_steps`; `size` is said to be that of the area. */
+static inline struct answer steps_all(const char *script, size_t script_size, const char *response, size_t response_size, const uint64_t *points,
+                                      size_t points_count, uint64_t budget, uint64_t function, size_t size, size_t *count)
 {
     uint64_t n[SVERDHYLL_ANSWER];
     memset(n, 99, sizeof n);
     *count = 99;
-    const uint8_t number = sverdhyll_steps((const uint8_t *)script, script_size, (const uint8_t *)response, response_size, NULL, 0, budget, function, listed,
-                                           size, count, n);
+    const uint8_t number = sverdhyll_steps((const uint8_t *)script, script_size, (const uint8_t *)response, response_size, points, points_count, budget,
+                                           function, listed, size, count, n);
     return formed(number, n);
 }
 

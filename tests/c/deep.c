@@ -39,7 +39,7 @@ static void *read_texts(void *unused)
 static void *steps(void *unused)
 {
     size_t count;
-    given = steps_all(script.bytes, script.size, response.bytes, response.size, UINT64_MAX, 0, SVERDHYLL_STEPS_AREA, &count);
+    given = steps_all(script.bytes, script.size, response.bytes, response.size, NULL, 0, UINT64_MAX, 0, SVERDHYLL_STEPS_AREA, &count);
     return unused;
 }
 
