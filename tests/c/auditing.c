@@ -4,7 +4,7 @@
 
 #include "evidence.h"
 
-enum { STACK = 2 << 20, PAINT = 0xa5, LONG = 60000 };
+enum { STACK = 2 << 20, PAINT = 0xa5 };
 
 /* A function whose grammar has a ring: rule 0 is T, rule 1 (not S), rule 2 S, rule 3 true. */
 #define SCRIPT "(set-logic BV)(synth-fun f () Bool ((S Bool) (T Bool)) ((S Bool (T (not S))) (T Bool (S true))))(check-synth)"
@@ -141,10 +141,28 @@ static void texts(void)
     expect("the longest texts", SVERDHYLL_ACCEPTED, SVERDHYLL_NONE, 0);
 }
 
+/* Lists at their limits: one of 4,096 rules, the most that a derivation can have, one of a rule less or more, and one of as many rules as two bytes can say. */
+static void longest(void)
+{
+    make_chain();
+    make(chain_script.bytes, chain_response.bytes, chain_rules, LONGEST);
+    expect("a list of 4,096 rules", SVERDHYLL_ACCEPTED, SVERDHYLL_NONE, 0);
+    make(chain_script.bytes, chain_response.bytes, chain_rules, LONGEST + 1);
+    expect("a list of 4,097 rules", SVERDHYLL_NOT_FOLLOWED, SVERDHYLL_NONE, 0);
+    make(chain_script.bytes, chain_response.bytes, chain_rules, LONGEST - 1);
+    expect("a list of 4,095 rules", SVERDHYLL_NOT_FOLLOWED, SVERDHYLL_NONE, 0);
+    make(chain_script.bytes, chain_response.bytes, chain_rules, NUMBERED);
+    expect("a list of 65,535 rules", SVERDHYLL_NOT_FOLLOWED, SVERDHYLL_NONE, 0);
+    make(SCRIPT, RESPONSE, RULES(0, 3));
+    list(1, chain_rules, NUMBERED);
+    lay(SCRIPT, strlen(SCRIPT), RESPONSE, strlen(RESPONSE));
+    cut();
+    expect("a list of 65,535 rules for an absent function", SVERDHYLL_NOT_FOLLOWED, SVERDHYLL_NONE, 1);
+}
+
 /* Files of which a list is refused. */
 static void unfollowed(void)
 {
-    static uint16_t rules[LONG];
     make(SCRIPT, RESPONSE, RULES(0, 2, 0, 3));
     expect("E12.3: a non-terminal twice at one place", SVERDHYLL_NOT_FOLLOWED, SVERDHYLL_NONE, 0);
     make(SCRIPT, RESPONSE, RULES(0, 3, 3));
@@ -164,8 +182,6 @@ static void unfollowed(void)
     expect("E12.22: rules have their low byte first", SVERDHYLL_NOT_FOLLOWED, SVERDHYLL_NONE, 0);
     make(SCRIPT, RESPONSE, RULES(0, 65535));
     expect("a rule that is no entry", SVERDHYLL_NOT_FOLLOWED, SVERDHYLL_NONE, 0);
-    make(SCRIPT, RESPONSE, rules, LONG);
-    expect("a long list", SVERDHYLL_NOT_FOLLOWED, SVERDHYLL_NONE, 0);
 }
 
 /* All of them, on the thread. */
@@ -175,6 +191,7 @@ static void *all(void *unused)
     blocks();
     texts();
     unfollowed();
+    longest();
     return unused;
 }
 

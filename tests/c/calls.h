@@ -200,4 +200,31 @@ static inline void repeat(struct text *text, const char *piece, size_t times)
     while (times-- > 0) add(text, "%s", piece);
 }
 
+/* Makes a text so long with a comment. */
+static inline void pad(struct text *text, size_t size)
+{
+    memset(text->bytes + text->size, ';', size - text->size);
+    text->size = size;
+    text->bytes[size] = 0;
+}
+
+/* How many non-terminals a grammar may have, and how many operands a term of 256 nodes. */
+enum { CHAIN = 16, MOST_OPERANDS = 255 };
+
+/* Adds a function in whose derivation each node takes as many rules as it can, and an `and` of so many `t`s as its body: each non-terminal is the chain rule of the one
+   before it (rules 0 to 14), and the last has the rules `t` (15) and an `and` of so many of the first (16). */
+static inline void add_chain(struct text *script, struct text *response, const char *name, size_t operands)
+{
+    add(script, "(synth-fun %s () Bool (", name);
+    for (int i = 0; i < CHAIN; i++) add(script, "(A%d Bool)", i);
+    add(script, ") (");
+    for (int i = 0; i < CHAIN - 1; i++) add(script, "(A%d Bool (A%d))", i, i + 1);
+    add(script, "(A%d Bool (t (and", CHAIN - 1);
+    repeat(script, " A0", operands);
+    add(script, ")))))");
+    add(response, "(define-fun %s () Bool (and", name);
+    repeat(response, " t", operands);
+    add(response, "))");
+}
+
 #endif

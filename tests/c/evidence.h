@@ -2,11 +2,7 @@
 #ifndef EVIDENCE_H
 #define EVIDENCE_H
 
-#include <stdio.h>
-#include <stdlib.h>
-#include <string.h>
-
-#include "sverdhyll.h"
+#include "calls.h"
 
 enum { ROOM = SVERDHYLL_MOST_EVIDENCE + 4 * SVERDHYLL_BLOCK, HEAD = 24 };
 
@@ -86,6 +82,25 @@ static inline void make(const char *script, const char *response, const uint16_t
     list(0, rules, count);
     lay(script, strlen(script), response, strlen(response));
     cut();
+}
+
+/* The most rules that a list can have: 16 for each of 256 nodes. */
+enum { LONGEST = CHAIN * (MOST_OPERANDS + 1), NUMBERED = 65535 };
+
+/* A script and a response whose one function has a list of so many rules, and the list, with more rules behind it. */
+static struct text chain_script, chain_response;
+static uint16_t chain_rules[NUMBERED];
+
+/* Makes these. */
+static inline void make_chain(void)
+{
+    chain_script.size = chain_script.words = chain_response.size = chain_response.words = 0;
+    add(&chain_script, "(set-logic BV)(define-fun t () Bool true)");
+    add(&chain_response, "(");
+    add_chain(&chain_script, &chain_response, "f", MOST_OPERANDS);
+    add(&chain_script, "(check-synth)");
+    add(&chain_response, ")");
+    for (size_t i = 0; i < NUMBERED; i++) chain_rules[i] = i == CHAIN - 1 ? CHAIN : i % CHAIN;
 }
 
 #endif

@@ -2,7 +2,6 @@
    request E12 by their numbers; and that what it writes is accepted, whole and not with a byte changed. */
 #include <pthread.h>
 
-#include "calls.h"
 #include "evidence.h"
 
 enum { STACK = 2 << 20, PAINT = 0xa5, LENT = 77 };
@@ -90,22 +89,56 @@ static void files(void)
     cut();
     gives("E12.15: payload that ends with a block", script, ends, RESPONSE, strlen(RESPONSE), size, 5, 7);
     if (size != 2 * SVERDHYLL_BLOCK) failures++, printf("failed: two blocks\n");
+    make_chain();
+    make(chain_script.bytes, chain_response.bytes, chain_rules, LONGEST);
+    gives("a list of 4,096 rules", chain_script.bytes, chain_script.size, chain_response.bytes, chain_response.size, size, 0, 0);
 }
 
-/* Answers 1 to 13 and 17: nothing is written. */
+/* Two texts, and the answer to them. */
+struct pair {
+    uint8_t number;
+    const char *script, *response;
+};
+
+/* Answers 1 to 13, of the script and of the response where both can have it, and 17: nothing is written. */
 static void refusals(void)
 {
-    static const char *const texts[][2] = {
-        {SCRIPT, "((define-fun g () Bool true))"}, {SCRIPT, "fail"},     {SCRIPT, "infeasible"}, {"(set-logic BV)(foo)", RESPONSE}, {"00", RESPONSE},
-        {SCRIPT, "((define-fun f ((x (_ BitVec 8))) (_ BitVec 8) (bvsub x x))(define-fun g () Bool true))"},
-        {SCRIPT, "((define-fun f ((x (_ BitVec 8))) (_ BitVec 8) x)(define-fun g () Bool false))"},
+    static char script[SVERDHYLL_MOST_SCRIPT + 2], response[SVERDHYLL_MOST_RESPONSE + 2];
+    memset(script, ' ', sizeof script - 1);
+    memset(response, ' ', sizeof response - 1);
+#define F(body) "(define-fun f ((x (_ BitVec 8))) (_ BitVec 8) " body ")"
+#define G(body) "(define-fun g () Bool " body ")"
+    const struct pair pairs[] = {
+        {SVERDHYLL_TOO_LONG, script, RESPONSE},
+        {SVERDHYLL_TOO_LONG, SCRIPT, response},
+        {SVERDHYLL_BAD_WORD, "00", RESPONSE},
+        {SVERDHYLL_BAD_WORD, SCRIPT, "00"},
+        {SVERDHYLL_BRACKET, "(set-logic BV", RESPONSE},
+        {SVERDHYLL_BRACKET, SCRIPT, RESPONSE ")"},
+        {SVERDHYLL_PAST_LIMIT, "(set-logic BV)(declare-var v (_ BitVec 65))", RESPONSE},
+        {SVERDHYLL_PAST_LIMIT, SCRIPT, "(1234567890)"},
+        {SVERDHYLL_UNKNOWN_SHAPE, "(set-logic BV)(foo)", RESPONSE},
+        {SVERDHYLL_UNKNOWN_SHAPE, SCRIPT, "((foo))"},
+        {SVERDHYLL_NOT_CARRIED, "(set-logic LIA)", RESPONSE},
+        {SVERDHYLL_NOT_CARRIED, SCRIPT, "(|f|)"},
+        {SVERDHYLL_NAME, "(set-logic BV)(constraint w)", RESPONSE},
+        {SVERDHYLL_NAME, SCRIPT, "(" F("w") G("true") ")"},
+        {SVERDHYLL_SORT, "(set-logic BV)(constraint #b1)", RESPONSE},
+        {SVERDHYLL_SORT, SCRIPT, "(" F("true") G("true") ")"},
+        {SVERDHYLL_GRAMMAR, "(set-logic BV)(synth-fun f () Bool ((A Bool)) ((A Bool (A))))(check-synth)", RESPONSE},
+        {SVERDHYLL_FAIL, SCRIPT, "fail"},
+        {SVERDHYLL_INFEASIBLE, SCRIPT, "infeasible"},
+        {SVERDHYLL_HEADER, SCRIPT, "(" G("true") ")"},
+        {SVERDHYLL_NO_DERIVATION, SCRIPT, "(" F("(bvsub x x)") G("true") ")"},
+        {SVERDHYLL_NO_DERIVATION, SCRIPT, "(" F("x") G("false") ")"},
     };
     const size_t rooms[] = {0, SVERDHYLL_BLOCK - 1, SVERDHYLL_MOST_EVIDENCE};
-    for (size_t i = 0; i < sizeof texts / sizeof *texts; i++) {
-        const char *script = texts[i][0], *response = texts[i][1];
-        const struct answer own = answer_all(script, strlen(script), response, strlen(response), NULL, 0, UINT64_MAX, area, SVERDHYLL_AREA);
-        if (own.number == SVERDHYLL_ACCEPTED || own.number > SVERDHYLL_NO_DERIVATION) failed("a text that is refused", own, 0);
-        for (size_t j = 0; j < sizeof rooms / sizeof *rooms; j++) refused("E12.19, E12.21: the texts through 13, then the area", script, response, rooms[j], own);
+    for (size_t i = 0; i < sizeof pairs / sizeof *pairs; i++) {
+        const struct pair p = pairs[i];
+        const struct answer own = answer_all(p.script, strlen(p.script), p.response, strlen(p.response), NULL, 0, UINT64_MAX, area, SVERDHYLL_AREA);
+        if (own.number != p.number) failed("a text that is refused", own, 0);
+        for (size_t j = 0; j < sizeof rooms / sizeof *rooms; j++)
+            refused("E12.19, E12.21, E12.25: the texts through 13, then the area", p.script, p.response, rooms[j], own);
     }
     make(SCRIPT, RESPONSE, RULES(1, 0, 2));
     const size_t rooms_short[] = {0, 1, size / 2, size - 1};
