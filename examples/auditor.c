@@ -36,7 +36,7 @@ static int read_file(const char *name, struct bytes *into)
     return whole;
 }
 
-/* Prints what an answer says. */
+/* Prints what an answer says. Of 2 to 9 and 12 it has the line and the column in its text, of 1 how long the text is; 10 and 11 are the whole response. */
 static void print_verdict(const uint64_t answer[SVERDHYLL_ANSWER])
 {
     const char *text = answer[SVERDHYLL_TEXT] == SVERDHYLL_SCRIPT ? "script" : "response";
@@ -46,6 +46,9 @@ static void print_verdict(const uint64_t answer[SVERDHYLL_ANSWER])
     case SVERDHYLL_ACCEPTED: printf("accepted: its blocks are right, its texts pass, and its lists derive the bodies\n"); break;
     case SVERDHYLL_WRONG_BLOCK: printf("answer 21: block %lu is cut short, spare, or wrongly summed or filled, or the lengths are past the file\n", place); break;
     case SVERDHYLL_NOT_FOLLOWED: printf("answer 22: the list of function %lu does not derive its body, or there is no such function\n", place); break;
+    case SVERDHYLL_TOO_LONG: printf("answer 1: its %s is too long: %lu bytes\n", text, place); break;
+    case SVERDHYLL_FAIL:
+    case SVERDHYLL_INFEASIBLE: printf("answer %d: its %s\n", number, text); break;
     default: printf("answer %d: its %s, at %lu:%lu\n", number, text, (unsigned long)answer[SVERDHYLL_LINE], (unsigned long)answer[SVERDHYLL_COLUMN]);
     }
 }
