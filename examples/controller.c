@@ -1,15 +1,18 @@
 /* A small stack controller of its own, written from docs/STEPS.md: runs a stored list of steps on arguments and prints the value.
 
-     tools/link target/controller examples/controller.c target/staticlib/libchecker.a
-     tools/run target/controller examples/assumed.steps 8:40 8:10
+     cc -O2 -o target/controller examples/controller.c
+     target/controller examples/assumed.steps 8:40 8:10
 
-   An argument is its width, 0 for a Bool, a colon and its value. No function of the library is called: what a controller takes is the list alone. */
+   An argument is its width, 0 for a Bool, a colon and its value. Nothing of the library is called or linked: what a controller takes is the list alone.
+
+   It is for lists that `sverdhyll_steps` wrote (`./sverdhyll steps .. --numbers`), on arguments of the function's sorts: of these it is proved that every step finds what it
+   takes. A list from elsewhere needs the tests of docs/STEPS.md, "Running any list", most of which are not made here: `sverdhyll_run` makes them all. */
 #include <inttypes.h>
 #include <stdint.h>
 #include <stdio.h>
 #include <stdlib.h>
 
-enum { MOST_VALUES = 256, MOST_ARGUMENTS = 16, STEP = 4, PUSH_ARGUMENT = 1, PUSH_CONSTANT = 2, APPLY = 3, ITE = 7, EXTRACT = 22 };
+enum { MOST_VALUES = 256, MOST_ARGUMENTS = 16, MOST_WIDTH = 64, STEP = 4, PUSH_ARGUMENT = 1, PUSH_CONSTANT = 2, APPLY = 3, ITE = 7, EXTRACT = 22 };
 
 /* A value of so many bits; a Bool has the width 0. */
 struct value {
@@ -176,10 +179,14 @@ int main(int count, char **words)
     FILE *list = count > 1 ? fopen(words[1], "r") : NULL;
     if (list == NULL) stop("usage: controller STEPS WIDTH:VALUE..");
     for (int i = 2; i < count; i++) {
-        if (given == MOST_ARGUMENTS || sscanf(words[i], "%u:%" SCNu64, &arguments[given].width, &arguments[given].bits) != 2) stop("a wrong argument");
+        struct value *next = arguments + given;
+        if (given == MOST_ARGUMENTS || sscanf(words[i], "%u:%" SCNu64, &next->width, &next->bits) != 2) stop("a wrong argument");
+        if (next->width > MOST_WIDTH || next->bits > ones(next->width)) stop("an argument outside its sort");
         given++;
     }
-    while (fscanf(list, "%" SCNu64 "%" SCNu64 "%" SCNu64 "%" SCNu64, &step[0], &step[1], &step[2], &step[3]) == STEP) run(step);
+    int numbers;
+    while ((numbers = fscanf(list, "%" SCNu64 "%" SCNu64 "%" SCNu64 "%" SCNu64, &step[0], &step[1], &step[2], &step[3])) == STEP) run(step);
+    if (numbers != EOF || ferror(list)) stop("the list is cut short within a step, or holds something else than numbers");
     fclose(list);
     if (height != 1) stop("the list does not end with one value");
     printf("%" PRIu64 "\n", stack[0].bits);
