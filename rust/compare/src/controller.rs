@@ -85,10 +85,10 @@ pub fn counted(library: &mut Library, trial: &Trial) -> io::Result<Counted> {
     };
     if let Some(list) = listed {
         for _ in 0..RUNS {
-            if let Some(fault) = body_fault(library, trial, &list, &mut random)? {
-                return Ok(Err(fault));
+            match valued(library, trial, &list, &mut random)? {
+                Ok(found) => counts[6] += u64::from(found),
+                Err(fault) => return Ok(Err(fault)),
             }
-            counts[6] += 1;
         }
     }
     let run = foreign(random.number());
@@ -140,14 +140,14 @@ fn number_lacking(script: &[u8], function: u64) -> bool {
     function >= script.synthesized.len() as u64
 }
 
-/// What is wrong with a run of a body's list on random arguments: the value is another one than the simple runner's, or than the one that the proved checker
-/// finds in a constraint.
-fn body_fault(
+/// Whether the proved checker finds the value of a run of a body's list on random arguments in a constraint; or what is wrong with the run: the value is another one
+/// than the simple runner's, or than that.
+fn valued(
     library: &mut Library,
     trial: &Trial,
     list: &[u64],
     random: &mut Random,
-) -> io::Result<Option<String>> {
+) -> io::Result<Result<bool, String>> {
     let script = script::read(&trial.case.script).expect("a sound script after 0");
     let function = &script.synthesized[trial.asked.function as usize];
     let arguments = function.arguments.iter();
@@ -159,43 +159,40 @@ fn body_fault(
         steps: list.to_vec(),
     };
     if let Some(fault) = run_fault(library, &run)? {
-        return Ok(Some(fault));
+        return Ok(Err(fault));
     }
     match simple::steps::run(&run.sorts, &run.arguments, &run.steps) {
         Ok(value) if value.sort() == function.sort => {
-            value_fault(library, trial, function, &arguments, value)
+            found(library, trial, function, &arguments, value)
         }
-        other => Ok(Some(format!(
-            "the list of a body ran to {other:?}: {run:?}"
-        ))),
+        other => Ok(Err(format!("the list of a body ran to {other:?}: {run:?}"))),
     }
 }
 
-/// What is wrong with a value beside that of the proved checker: the constraint that the function has this value is not true, or that it has another one is not
-/// false.
-fn value_fault(
+/// Whether the proved checker finds a value: it does not where the constraint is past a limit of the script. Or what is wrong: the constraint that the function has
+/// this value is not true, or that it has another one is not false.
+fn found(
     library: &mut Library,
     trial: &Trial,
     function: &Synthesized,
     arguments: &[Value],
     value: Value,
-) -> io::Result<Option<String>> {
+) -> io::Result<Result<bool, String>> {
     let case = &trial.case;
     let other = Value::new(value.sort(), value.number() ^ 1);
     for (value, expected) in [(value, 0), (other, 14)] {
         let script = with_equation(&case.script, function, arguments, value);
-        let passes = simple::read(&script, &case.response).number;
-        if matches!(passes, 1 | 4) {
-            continue;
+        if matches!(simple::read(&script, &case.response).number, 1 | 4) {
+            return Ok(Ok(false));
         }
         let mut area = vec![0; AREA_LENGTH];
         let answer = library.check(&script, &case.response, &[], u64::MAX, &mut area)?;
         if answer.number != expected {
             let script = script.escape_ascii();
-            return Ok(Some(format!("{answer:?}, not {expected}, to {script}")));
+            return Ok(Err(format!("{answer:?}, not {expected}, to {script}")));
         }
     }
-    Ok(None)
+    Ok(Ok(true))
 }
 
 /// A script without its variables, assumptions and constraints, and with the constraint that a function has a value at arguments.

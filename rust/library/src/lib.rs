@@ -28,8 +28,8 @@
 //! sverdhyll = { path = "SVERDHYLL/rust/library" }
 //! ```
 //!
-//! The static library is x86-64 code. There it is linked and called, on the caller's stack, of which a call takes close to 2 MiB at the most: a thread of 2 MiB, Rust's
-//! default, suffices. On another machine one worker process for each [`Library`] holds it under an emulator, and this crate speaks with that process over
+//! The static library is x86-64 code. There it is linked and called, on the caller's stack, of which a call takes 1,619 KiB at the most (measured at the limits of all
+//! inputs, docs/MEASUREMENTS.md): a thread of 2 MiB, Rust's default, suffices. On another machine one worker process for each [`Library`] holds it under an emulator, and this crate speaks with that process over
 //! pipes. The worker ends with the process that started it, however that ends.
 
 #![deny(unsafe_code)]

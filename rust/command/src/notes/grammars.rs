@@ -9,8 +9,6 @@ use simple::script::{arguments, dead_at, grammar, rule_sort};
 use simple::terms::sort;
 use simple::tree::Tree;
 
-/// Of so many rules that lead nowhere it is said why.
-const MOST_RULES: usize = 8;
 /// A rule is shown in a sentence if it has at most so many bytes.
 const MOST_SHOWN: usize = 60;
 
@@ -46,25 +44,73 @@ fn start_fault(synth: &SynthFun, place: usize) -> Option<String> {
     missing.map(|pair| format!("the rules of {} are missing", pair.name))
 }
 
+/// Why a rule leads to no term, and the rules behind it of which the same is to be said.
+struct Reason<'a> {
+    rule: &'a Tree,
+    named: String,
+    lacks: String,
+    others: Vec<usize>,
+}
+
+impl Reason<'_> {
+    /// The note at the rule, which names the others too.
+    fn hint(&self) -> Hint {
+        let also = match &self.others[..] {
+            [] => String::new(),
+            [one] => format!("; the same holds for rule {one}"),
+            many => format!("; the same holds for rules {}", in_row(many)),
+        };
+        Hint::at(self.rule, format!("{} {}{also}", self.named, self.lacks))
+    }
+}
+
 /// A non-terminal that derives no term, and why each of its rules leads to none.
 fn dead(synth: &SynthFun, index: usize) -> Cause {
     let grammar = grammar(synth);
     let fruitful = grammar.fruitful(&arguments(&synth.header));
     let own = grammar.rules.iter().enumerate().filter(|(_, rule)| rule.nonterminal == index);
-    let reasons = own.map(|(number, rule)| match &rule.form {
-        Form::Term(term) => format!("{} {}", numbered(number, &rule.form), needs(&grammar, &fruitful, index, term)),
-        form => format!("rule {number}, {form}: {} has no argument of this sort", synth.header.name),
-    });
     let rules = synth.groups[index].rules;
-    let mut hints: Vec<Hint> = rules.iter().zip(reasons).map(|(rule, reason)| Hint::at(rule, reason)).take(MOST_RULES).collect();
-    if rules.len() > MOST_RULES {
-        hints.push(Hint::general(format!("{} rules more lead to no term either", rules.len() - MOST_RULES)));
+    let mut reasons: Vec<Reason> = Vec::new();
+    for (tree, (number, rule)) in rules.iter().zip(own) {
+        let (named, lacks) = match &rule.form {
+            Form::Term(term) => (numbered(number, &rule.form), needs(&grammar, &fruitful, index, term)),
+            form => (format!("rule {number}, {form}:"), format!("{} has no argument of this sort", synth.header.name)),
+        };
+        match reasons.iter_mut().find(|one| one.lacks == lacks) {
+            Some(same) => same.others.push(number),
+            None => reasons.push(Reason {
+                rule: tree,
+                named,
+                lacks,
+                others: Vec::new(),
+            }),
+        }
     }
     let name = synth.predeclared[index].name;
     let none = if rules.len() == 1 { "its rule does not lead" } else { "none of its rules leads" };
     Cause {
         sentence: Some(format!("the non-terminal {name} derives no term: {none} to one")),
-        hints,
+        hints: reasons.iter().map(Reason::hint).collect(),
+    }
+}
+
+/// Rising numbers in a row, of three or more that follow one another the first and the last.
+fn in_row(numbers: &[usize]) -> String {
+    let mut runs: Vec<(usize, usize)> = Vec::new();
+    for &number in numbers {
+        match runs.last_mut() {
+            Some((_, last)) if *last + 1 == number => *last = number,
+            _ => runs.push((number, number)),
+        }
+    }
+    let said = runs.iter().flat_map(|&(first, last)| match last - first {
+        0 => vec![first.to_string()],
+        1 => vec![first.to_string(), last.to_string()],
+        _ => vec![format!("{first} to {last}")],
+    });
+    match &said.collect::<Vec<String>>()[..] {
+        [before @ .., last] if !before.is_empty() => format!("{} and {last}", before.join(", ")),
+        said => said.concat(),
     }
 }
 
@@ -120,4 +166,22 @@ fn rule_fault(reading: &Reading, group: &Group) -> Option<String> {
         }
         (found, expected) => format!("this rule has the sort {found}, its non-terminal {name} has {expected}"),
     })
+}
+
+#[cfg(test)]
+mod tests {
+    use super::in_row;
+
+    #[test]
+    fn rows_of_numbers() {
+        for (numbers, said) in [
+            (vec![3], "3"),
+            (vec![3, 4], "3 and 4"),
+            (vec![3, 4, 5], "3 to 5"),
+            (vec![1, 3, 4, 6, 7, 8, 10], "1, 3, 4, 6 to 8 and 10"),
+            (vec![0, 1, 2, 9, 10, 11], "0 to 2 and 9 to 11"),
+        ] {
+            assert_eq!(in_row(&numbers), said);
+        }
+    }
 }
