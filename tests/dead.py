@@ -1,7 +1,7 @@
 """Cases of non-terminals that derive no term (request E9: "Refuse such a grammar with answer 9 at the first of them where predeclared, after the other causes of 9. A
 non-terminal is refused exactly if it derives no term; `(Variable σ)` with no argument of that sort counts for nothing."): rings, chains that take a pass for each
-non-terminal, `(Constant σ)` and `(Variable σ)`, terms past every limit, and a dead one beside every other fault."""
-from cases import TRUE, accepted, beside, bits, case, constraint, defined, function, named, refused, response, row, script
+non-terminal, `(Constant σ)` and `(Variable σ)`, terms past every limit, and a dead one beside every other fault; and bodies without a derivation, whose grammars pass."""
+from cases import TRUE, accepted, beside, bits, case, constraint, defined, function, named, refused, response, row, script, underived
 
 BYTE = bits(8)
 
@@ -131,7 +131,14 @@ def unused():
         dead(row(7, lambda i: of({"A": "true"}, name="f%d" % i)), of({"A": "true", "§B": "(=> B A)"}, name="f7"))])
 
 
+def alive():
+    """Bodies that no rule gives, where every non-terminal derives another term: in a ring of chain rules, and the name of a `define-fun` against `(Variable σ)`."""
+    both, p = "(x Bool) (y Bool)", "(p Bool)"
+    yield case(script(of({"A": "B", "B": "A x"}, both)), response(defined("f", both, "Bool", "§y")), underived(0), name="ring-underived")
+    yield case(script(defined("d"), of({"A": "(Variable Bool)"}, p)), response(defined("f", p, "Bool", "§d")), underived(0), name="variable-defined")
+
+
 def all_dead():
     """Every case of this file."""
-    for some in (rings, passes, large, patterns, words_of_rules, beside_others, unused):
+    for some in (rings, passes, large, patterns, words_of_rules, beside_others, unused, alive):
         yield from some()
