@@ -37,6 +37,16 @@ pub fn typical() -> Input {
     }
 }
 
+/// A script of nearly 4 KiB of the same kind, which is past the 2,048 bytes up to which the proved checker uses small tables.
+pub fn longer() -> Input {
+    Input {
+        script: include_bytes!("longer.sy").to_vec(),
+        response: include_bytes!("longer.response").to_vec(),
+        points: Vec::new(),
+        number: 0,
+    }
+}
+
 /// A script of so many blocks, with a variable and without points, so that nothing is evaluated.
 pub fn blocks(count: usize) -> Input {
     let mut script = BEGIN.to_string();
@@ -221,5 +231,16 @@ mod tests {
         assert!((65_500..=65_536).contains(&text.len()), "{}", text.len());
         assert!((4_000..=8_192).contains(&input.response.len()));
         assert!((1_024..=2_048).contains(&typical().script.len()));
+        assert!((3_900..=4_096).contains(&longer().script.len()));
+    }
+
+    #[test]
+    fn typical_texts_are_accepted_at_points() {
+        for input in [typical(), longer()] {
+            let mut area = vec![0; AREA_LENGTH];
+            let points = [0, 1, 7, 7, 0x8000_0000, 0xFFFF_FFFF];
+            let answer = check(&input.script, &input.response, &points, u64::MAX, &mut area);
+            assert_eq!((answer.number, answer.second), (0, 3));
+        }
     }
 }

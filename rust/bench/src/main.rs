@@ -5,7 +5,7 @@
 mod inputs;
 
 use inputs::{
-    applications, assumptions, blocks, constraints, typical, unknown, Input, BLOCK_WORDS,
+    applications, assumptions, blocks, constraints, longer, typical, unknown, Input, BLOCK_WORDS,
     MOST_BLOCKS, MOST_POINTS,
 };
 use std::io;
@@ -22,8 +22,8 @@ const LONGEST: Duration = Duration::from_secs(4);
 const OPERATORS: [&str; 2] = ["bvuge", "bvult"];
 /// How many times as long as the simple checker the proved one may take for the largest script: "at most four times", by request E10.
 const REQUESTED: f64 = 4.0;
-/// What is held instead of that, for the largest script, for a typical one and for evaluation.
-const GOALS: [f64; 3] = [0.5, 0.4, 0.3];
+/// What is held instead of that, for the largest script, for a typical one, for one of 4 KiB and for evaluation.
+const GOALS: [f64; 4] = [0.5, 0.4, 0.5, 0.3];
 /// How many times as long as with the earlier operator a script may take with the last one.
 const MOST_APART: f64 = 1.05;
 /// A literal, an operator's name and another name, of which a further word is read.
@@ -214,7 +214,7 @@ fn run() -> io::Result<bool> {
         return Ok(true);
     }
     println!("time of the proved checker, ratio to that of the simple one; request E10 asks for at most {REQUESTED} of the largest script");
-    let [largest, common, evaluation] = GOALS;
+    let [largest, common, long, evaluation] = GOALS;
     let met = [
         found_alike,
         judge("largest script", &scripts[scripts.len() - 1].1, largest),
@@ -222,6 +222,11 @@ fn run() -> io::Result<bool> {
             "typical script",
             &measured(&mut library, &typical())?,
             common,
+        ),
+        judge(
+            "a script of 4 KiB",
+            &measured(&mut library, &longer())?,
+            long,
         ),
         judge(
             "64 constraints at 1,024 points",
