@@ -1,14 +1,31 @@
-/* How the time to search for the least derivation grows, on the slowest grammar known: 16 non-terminals, each the last rule of the one before it, and only
-   the last of them derives a node by itself, so that a node takes 16 turns, each of which goes through the rules that are chain rules or have a price there.
-   All other rules have seven nodes and differ from the body in the last of them only; each is matched with a node once. Every list shown has 16 entries a
-   node, the most there are. A call is measured with two such functions; the time of the same call with bodies of one node is taken off, which leaves the
-   search and the reading of the bodies. Prints that time, of the shortest of 20 calls each, and its ratio to the time with half the nodes, and with half the
-   rules. */
+/* How the time to search for the least derivation grows, on four grammars in which each node is much work:
+
+   - unmatched: 16 non-terminals, each the last rule of the one before it, and only the last of them derives a node by itself, so that a node takes 16 turns; all other
+     rules have seven nodes and differ from the body in the last of them only. Every list shown has 16 entries a node, the most there are.
+   - matched: the same, but the rules of seven nodes end in a non-terminal, so that they match wherever the body is as deep, and every turn goes through all of them.
+   - chains: the same, but in the place of the rules of seven nodes are chain rules, to the next non-terminal and from the last to the first, which every turn goes through
+     at every node, whatever the body is.
+   - one: one non-terminal with such rules of seven nodes, then `x`, a complement and a disjunction: whoever looks for any derivation may stop at the first rule.
+
+   A call is measured with two functions of such a grammar; the time of the same call with bodies of one node is taken off, which leaves the search and the reading of the
+   bodies. Prints that time, of the shortest of 20 calls each, and its ratio to the time with half the nodes, and with half the rules. */
 #include <time.h>
 
 #include "calls.h"
 
-enum { NON_TERMINALS = 16, FUNCTIONS = 2 };
+enum { FUNCTIONS = 2, SIZES = 4, COUNTS = 2 };
+
+/* A grammar: its name, how many non-terminals it has, what the last node of its rules of seven nodes is (none where chain rules are in their place), and how many entries
+   a list has for each node, if that is known. */
+struct grammar {
+    const char *name;
+    size_t non_terminals;
+    const char *last;
+    size_t entries;
+};
+
+static const struct grammar grammars[] = {
+    {"unmatched", 16, "#x00", 16}, {"matched", 16, "A0", 0}, {"chains", 16, NULL, 16}, {"one", 1, "A0", 0}};
 
 static const char *const HEAD = "((x (_ BitVec 8))) (_ BitVec 8)";
 
@@ -40,31 +57,33 @@ static void add_body(size_t nodes)
     add(&response, "))");
 }
 
-/* Adds so many rules of seven nodes. */
-static void add_others(size_t count)
+/* Adds so many rules of seven nodes that end so, or chain rules to this non-terminal. */
+static void add_others(size_t count, const char *last, size_t next)
 {
     for (size_t r = 0; r < count; r++) {
-        spine(&script, 7, "#x00");
+        if (last) spine(&script, 7, last);
+        else add(&script, "A%zu", next);
         add(&script, " ");
     }
 }
 
 /* Makes both texts: functions of so many rules and bodies of so many nodes. */
-static void make(size_t nodes, size_t rules)
+static void make(const struct grammar *g, size_t nodes, size_t rules)
 {
-    const size_t each = rules / NON_TERMINALS;
+    const size_t each = rules / g->non_terminals;
     script.size = script.words = response.size = response.words = 0;
     add(&script, "(set-logic BV)");
     add(&response, "(");
     for (int k = 0; k < FUNCTIONS; k++) {
         add(&script, "(synth-fun f%d %s (", k, HEAD);
-        for (int i = 0; i < NON_TERMINALS; i++) add(&script, "(A%d (_ BitVec 8))", i);
+        for (size_t i = 0; i < g->non_terminals; i++) add(&script, "(A%zu (_ BitVec 8))", i);
         add(&script, ") (");
-        for (int i = 0; i < NON_TERMINALS; i++) {
-            const int last = i == NON_TERMINALS - 1;
-            add(&script, "(A%d (_ BitVec 8) (", i);
-            add_others(each - (last ? 3 : 1));
-            add(&script, last ? "x (bvnot A0) (bvor A0 A0)))" : "A%d))", i + 1);
+        for (size_t i = 0; i < g->non_terminals; i++) {
+            const int last = i == g->non_terminals - 1;
+            add(&script, "(A%zu (_ BitVec 8) (", i);
+            add_others(each - (last ? 3 : 1), g->last, (i + 1) % g->non_terminals);
+            if (last) add(&script, "x (bvnot A0) (bvor A0 A0)))");
+            else add(&script, "A%zu))", i + 1);
         }
         add(&script, "))");
         add(&response, "(define-fun f%d %s ", k, HEAD);
@@ -82,37 +101,45 @@ static double now(void)
     return t.tv_sec * 1e3 + t.tv_nsec / 1e6;
 }
 
-/* The time of a call in milliseconds; each list has 16 entries a node. */
-static double time_of(size_t nodes, size_t rules)
+/* The time of a call in milliseconds; the list has as many entries as it must. */
+static double time_of(const struct grammar *g, size_t nodes, size_t rules)
 {
-    make(nodes, rules);
+    make(g, nodes, rules);
     const double start = now();
     const struct answer a = check_all(script.bytes, script.size, response.bytes, response.size, NULL, 0, 0, area, SVERDHYLL_AREA);
     const double time = now() - start;
-    if (a.number != SVERDHYLL_ACCEPTED || list_size(FUNCTIONS - 1) != (int)(NON_TERMINALS * nodes)) {
-        printf("answer %d at %llu, a list of %d entries\n", a.number, (unsigned long long)a.place, list_size(FUNCTIONS - 1));
+    const int entries = list_size(FUNCTIONS - 1);
+    if (a.number != SVERDHYLL_ACCEPTED || entries < 1 || (g->entries > 0 && entries != (int)(g->entries * nodes))) {
+        printf("answer %d at %llu, a list of %d entries\n", a.number, (unsigned long long)a.place, entries);
         exit(1);
     }
     return time;
 }
 
-int main(void)
+/* Measures a grammar, and prints its times. */
+static void measure(const struct grammar *g)
 {
-    const size_t nodes[] = {1, 64, 128, 256}, rules[] = {64, 128};
-    double best[4][2];
+    const size_t nodes[SIZES] = {1, 64, 128, 256}, rules[COUNTS] = {64, 128};
+    double best[SIZES][COUNTS];
     for (int turn = 0; turn < 20; turn++)
-        for (int n = 0; n < 4; n++)
-            for (int r = 0; r < 2; r++) {
-                const double time = time_of(nodes[n], rules[r]);
+        for (int n = 0; n < SIZES; n++)
+            for (int r = 0; r < COUNTS; r++) {
+                const double time = time_of(g, nodes[n], rules[r]);
                 if (turn == 0 || time < best[n][r]) best[n][r] = time;
             }
-    for (int n = 1; n < 4; n++)
-        for (int r = 0; r < 2; r++) {
+    for (int n = 1; n < SIZES; n++)
+        for (int r = 0; r < COUNTS; r++) {
             const double time = best[n][r] - best[0][r];
-            printf("%d functions of %3zu nodes and %3zu rules: %7.2f ms", FUNCTIONS, nodes[n], rules[r], time);
+            printf("%-9s %d functions of %3zu nodes and %3zu rules: %7.3f ms", g->name, FUNCTIONS, nodes[n], rules[r], time);
             if (n > 1) printf(", %.2f times that of half the nodes", time / (best[n - 1][r] - best[0][r]));
             if (r > 0) printf(", %.2f times that of half the rules", time / (best[n][0] - best[0][0]));
             printf("\n");
         }
+    printf("%-9s the last of these texts have %zu and %zu words\n", g->name, script.words, response.words);
+}
+
+int main(void)
+{
+    for (size_t g = 0; g < sizeof grammars / sizeof *grammars; g++) measure(grammars + g);
     return 0;
 }
