@@ -5,7 +5,8 @@
    - matched: the same, but the rules of seven nodes end in a non-terminal, so that they match wherever the body is as deep, and every turn goes through all of them.
    - chains: the same, but in the place of the rules of seven nodes are chain rules, to the next non-terminal and from the last to the first, which every turn goes through
      at every node, whatever the body is.
-   - one: one non-terminal with such rules of seven nodes, then `x`, a complement and a disjunction: whoever looks for any derivation may stop at the first rule.
+   - one: one non-terminal with `x`, a complement and a disjunction, and then rules of seven nodes that match wherever the body is as deep: whoever looks for any derivation
+     may stop at the first three, and whoever looks for the least goes through all.
 
    A call is measured with two functions of such a grammar; the time of the same call with bodies of one node is taken off, which leaves the search and the reading of the
    bodies. Prints that time, of the shortest of 20 calls each, and its ratio to the time with half the nodes, and with half the rules. */
@@ -15,19 +16,24 @@
 
 enum { FUNCTIONS = 2, SIZES = 4, COUNTS = 2 };
 
-/* A grammar: its name, how many non-terminals it has, what the last node of its rules of seven nodes is (none where chain rules are in their place), and how many entries
-   a list has for each node, if that is known. */
+/* What the rules of a grammar are that stand beside `x`, a complement and a disjunction. */
+enum kind { UNMATCHED, MATCHED, CHAINS };
+
+/* A grammar: its name, how many non-terminals it has, what its other rules are, and how many entries a list has for each node, if that is known. */
 struct grammar {
     const char *name;
     size_t non_terminals;
-    const char *last;
+    enum kind others;
     size_t entries;
 };
 
 static const struct grammar grammars[] = {
-    {"unmatched", 16, "#x00", 16}, {"matched", 16, "A0", 0}, {"chains", 16, NULL, 16}, {"one", 1, "A0", 0}};
+    {"unmatched", 16, UNMATCHED, 16}, {"matched", 16, MATCHED, 0}, {"chains", 16, CHAINS, 16}, {"one", 1, MATCHED, 0}};
 
 static const char *const HEAD = "((x (_ BitVec 8))) (_ BitVec 8)";
+
+/* The rules by which every body can be derived. */
+#define COMMON "x (bvnot A0) (bvor A0 A0) "
 
 static struct text script, response;
 
@@ -57,12 +63,15 @@ static void add_body(size_t nodes)
     add(&response, "))");
 }
 
-/* Adds so many rules of seven nodes that end so, or chain rules to this non-terminal. */
-static void add_others(size_t count, const char *last, size_t next)
+/* Adds so many other rules of a non-terminal; `next` is the one behind it. */
+static void add_others(enum kind kind, size_t count, size_t next)
 {
     for (size_t r = 0; r < count; r++) {
-        if (last) spine(&script, 7, last);
-        else add(&script, "A%zu", next);
+        switch (kind) {
+        case UNMATCHED: spine(&script, 7, "#x00"); break;
+        case MATCHED: spine(&script, 7, "A0"); break;
+        case CHAINS: add(&script, "A%zu", next); break;
+        }
         add(&script, " ");
     }
 }
@@ -79,11 +88,13 @@ static void make(const struct grammar *g, size_t nodes, size_t rules)
         for (size_t i = 0; i < g->non_terminals; i++) add(&script, "(A%zu (_ BitVec 8))", i);
         add(&script, ") (");
         for (size_t i = 0; i < g->non_terminals; i++) {
-            const int last = i == g->non_terminals - 1;
+            const int last = i == g->non_terminals - 1, only = g->non_terminals == 1;
             add(&script, "(A%zu (_ BitVec 8) (", i);
-            add_others(each - (last ? 3 : 1), g->last, (i + 1) % g->non_terminals);
-            if (last) add(&script, "x (bvnot A0) (bvor A0 A0)))");
-            else add(&script, "A%zu))", i + 1);
+            if (only) add(&script, COMMON);
+            add_others(g->others, each - (last ? 3 : 1), (i + 1) % g->non_terminals);
+            if (!only && last) add(&script, COMMON);
+            if (!last) add(&script, "A%zu", i + 1);
+            add(&script, "))");
         }
         add(&script, "))");
         add(&response, "(define-fun f%d %s ", k, HEAD);
