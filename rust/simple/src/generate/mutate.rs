@@ -698,24 +698,40 @@ fn mutate_weight(random: &mut Random, list: &mut Vec<String>) {
     places.retain(|command| list[command.start + 1] == "synth-fun");
     let groups = places.iter().flat_map(|command| listed(list, command));
     let rules: Vec<Range<usize>> = groups.flat_map(|[_, _, rules]| items(list, &rules)).collect();
-    if rules.is_empty() {
-        return;
-    }
-    let rule = random.pick(&rules);
-    let parts = items(list, &rule);
-    if list.get(rule.start + 1).is_some_and(|head| head != "!") || parts.len() < 3 {
+    let marked = |rule: &&Range<usize>| list[rule.start + 1] == "!" && items(list, rule).len() > 2;
+    let marked: Vec<Range<usize>> = rules.iter().filter(marked).cloned().collect();
+    if !marked.is_empty() && random.percent(60) {
+        let rule = random.pick(&marked);
+        mutate_marked(random, list, rule);
+    } else if !rules.is_empty() {
+        let rule = random.pick(&rules);
         let mut weights = attributes(random);
         weights.push(random.pick(&[1, 65_535, 65_536, 65_536, 999_999_999]));
         replace(list, rule.clone(), weighed(list[rule].to_vec(), &weights));
-        return;
     }
-    let part = random.pick(&parts);
-    match random.below(5) {
+}
+
+/// Changes, adds or takes away a part of a rule that has attributes, or puts attributes or another sort within it.
+fn mutate_marked(random: &mut Random, list: &mut Vec<String>, rule: Range<usize>) {
+    let parts = items(list, &rule);
+    let (part, term) = (random.pick(&parts), parts[1].clone());
+    let inner = random.pick(&trees(&list[term.clone()]));
+    let inner = term.start + inner.start..term.start + inner.end;
+    let weights = [random.pick(&[0, 1, 65_536])];
+    match random.below(13) {
         0 => drop(list.drain(part)),
         1 => insert(list, part.end, words(":weight 65536")),
         2 => insert(list, part.end, list[part].to_vec()),
         3 => replace(list, part, vec![odd_word(random)]),
-        _ => replace(list, parts[parts.len() - 1].clone(), words(random.pick(&["65535", "65536", "x", "#x01"]))),
+        4 | 5 => replace(list, parts[parts.len() - 1].clone(), words(random.pick(&["65535", "65536", "x", "#x01"]))),
+        6 => drop(list.drain(term.end..rule.end - 1)),
+        7 => list[parts[2].start] = ":weights".to_string(),
+        8 => replace(list, term.clone(), weighed(list[term].to_vec(), &weights)),
+        9 => replace(list, inner.clone(), weighed(list[inner].to_vec(), &weights)),
+        _ => {
+            let sort = random.pick(&[Sort::Bool, Sort::BitVec(7), Sort::BitVec(64)]);
+            replace(list, term, literal(random, sort));
+        }
     }
 }
 
