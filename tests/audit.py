@@ -4,8 +4,8 @@
 It follows the names in the statements of the theorems that docs/AUDIT.md names and in the contracts of the sold calls, through the definitions of
 crates/*/specs to the types of crates/*/src. It prints each definition or type that is reached and that docs/AUDIT.md does not list, each definition of a
 listed file that is not reached, each file of specs/ that is not listed, each import of a listed file from a file that is not listed before it, each theorem
-that is not there, and each line of docs/AUDIT.md with a wrong count or place; the exit status is 1 if there is any. With --write it first writes the right
-counts and places into docs/AUDIT.md.
+that is not there or whose statement has a word of proofs/, and each line of docs/AUDIT.md with a wrong count or place; the exit status is 1 if there is any. With
+--write it first writes the right counts and places into docs/AUDIT.md.
 """
 import collections
 import glob
@@ -30,10 +30,13 @@ LIBRARY = re.compile(r"(Prim|mathlib|lib)\.")
 
 USE = re.compile(r"^(?:unfoldable )?(?:pub )?(?:ghost )?use ([^{]+)\.\{([^}]*)\}", re.MULTILINE)
 SPECS = re.compile(r"Rattle·(\w+)(?:·specs)?\.specs\.(.+)")
+PROOFS = re.compile(r"Rattle·\w+(?:·proofs)?\.proofs\..+")
 NAME = re.compile(r"[\w·'′₀-₉!?-]+")
 START = re.compile(r"^(?:abbrev |unfoldable )?pub (?!use |mod )(?:record |data )?([\w·'!-]+)")
 CASE = re.compile(r"^  ([\w'!-]+) :", re.MULTILINE)
 STATEMENT = re.compile(r"^( *)pub (\S+) :.*\n(?:\1 .*\n)*", re.MULTILINE)
+MODULE = re.compile(r"^( *)module _ .*?\bwhere\n", re.MULTILINE | re.DOTALL)
+DEFINED = re.compile(r"^ *(?:(?:abbrev|unfoldable) (?:pub )?|(?:pub )?(?:record|data) )([\w·'!-]+)", re.MULTILINE)
 CONTRACT = re.compile(r'^pub (?:extern "C" )?fn (\w+).*\n(?:[^{\n].*\n)*', re.MULTILINE)
 TYPE = re.compile(r"^pub (?:struct|enum) (\w+) \{\n(?: .*\n)*\}", re.MULTILINE)
 RUST_USE = re.compile(r"^use (\w+)::(?:\w+::)*(\w+);", re.MULTILINE)
@@ -140,13 +143,13 @@ def reached(files, types, roots):
     return found
 
 
-def heads_above(text, place, depth):
-    """The heads of the modules around a place of a text that stands so many blanks deep: what is assumed there is part of a statement."""
+def heads_above(text, place):
+    """The heads of the modules around a place of a text: what is assumed there is part of a statement."""
     heads = ""
-    for line in reversed(text[:place].split("\n")):
-        blanks = len(line) - len(line.lstrip())
-        if line.strip() and blanks < depth:
-            heads, depth = line + "\n" + heads, blanks
+    for head in MODULE.finditer(text, 0, place):
+        within = " " * (len(head.group(1)) + 1)
+        if all(line.startswith(within) for line in text[head.end():place].split("\n") if line):
+            heads += head.group()
     return heads
 
 
@@ -154,8 +157,20 @@ def statements(paper):
     """The theorems that docs/AUDIT.md names, each with its statement and what its file imports."""
     for crate, file, names in THEOREMS.findall(paper):
         text = text_of("crates", crate, "proofs", file + ".antt")
-        found = {one.group(2): heads_above(text, one.start(), len(one.group(1))) + one.group() for one in STATEMENT.finditer(text)}
+        found = {one.group(2): heads_above(text, one.start()) + one.group() for one in STATEMENT.finditer(text)}
         yield from ((name, found.get(name, ""), imports_of(text)) for name in names.split(", "))
+
+
+def words_of_proofs(paper):
+    """The words of proofs/ in the statements of the theorems: what they mean is in no file that is listed."""
+    for crate, file, names in THEOREMS.findall(paper):
+        text = text_of("crates", crate, "proofs", file + ".antt")
+        laws = {name.partition(" as ")[2] or name.partition(" as ")[0] for path, names in USE.findall(text) if PROOFS.fullmatch(path) for name in re.split(", *", names)}
+        words = laws | set(DEFINED.findall(text))
+        for one in STATEMENT.finditer(text):
+            if one.group(2) in names.split(", "):
+                said = set(NAME.findall(heads_above(text, one.start()) + one.group())) - {one.group(2)}
+                yield from ("docs/AUDIT.md: the theorem %s of %s has %s of proofs/" % (one.group(2), crate, word) for word in sorted(said & words))
 
 
 def contracts(calls):
@@ -275,6 +290,7 @@ def wrong_of(files, types, paper):
     yield from left_out(files, steps)
     yield from open_imports(files, steps)
     yield from lost_theorems(paper)
+    yield from words_of_proofs(paper)
 
 
 def main():

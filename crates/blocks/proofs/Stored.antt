@@ -134,14 +134,14 @@ module _ (script response : List ℕ) (lists : List (List ℕ)) (s : Storable sc
   response-length = ap (λ (p : List ℕ). numberOf (take 4 (drop 4 p))) (payload-again payload) ∙ number-low 4 (length response) (s .response-short)
 
   -- the script, the response and the lists again
-  pub script-again : scriptIn file ≡ script
+  pub script-again : scriptIn (fileOf script response lists) ≡ script
   unfolding scriptIn
   script-again =
       ap (λ (n : ℕ). take n (drop 24 (payloadIn file))) script-length
       ∙ ap (take (length script)) from-script
       ∙ take-append-seam script (response ++ (rulesOf lists ++ filling))
 
-  pub response-again : responseIn file ≡ response
+  pub response-again : responseIn (fileOf script response lists) ≡ response
   unfolding responseIn
   response-again =
       ap (λ (n : ℕ). take (responseLengthIn file) (drop (24 + n) (payloadIn file))) script-length
@@ -156,7 +156,7 @@ module _ (script response : List ℕ) (lists : List (List ℕ)) (s : Storable sc
       lists-are file lists 0 (script ++ (response ++ (rulesOf lists ++ filling))) filling (s .short) (s .rules) from-lengths
       (ap (λ (n : ℕ). drop n (payloadIn file)) z ∙ from-rules)
 
-  pub lists-again : listsIn file ≡ lists
+  pub lists-again : listsIn (fileOf script response lists) ≡ lists
   lists-again = ap (listsFrom file 0) (sym (s .eight)) ∙ both .0
 
   needed-is : neededIn file ≡ length payload
@@ -189,6 +189,6 @@ module _ (script response : List ℕ) (lists : List (List ℕ)) (s : Storable sc
       rw (e1, e2, e3)
 
   -- "Whatever our writer makes is accepted": no block of it is refused
-  pub stored-right : fileFault file ≡ none
+  pub stored-right : fileFault (fileOf script response lists) ≡ none
   unfolding fileFault
   stored-right = rw (cut-whole payload (omega (arith, payload-size script response lists))) filled-right

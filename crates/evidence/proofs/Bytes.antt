@@ -6,11 +6,8 @@ use lib.ListN.{drop, getD, length, replicate, take}
 use lib.Seq.{getD-drop}
 use Rattle.forest.specs.Tables.{rows}
 use Rattle.blocks.specs.Blocks.{blockOf, cutInto, fileOf, filled, framed, low, paySize, payloadOf, sumOf}
+use Rattle.evidence.specs.Evidence.{Bytes}
 use Rattle.evidence.proofs.Storing.{both-low}
-
--- Each is a byte.
-abbrev pub Bytes : List ℕ → Type 0
-Bytes bytes = (k : ℕ) → getD bytes k 0 < 256
 
 -- The bytes of a number.
 low-bytes : (size n : ℕ) → Bytes (low size n)

@@ -11,8 +11,8 @@ use Rattle.outcome.specs.declared.Answer.{Answer}
 use Rattle.outcome.specs.declared.Outcome.{Outcome}
 use Rattle.blocks.specs.Layout.{fileFault}
 use Rattle.blocks.proofs.Parts.{changed-refused}
-use Rattle.evidence.specs.Evidence.{Audited, Filed, eightLists}
-use Rattle.evidence.proofs.Bytes.{Bytes, file-bytes}
+use Rattle.evidence.specs.Evidence.{Audited, Bytes, Filed, eightLists}
+use Rattle.evidence.proofs.Bytes.{file-bytes}
 use Rattle.evidence.proofs.Written.{made, written-accepted}
 
 -- A file of which no block is refused has no fault.

@@ -16,8 +16,7 @@ use Rattle.blocks.specs.Blocks.{fileOf}
 use Rattle.blocks.specs.Layout.{Storable, listsFrom, listsIn}
 use Rattle.blocks.proofs.Stored.{lists-again, response-again, script-again, stored-right}
 use Rattle.blocks.proofs.Whole.{whole-file}
-use Rattle.evidence.specs.Evidence.{Audited, FilePasses, Followed, RightFile}
-use Rattle.evidence.proofs.Bytes.{Bytes}
+use Rattle.evidence.specs.Evidence.{Audited, Bytes, FilePasses, Followed, RightFile}
 use Rattle.evidence.proofs.Storing.{followed-storable}
 
 -- A file holds so many lists.

@@ -18,8 +18,7 @@ use Rattle.outcome.proofs.Stages.{refused-number}
 use Rattle.outcome.proofs.Texts.{long-number, short-texts}
 use Rattle.blocks.specs.Blocks.{fileOf}
 use Rattle.blocks.proofs.Laid.{file-length}
-use Rattle.evidence.specs.Evidence.{Audited, Filed, Followed, mostFile}
-use Rattle.evidence.proofs.Bytes.{Bytes}
+use Rattle.evidence.specs.Evidence.{Audited, Bytes, Filed, Followed, mostFile}
 use Rattle.evidence.proofs.Exact.{exact-from}
 use Rattle.evidence.proofs.Storing.{eight-followed, eight-long, lists-bounded, rules-most}
 

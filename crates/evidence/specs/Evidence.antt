@@ -3,7 +3,7 @@ use Prim.Native.Nat.{ℕ, zero, suc, _-_, _<_, _≤_}
 use mathlib.Core.List.{List, [], _∷_, _++_}
 use mathlib.Core.Option.{none as nothing, some}
 use mathlib.Core.Path.{_≡_}
-use lib.ListN.{length, replicate}
+use lib.ListN.{getD, length, replicate}
 use Rattle.forest.specs.Limits.{mostFunctions}
 use Rattle.forest.specs.Tables.{over}
 use Rattle.words.specs.Limits.{responseLimits}
@@ -21,6 +21,10 @@ use Rattle.outcome.specs.declared.Answer.{Answer}
 use Rattle.outcome.specs.declared.Outcome.{Outcome}
 use Rattle.blocks.specs.Blocks.{fileOf}
 use Rattle.blocks.specs.Layout.{fileFault, listsIn, responseIn, scriptIn}
+
+-- A list of numbers is one of bytes; past its end 0 is read.
+abbrev pub Bytes : List ℕ → Type 0
+Bytes bytes = (k : ℕ) → getD bytes k 0 < 256
 
 -- "each list derives its body without using a non-terminal twice at one place", functions, bodies and lists in script order; the list of an absent function is
 -- empty.
