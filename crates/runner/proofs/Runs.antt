@@ -152,7 +152,8 @@ single [] h = absurd (omega (arith, h .counted))
 single {values} {stackSorts} (v ∷ []) h = rw (first-of values (v .number) (h .numbers-are), first-of stackSorts (v .sort) (h .sorts-are))
 single (v ∷ u ∷ more) h = absurd (omega (arith, h .counted))
 
-module _ {sorts arguments steps values stackSorts : List ℕ} {top k : ℕ} (fit : AllFit sorts arguments) (s : Reached sorts arguments steps values stackSorts top k) where
+module _ {sorts arguments steps values stackSorts : List ℕ} {top k : ℕ} (fit : AllFit sorts arguments)
+    (s : Reached sorts arguments steps values stackSorts top k) where
   -- A step can be run.
   pub prepared : Prepared sorts arguments values stackSorts top
   prepared = record { fit = fit; ready = record { stack = s .stack; held = s .held } }

@@ -121,7 +121,8 @@ module _ {values stackSorts : List ℕ} {top : ℕ} (s : Step) (e : Ready values
             };
           }
 
-      pub constant-pushed : {values′ stackSorts′ : List ℕ} {r : ℕ} → s .fourth ≡ 0 → Pushing values stackSorts values′ stackSorts′ top (value (s .third) (s .second)) r
+      pub constant-pushed : {values′ stackSorts′ : List ℕ} {r : ℕ} → s .fourth ≡ 0
+          → Pushing values stackSorts values′ stackSorts′ top (value (s .third) (s .second)) r
           → Stepped values′ stackSorts′ r (constantOn s (e .stack))
       unfolding constant-pushable
       constant-pushed u p = rw (constant-fits, eq-eqb (s .fourth) 0 u) (p constant-pushable)
@@ -137,7 +138,8 @@ module _ {values stackSorts : List ℕ} {top : ℕ} (s : Step) (e : Ready values
     operator-malformed h = rw (ne-eqb (s .second) _ (λ q. n (q ∙ extract-is)), ne-eqb (s .fourth) 0 h) (not-done refl)
 
     -- Another operator.
-    pub operator-applied : {values′ stackSorts′ : List ℕ} {r : ℕ} → s .fourth ≡ 0 → Applying (s .second) 0 0 (s .third) values stackSorts values′ stackSorts′ top r
+    pub operator-applied : {values′ stackSorts′ : List ℕ} {r : ℕ} → s .fourth ≡ 0
+        → Applying (s .second) 0 0 (s .third) values stackSorts values′ stackSorts′ top r
         → Stepped values′ stackSorts′ r (operatorOn s (e .stack))
     operator-applied h p = rw (ne-eqb (s .second) _ (λ q. n (q ∙ extract-is)), eq-eqb (s .fourth) 0 h) (p e)
 
@@ -172,7 +174,8 @@ module _ {sorts arguments values stackSorts : List ℕ} {top : ℕ} (s : Step) {
 
   module _ (a : s .first ≡ pushArgument → ⊥) where
     -- A constant is pushed.
-    pub constant-step : s .first ≡ pushConstant → ConstantStep s values stackSorts values′ stackSorts′ top r → OneStep sorts arguments s values stackSorts values′ stackSorts′ top r
+    pub constant-step : s .first ≡ pushConstant → ConstantStep s values stackSorts values′ stackSorts′ top r
+        → OneStep sorts arguments s values stackSorts values′ stackSorts′ top r
     constant-step h p e = rw (constant-on (asValues sorts arguments) s (e .ready .stack) a h) (p (e .ready))
 
     module _ (b : s .first ≡ pushConstant → ⊥) where
