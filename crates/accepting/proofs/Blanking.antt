@@ -6,8 +6,7 @@ use mathlib.Core.List.{List, [], _++_, append-nil}
 use borrow.Author.Fill.{fill-more}
 use lib.ListN.{drop, length, length-set, replicate, set}
 use lib.Seq.{drop-length}
-use Rattle.derivation.specs.Answer.{unused}
-use Rattle.forest.specs.Limits.{areaSize}
+use Rattle.forest.specs.Limits.{areaSize, unused}
 use Rattle.outcome.specs.Checked.{unshown}
 use Rattle.outcome.specs.Derived.{blankArea}
 use Rattle.outcome.proofs.Areas.{unshown-blank}

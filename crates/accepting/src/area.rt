@@ -1,6 +1,6 @@
 //! The lent area.
-use derivation::UNUSED;
 use forest::limits::AREA;
+use forest::limits::UNUSED;
 ghost use mathlib.Core.Path.{_≡_};
 ghost use Rattle.outcome.specs.Checked.{unshown};
 ghost use Rattle.outcome.specs.Derived.{blankArea};

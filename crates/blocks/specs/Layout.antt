@@ -46,7 +46,7 @@ scriptIn file = take (scriptLengthIn file) (drop 24 (payloadIn file))
 unfoldable pub responseIn : (file : List ℕ) → List ℕ
 responseIn file = take (responseLengthIn file) (drop (24 + scriptLengthIn file) (payloadIn file))
 
--- The numbers that bytes hold two by two: "2 bytes a rule".
+-- The numbers that bytes hold two by two: "2 bytes a rule". Of a file without a fault there is no single one at the end.
 unfoldable pub pairs : List ℕ → List ℕ
 pairs [] = []
 pairs (a ∷ []) = a ∷ []

@@ -7,6 +7,7 @@ use crate::Place;
 use crate::wide;
 use forest::limits::FUNCTIONS;
 use forest::limits::LIST;
+use forest::limits::UNUSED;
 ghost use mathlib.Core.Path.{_≡_};
 ghost use Prim.Native.Nat.{_+_, _*_, _<_, _≤_, _^_};
 ghost use mathlib.Core.List.{[], _∷_, _++_};
@@ -17,9 +18,6 @@ ghost use Rattle.blocks.specs.Blocks.{fileOf, low};
 ghost use Rattle.blocks.specs.code.Lists.{fileLength, lengthsOf, rulesIn, rulesOf};
 ghost use Rattle.blocks.specs.code.Shown.{listsShown, rulesShown};
 ghost use Rattle.blocks.specs.code.Places.{Fitting, Written};
-
-// An entry of the area of lists that no list uses.
-const UNUSED: u16 = 65535;
 
 // A rule as a number.
 fn rule_number(rule: u16) -> usize

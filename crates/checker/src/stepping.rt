@@ -215,9 +215,8 @@ fn list_in(
     list_held(&places, nodes, told.progress, found, function, area)
 }
 
-// The steps of the body of a function, by its number in script order, where the response is accepted. They are written from the tables of the check; short texts
-// are read into small ones.
-pub fn step_list(
+// The same in tables that fit the texts: short ones are read into small tables.
+fn list_texts(
     script: &[u8],
     response: &[u8],
     points: &[u64],
@@ -225,12 +224,10 @@ pub fn step_list(
     function: usize,
     area: &mut [u64],
 ) -> Listed
+    requires { ⌜ length (now area) ≡ stepNumbers ⌝ }
     ensures { λ r. ⌜ StepList (now (script .entry)) (now (response .entry)) (now (points .entry)) budget function (now (area .entry))
         (r .answer) (r .count) (now (area .exit)) ⌝ }
 {
-    if area.len() != NUMBERS {
-        return refused(AREA_SIZE, area.len());
-    }
     if are_short(script.len(), response.len()) {
         let mut nodes = short_nodes();
         let mut forms = short_forms();
@@ -257,4 +254,22 @@ pub fn step_list(
         &mut nodes,
         &mut forms,
     )
+}
+
+// The steps of the body of a function, by its number in script order, where the response is accepted: they are written from the tables of the check.
+pub fn step_list(
+    script: &[u8],
+    response: &[u8],
+    points: &[u64],
+    budget: u64,
+    function: usize,
+    area: &mut [u64],
+) -> Listed
+    ensures { λ r. ⌜ StepList (now (script .entry)) (now (response .entry)) (now (points .entry)) budget function (now (area .entry))
+        (r .answer) (r .count) (now (area .exit)) ⌝ }
+{
+    if area.len() != NUMBERS {
+        return refused(AREA_SIZE, area.len());
+    }
+    list_texts(script, response, points, budget, function, area)
 }

@@ -11,8 +11,5 @@ pub mod rules;
 // How many numbers a rule has in the table of rules.
 pub const RULE: usize = 3;
 
-// An entry that no list uses.
-pub const UNUSED: u16 = 65535;
-
 // The first non-terminal.
 pub const START: u64 = 0;

@@ -4,9 +4,9 @@ use native.Mathlib.Omega.{arith}
 use mathlib.Core.List.{List, [], _∷_, _++_}
 use mathlib.Core.Path.{_≡_, refl, ap, _∙_}
 use lib.ListN.{getD, length, length-append, length-replicate, replicate}
-use Rattle.forest.specs.Limits.{areaSize, listSize}
+use Rattle.forest.specs.Limits.{areaSize, listSize, unused}
 use Rattle.forest.specs.Tables.{rows}
-use Rattle.derivation.specs.Answer.{listOf, unused}
+use Rattle.derivation.specs.Answer.{listOf}
 use Rattle.script.specs.Script.{Known}
 use Rattle.script.specs.Response.{Body}
 use Rattle.outcome.specs.Derived.{listsOf, shownArea}

@@ -24,8 +24,7 @@ use Rattle.derivation.proofs.RuleFirst.{chain-view, no-chain-view}
 use Rattle.following.specs.code.Steps.{ChainFound, ChainPost, ChainPre, NoneRead, Reads, usable}
 use Rattle.following.proofs.Prefix.{begin, begins}
 use Rattle.following.proofs.Rules.{Usable, rule-usable, usable-rule}
-use Rattle.forest.specs.Limits.{mostNonTerminals}
-use Rattle.derivation.specs.Answer.{unused}
+use Rattle.forest.specs.Limits.{mostNonTerminals, unused}
 
 -- what was used at the place says nothing of a form that begins with no non-terminal
 reads-change : {G : Grammar} (seen seen' : List ℕ) {P : Forest Item} {T : Terms} {list rest : List ℕ} → NoChain P → Reads G seen P T list rest

@@ -73,6 +73,10 @@ listSize = mostNodes * mostNonTerminals
 abbrev pub areaSize : ℕ
 areaSize = mostFunctions * listSize
 
+-- "every entry of the area that no list uses is 65,535".
+abbrev pub unused : ℕ
+unused = 65535
+
 -- The limits on what a script says, as one record, so that a definition can be read with other numbers.
 pub record Counts : Type 0 where
   pub functions : ℕ

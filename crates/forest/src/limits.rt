@@ -45,3 +45,6 @@ pub const POINT_NUMBERS: usize = 1024;
 pub const LIST: usize = NODES * NON_TERMINALS;
 
 pub const AREA: usize = FUNCTIONS * LIST;
+
+// An entry of the area that no list uses.
+pub const UNUSED: u16 = 65535;

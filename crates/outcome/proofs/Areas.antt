@@ -4,8 +4,7 @@ use mathlib.Core.List.{List}
 use mathlib.Core.Path.{_≡_}
 use borrow.Author.Tests.{eq-eqb, ne-eqb}
 use lib.ListN.{length, length-replicate}
-use Rattle.derivation.specs.Answer.{unused}
-use Rattle.forest.specs.Limits.{areaSize}
+use Rattle.forest.specs.Limits.{areaSize, unused}
 use Rattle.outcome.specs.Checked.{unshown}
 use Rattle.outcome.specs.Derived.{blankArea}
 

@@ -1,4 +1,4 @@
--- "All names in scope have distinct spellings and a place before their use: the name table keeps this true" (E8): every command that passes keeps it.
+-- "All names in scope have distinct spellings and a place before their use ..: the name table keeps this true" (E8): every command that passes keeps it.
 use Prim.Native.Nat.{ℕ, zero, suc, _+_, _≤_, _<_}
 use native.Mathlib.Omega.{arith}
 use mathlib.Core.Bool.{true, false}

@@ -1,4 +1,4 @@
--- What follows from the checker's contract, `Checked`: the words in which proofs/ states it (Unique, Exact, Units, Demands).
+-- What follows from the checker's contract, `Checked`: the words in which proofs/ states it (Exact, Units, Demands).
 use Prim.Native.Nat.{ℕ, _+_, _≤_, _<_}
 use mathlib.Core.Bool.{Bool, true, false, cond}
 use mathlib.Core.List.{List, [], _∷_}

@@ -3,8 +3,8 @@ use Prim.Native.Nat.{ℕ, zero, suc, _-_, _≤_}
 use mathlib.Core.List.{List, [], _∷_, _++_, map}
 use lib.ListN.{length, replicate}
 use Rattle.terms.specs.Labels.{Terms}
-use Rattle.derivation.specs.Answer.{listOf, start, unused}
-use Rattle.forest.specs.Limits.{areaSize, listSize, mostFunctions}
+use Rattle.derivation.specs.Answer.{listOf, start}
+use Rattle.forest.specs.Limits.{areaSize, listSize, mostFunctions, unused}
 use Rattle.derivation.specs.Derivation.{Derives, Simple}
 use Rattle.derivation.specs.Least.{Least, totalOf}
 use Rattle.names.specs.Scopes.{Function}

@@ -18,7 +18,7 @@ ghost use Rattle.forest.specs.Limits.{scriptWords};
 ghost use Rattle.script_reader.specs.code.Commands.{saidBy};
 ghost use Rattle.script_reader.specs.code.Progress.{Few, Stepped, afterLogicBy, outOfPlaceBy};
 
-// Whether the logic line, and no other command, has been read.
+// Whether no command has passed but, perhaps, the logic line.
 fn after_logic(progress: Progress) -> bool
     ensures { λ r. ⌜ r ≡ afterLogicBy progress ⌝ }
 {

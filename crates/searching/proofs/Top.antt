@@ -16,8 +16,8 @@ use Rattle.derivation.specs.Derivation.{nonTerminal, Derives, Simple, Grammar}
 use Rattle.derivation.specs.Least.{Least}
 use Rattle.derivation.specs.code.Forms.{DerivesAt}
 use Rattle.searching.specs.code.Search.{ExactAt, Asks}
-use Rattle.derivation.specs.Answer.{start, listOf, unused}
-use Rattle.forest.specs.Limits.{listSize, mostNodes, mostNonTerminals}
+use Rattle.derivation.specs.Answer.{start, listOf}
+use Rattle.forest.specs.Limits.{listSize, mostNodes, mostNonTerminals, unused}
 use Rattle.derivation.proofs.Order.{least-unique}
 use Rattle.searching.proofs.LeastParts.{never}
 use Rattle.searching.proofs.Sweep.{body-size}

@@ -112,7 +112,7 @@ constraintShape c = eqb (count c) 2 && termShape (item 1 c) (inside 1 c)
 abbrev pub checkSynthShape : Items → Bool
 checkSynthShape c = eqb (count c) 1
 
--- "(set-feature <Feature> <BoolConst>)"
+-- "(set-feature <Feature> <BoolConst>)": any keyword is a feature; which of them is carried, and how it is set, is a matter of 6.
 abbrev pub setFeatureShape : Items → Bool
 setFeatureShape c = eqb (count c) 3 && isKeyword (item 1 c) && isAmong ("true" ∷ "false" ∷ []) (item 2 c)
 

@@ -5,8 +5,8 @@ use mathlib.Core.Path.{_≡_, refl, sym, ap, subst, _∙_}
 use mathlib.Core.List.{List, [], _∷_, _++_, append-assoc, append-nil}
 use lib.ListN.{drop, set, length, length-append, length-replicate, replicate, replicate-append-replicate}
 use lib.Seq.{drop-append-add, drop-at, sets, sets-eq, take-at}
-use Rattle.derivation.specs.Answer.{listOf, unused}
-use Rattle.forest.specs.Limits.{areaSize, listSize, mostFunctions}
+use Rattle.derivation.specs.Answer.{listOf}
+use Rattle.forest.specs.Limits.{areaSize, listSize, mostFunctions, unused}
 use Rattle.derivation.specs.Least.{totalOf}
 use Rattle.names.specs.Scopes.{Function}
 use Rattle.outcome.specs.Derived.{blankArea, listsOf, noTotals, shownArea, totals, weighed}

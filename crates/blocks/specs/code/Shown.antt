@@ -4,25 +4,21 @@ use Prim.Native.Nat.{ℕ, zero, suc, _+_, _*_, _-_}
 use mathlib.Core.List.{List, [], _∷_, _++_}
 use lib.Dec.{eqb}
 use lib.ListN.{drop, length, replicate, take}
-use Rattle.forest.specs.Limits.{areaSize, listSize, mostFunctions}
+use Rattle.forest.specs.Limits.{areaSize, listSize, mostFunctions, unused}
 use Rattle.forest.specs.Tables.{rows}
-
--- An entry that no list uses.
-abbrev pub unusedEntry : ℕ
-unusedEntry = 65535
 
 -- The rules before the first entry that is not used.
 unfoldable pub rulesShown : List ℕ → List ℕ
 rulesShown [] = []
-rulesShown (entry ∷ more) = let later = rulesShown more in cond (eqb entry unusedEntry) [] (entry ∷ later)
+rulesShown (entry ∷ more) = let later = rulesShown more in cond (eqb entry unused) [] (entry ∷ later)
 
 -- A list with its unused entries.
 abbrev pub listWith : (list : List ℕ) → List ℕ
-listWith list = list ++ replicate (listSize - length list) unusedEntry
+listWith list = list ++ replicate (listSize - length list) unused
 
 -- The area that shows lists, one behind the other: an entry that none of them uses is not used.
 unfoldable pub areaOf : (lists : List (List ℕ)) → List ℕ
-areaOf lists = rows listWith lists ++ replicate (areaSize - length (rows listWith lists)) unusedEntry
+areaOf lists = rows listWith lists ++ replicate (areaSize - length (rows listWith lists)) unused
 
 -- The list of function j.
 unfoldable pub listShown : (shown : List ℕ) → (j : ℕ) → List ℕ

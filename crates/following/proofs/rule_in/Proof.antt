@@ -1,3 +1,4 @@
+use Rattle.forest.specs.Limits.{unused}
 use Rattle.following.proofs.Rules.{getD-any}
 use lib.ListN.{List·getD-eq-default}
 use mathlib.Core.Path.{sym}
@@ -5,7 +6,6 @@ use native.Mathlib.Omega.{arith}
 use borrow.Author.Needs.{needs}
 use Rattle.following.proofs.rule_in.Statement.{statement}
 use Rattle.following.proofs.rule_in.Tie as tie
-use Rattle.derivation.specs.Answer.{unused}
 
 cast-result : tie.Need-cast-result
 cast-result c = search needs

@@ -1,4 +1,3 @@
-use Rattle.both_texts.proofs.Reading.{short-rooms}
 use Rattle.checker.proofs.StepsAnswer.{wrong-size}
 use borrow.Author.Needs.{needs}
 use Rattle.checker.proofs.stepping.step_list.Statement.{statement}
@@ -10,23 +9,8 @@ refused-requires c κs = search needs
 returns : tie.Need-returns
 returns c = wrong-size (c .before .if1 .taken) (c .refused .ensures)
 
-are-short-requires : tie.Need-are-short-requires
-are-short-requires c κs = search needs
-
-short-nodes-requires : tie.Need-short-nodes-requires
-short-nodes-requires c κs = search needs
-
-short-forms-requires : tie.Need-short-forms-requires
-short-forms-requires c κs = search needs
-
-slice-aggregate-list-in : tie.Need-slice-aggregate-list-in
-slice-aggregate-list-in c = search needs
-
-slice-aggregate-list-in-2 : tie.Need-slice-aggregate-list-in-2
-slice-aggregate-list-in-2 c = search needs
-
-list-in-requires : tie.Need-list-in-requires
-list-in-requires c κs = search short-rooms
+list-texts-requires : tie.Need-list-texts-requires
+list-texts-requires c κs = search needs
 
 same-length : tie.Need-same-length
 same-length c = search needs
@@ -34,45 +18,6 @@ same-length c = search needs
 returns-2 : tie.Need-returns-2
 returns-2 c = search needs
 
-node-room-requires : tie.Need-node-room-requires
-node-room-requires c κs = search needs
-
-form-room-requires : tie.Need-form-room-requires
-form-room-requires c κs = search needs
-
-slice-aggregate-list-in-3 : tie.Need-slice-aggregate-list-in-3
-slice-aggregate-list-in-3 c = search needs
-
-slice-aggregate-list-in-4 : tie.Need-slice-aggregate-list-in-4
-slice-aggregate-list-in-4 c = search needs
-
-list-in-requires-2 : tie.Need-list-in-requires-2
-list-in-requires-2 c κs = search needs
-
-same-length-2 : tie.Need-same-length-2
-same-length-2 c = search needs
-
-returns-3 : tie.Need-returns-3
-returns-3 c = search needs
-
 pub step-list-spec : {M : Type 1} → statement M
 step-list-spec =
-    tie.close
-    (tie.spec
-    refused-requires
-    returns
-    are-short-requires
-    short-nodes-requires
-    short-forms-requires
-    slice-aggregate-list-in
-    slice-aggregate-list-in-2
-    list-in-requires
-    same-length
-    returns-2
-    node-room-requires
-    form-room-requires
-    slice-aggregate-list-in-3
-    slice-aggregate-list-in-4
-    list-in-requires-2
-    same-length-2
-    returns-3)
+    tie.close (tie.spec refused-requires returns list-texts-requires same-length returns-2)
