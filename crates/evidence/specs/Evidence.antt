@@ -115,6 +115,7 @@ pub record RightFile (file : List ℕ) : Type 0 where
   pub passing : TextsPass responseLimits script response k bs
   pub followed : Followed (inScriptOrder (k .functions)) (termsOf bs) lists
 
--- No file that is written or accepted has more bytes: 24 of lengths, 65,536 of a script, 8,192 of a response and 2 for each of 8 · 4,096 rules take 274 blocks.
+-- No file that is written or accepted has more bytes: 24 of lengths, 65,536 of a script, 8,192 of a response and 2 for each of 8 · 4,096 rules take 274
+-- blocks.
 abbrev pub mostFile : ℕ
 mostFile = 140288

@@ -29,7 +29,8 @@ startMisfit nowhere result close pairs =
     cond (eqb (count pairs) 0) close
     (cond (eqb (sortOf (item 1 (inside 0 pairs)) (inside 1 (inside 0 pairs))) result) nowhere (wordOf (item 0 (inside 0 pairs))))
 
--- "answer 9 at the first of them where predeclared" (E9): the name of the first of the pairs, which are those of the non-terminals from A on, that is not found.
+-- "answer 9 at the first of them where predeclared" (E9): the name of the first of the pairs, which are those of the non-terminals from A on, that is not
+-- found.
 unfoldable pub deadMisfit : (nowhere : ℕ) → (found : List ℕ) → (A : ℕ) → (pairs : Items) → ℕ
 deadMisfit nowhere found A none = nowhere
 deadMisfit nowhere found A (tree l ops more) = cond (among A found) (deadMisfit nowhere found (suc A) more) (wordOf (item 0 ops))

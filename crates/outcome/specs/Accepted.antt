@@ -17,8 +17,8 @@ pub record TextsPass (limits : Limits) (script response : List ℕ) (k : Known) 
   pub says : scriptOutcome script ≡ said k
   pub gives : responseWithin limits k response ≡ given bs
 
--- The answers 2 to 13, of texts that are not too long (one past its bytes is refused by 1): "script words ..; commands ..; response words likewise; 10 and 11 ..; the response's commands likewise ..; then 13 (first such
--- function)".
+-- The answers 2 to 13, of texts that are not too long (one past its bytes is refused by 1): "script words ..; commands ..; response words likewise; 10 and
+-- 11 ..; the response's commands likewise ..; then 13 (first such function)".
 pub data Declined (limits : Limits) (script response : List ℕ) : Outcome → Type 0 where
   texts-refused : {answer : Outcome} → TextsRefused limits script response answer → Declined limits script response answer
   underived : {k : Known} {bs : List Body} {j : ℕ} {b : Body} → TextsPass limits script response k bs → FirstUnderived (inScriptOrder (k .functions)) bs j b

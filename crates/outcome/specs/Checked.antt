@@ -81,10 +81,11 @@ pub data TextsTold (script response : List ℕ) : Outcome → Type 0 where
   both-pass : {k : Known} {bs : List Body} → lengthAnswer script response ≡ nothing → scriptOutcome script ≡ said k → responseOutcome k response ≡ given bs
       → TextsTold script response (refusal 0 3 0)
 
--- The answer, the area afterwards and the totals. "Order: 1 ..; script words ..; commands ..; response words likewise; 10 and 11 ..; the response's commands likewise ..;
--- then 13 .."
+-- The answer, the area afterwards and the totals. "Order: 1 ..; script words ..; commands ..; response words likewise; 10 and 11 ..; the response's commands
+-- likewise ..; then 13 .."
 pub data Checked (script response points : List ℕ) (budget : ℕ) (area : List ℕ) : Outcome → (areaAfter weights : List ℕ) → Type 0 where
-  missized : {answer : Outcome} → sizeAnswer script response points area ≡ some answer → Checked script response points budget area answer (unshown area) noTotals
+  missized : {answer : Outcome} → sizeAnswer script response points area ≡ some answer
+      → Checked script response points budget area answer (unshown area) noTotals
   texts-refused : {answer : Outcome} → sizeAnswer script response points area ≡ nothing → TextsRefused responseLimits script response answer
       → Checked script response points budget area answer blankArea noTotals
   judged : {k : Known} {bs : List Body} {answer : Outcome} {areaAfter weights : List ℕ} → Passing script response points area k bs

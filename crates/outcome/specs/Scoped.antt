@@ -31,9 +31,9 @@ pub record InScope (k : Known) (at : ℕ) : Type 0 where
   pub apart : Apart (spellings (declaredIn k))
   pub before : AllBefore at (declaredIn k)
 
--- The names in scope within command c, whose bracket is word `at`: those before it, which all of the command stands behind; and its new names, which stand before
--- what may use them, the body of a `define-fun`, or what a `synth-fun` lists. A term names no others (`names/specs/Unknown`); a response's body names those of the
--- script.
+-- The names in scope within command c, whose bracket is word `at`: those before it, which all of the command stands behind; and its new names, which stand
+-- before what may use them, the body of a `define-fun`, or what a `synth-fun` lists. A term names no others (`names/specs/Unknown`); a response's body names
+-- those of the script.
 pub record Scoped (k : Known) (at : ℕ) (c : Items) : Type 0 where
   pub apart : Apart (spellings (declaredIn k ++ newNames c))
   pub before : AllBefore at (declaredIn k)

@@ -41,9 +41,9 @@ pub record AcceptedFor (script response points : List ℕ) (budget : ℕ) (answe
   pub zero : answer .outcome .number ≡ 0
   pub passing : Passing script response points blankArea k bs
 
--- "The list has as many steps as the body has nodes ..; the rest of the area stays as lent. A response not accepted is answered by its number, area untouched. A
--- body using a `define-fun`, or a function number the script lacks, gets answer 18 and an untouched area, as does an area not of 1,024 64-bit numbers (answer 17,
--- tested first)."
+-- "The list has as many steps as the body has nodes ..; the rest of the area stays as lent. A response not accepted is answered by its number, area
+-- untouched. A body using a `define-fun`, or a function number the script lacks, gets answer 18 and an untouched area, as does an area not of 1,024 64-bit
+-- numbers (answer 17, tested first)."
 pub data StepList (script response points : List ℕ) (budget function : ℕ) (area : List ℕ) : Answer → (count : ℕ) → (areaAfter : List ℕ) → Type 0 where
   area-missized : (length area ≡ stepNumbers → ⊥) → StepList script response points budget function area (stepRefusal 17 (length area)) 0 area
   not-accepted : {answer : Answer} {shown : List ℕ} → length area ≡ stepNumbers → AnswerGiven script response points budget blankArea answer shown
@@ -65,16 +65,17 @@ pub record StepsForC (script response points : List ℕ) (budget function : ℕ)
   pub number-is : number ≡ answer .outcome .number
   pub numbers-are : numbers ≡ answerNumbers answer
 
--- "Running the list on any arguments of the right sorts ends with the body's value alone on the stack. After each step the stack holds exactly the values of the
--- finished subterms whose parent is not finished, oldest lowest." The body's value is what the function gives for these arguments in a constraint, and its
--- subterms have the values that they have there.
+-- "Running the list on any arguments of the right sorts ends with the body's value alone on the stack. After each step the stack holds exactly the values of
+-- the finished subterms whose parent is not finished, oldest lowest." The body's value is what the function gives for these arguments in a constraint, and
+-- its subterms have the values that they have there.
 pub record Runs (k : Known) (bs : List Body) (function : ℕ) (f : Function) (t : Terms) (numbers : List ℕ) : Type 0 where
   pub body : Runnable (namedSorts (f .arguments)) numbers t
   pub meaning-is : body .meaning ≡ meaningAt (definitionsOf (k .defined)) [] (asValues (namedSorts (f .arguments)) numbers)
   pub gives : functionValue (definitionsOf (k .defined)) (functionsWith k (termsOf bs)) function (asValues (namedSorts (f .arguments)) numbers) ≡ some (body .v)
   pub stated : Stated body
 
--- What a list that is given is: the steps of the body of the function of that number, in front of an area whose rest is as lent, and what running them comes to.
+-- What a list that is given is: the steps of the body of the function of that number, in front of an area whose rest is as lent, and what running them comes
+-- to.
 pub record ListStated (script response points : List ℕ) (function : ℕ) (area : List ℕ) (count : ℕ) (areaAfter : List ℕ) : Type 0 where
   pub k : Known
   pub bs : List Body

@@ -26,8 +26,8 @@ use Rattle.term_nodes.specs.Terms.{rawTerm}
 use Rattle.written_sorts.specs.Written.{headerPlace, sortOf, sortPlace}
 use Rattle.written_sorts.specs.declared.Fault.the-variants.{TooWide, Unknown, Empty}
 
--- What the commands before have said: whether the logic and the feature were set and `check-synth` was met; variables, constraints and assumptions in script order;
--- `define-fun`s and functions, the last first.
+-- What the commands before have said: whether the logic and the feature were set and `check-synth` was met; variables, constraints and assumptions in script
+-- order; `define-fun`s and functions, the last first.
 pub record Known : Type 0 where
   pub logic : Bool
   pub weights : Bool

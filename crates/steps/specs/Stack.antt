@@ -98,8 +98,8 @@ endedWith n (ended []) = notRun 19 n
 endedWith n (ended (v ∷ [])) = record { number = 0; place = 0; value = v }
 endedWith n (ended (v ∷ u ∷ more)) = notRun 19 n
 
--- The runner: "with answer 20 arguments of wrong count or range for the list of sorts given along .., tested before the steps", "20 the first bad index (argument
--- count if counts differ)"; then "answer 19 at the first step that is malformed or cut short ..".
+-- The runner: "with answer 20 arguments of wrong count or range for the list of sorts given along .., tested before the steps", "20 the first bad index
+-- (argument count if counts differ)"; then "answer 19 at the first step that is malformed or cut short ..".
 unfoldable pub ran : (sorts arguments steps : List ℕ) → StepsRan
 ran sorts arguments steps =
     cond (eqb (length sorts) (length arguments))

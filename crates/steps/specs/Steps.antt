@@ -25,7 +25,8 @@ abbrev pub isExtract : (o : ℕ) → Bool
 isExtract o = eqb o (operatorOf (spelling "extract"))
 
 -- "each four numbers, unused ones 0: push argument is 1, its number; push constant 2, value, width (0 Bool); apply 3, operator's number in the table, operand
--- count (extract: i, j)". The application of a `define-fun` is no step: "A body using a `define-fun` .. gets answer 18"; a body applies no synthesized function.
+-- count (extract: i, j)". The application of a `define-fun` is no step: "A body using a `define-fun` .. gets answer 18"; a body applies no synthesized
+-- function.
 abbrev pub stepOf : Label → (operands : ℕ) → List ℕ
 stepOf (name s k) n = pushArgument ∷ k ∷ 0 ∷ 0 ∷ []
 stepOf (literal s v) n = pushConstant ∷ v ∷ s ∷ 0 ∷ []

@@ -28,7 +28,8 @@ scopeOf view = record {
 abbrev pub rawSorts : View → Forest Raw → Option (List ℕ)
 rawSorts view F = formSorts (scopeOf view) (formsOf view F)
 
--- "first word .. of a faulty term whose operands have none". The code finds the node by its number (`term_sorts/specs/code/Forms: faultFrom`, the same by nodes).
+-- "first word .. of a faulty term whose operands have none". The code finds the node by its number (`term_sorts/specs/code/Forms: faultFrom`, the same by
+-- nodes).
 unfoldable pub termFault : (nowhere : ℕ) → View → Forest Raw → ℕ
 termFault nowhere view none = nowhere
 termFault nowhere view (tree r ops more) =
