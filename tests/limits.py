@@ -10,6 +10,9 @@ MOST_WORDS = 8192
 # The bytes that a script might have before request E10; of words it might have an eighth of these.
 BEFORE_E10 = 32768
 
+# The bytes up to which a script and a response are read into smaller tables; no answer depends on them.
+SHORT_SCRIPTS, SHORT_RESPONSE = (2048, 4096), 512
+
 
 def at_and_past(name, most, make):
     """The cases that are made of a limit and of one more, under the name with the number."""
@@ -92,6 +95,38 @@ def words_and_nesting():
     text = script(function(rules="true (not A)"))
     yield case(text, response(defined(body=negated("true", 62))), accepted(), name="response-nesting-64")
     yield case(text, response(defined(body=negated("§(not true)", 62))), refused(4), name="response-nesting-65")
+
+
+# Texts that just fit into smaller tables, and texts that no longer do
+
+def within(term, depth):
+    """A term within so many applications of `g`, three words and three bytes each."""
+    return "(g" * depth + " " + term + ")" * depth
+
+
+# The function that `within` applies.
+SAME = defined("g", "(a Bool)", body="a")
+
+
+def close_script(size):
+    """A script of so many bytes and nearly as many words; there is a variable and no point."""
+    commands = SAME + function() + variables("Bool")
+    one = constraint(within("v0", 60))
+    count = (size - len(script(commands))) // len(one)
+    return case(padded(script(commands, one * count), size), TRUE, accepted(0))
+
+
+def close_response(size):
+    """A response of so many bytes and, without the blanks behind it, nearly as many words."""
+    body = joined("or", within("true", 40), 3)
+    return case(script(SAME, function(rules="true (g A) (or A A)")), padded(response(defined(body=body)), size), accepted())
+
+
+def tables():
+    """Close texts at the lengths up to which there are smaller tables, and one byte past them."""
+    for size in SHORT_SCRIPTS:
+        yield from at_and_past("close-script", size, close_script)
+    yield from at_and_past("close-response", SHORT_RESPONSE, close_response)
 
 
 # Commands
@@ -215,5 +250,5 @@ def areas():
 
 def all_limits():
     """Every case of this file."""
-    for some in (sizes, words_and_nesting, commands, grammars_and_nodes, longest_lists, deepest_evaluation, areas):
+    for some in (sizes, words_and_nesting, tables, commands, grammars_and_nodes, longest_lists, deepest_evaluation, areas):
         yield from some()

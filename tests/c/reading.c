@@ -1,10 +1,13 @@
 /* How the time to read a script grows with its words: prints, for three kinds of script of 512 to 8,192 words, the time of each further word of a call of the
-   checker, and its ratio to that of the first step. There is a variable and no point, so that nothing is evaluated. */
+   checker, and its ratio to that of the first step from one script in the largest tables to the next. There is a variable and no point, so that nothing is evaluated. */
 #include <time.h>
 
 #include "calls.h"
 
 static const char *const RESPONSE = "((define-fun f ((a (_ BitVec 32))) (_ BitVec 32) a))";
+
+/* How many bytes a script has at most for which there are smaller tables. */
+enum { SMALLER = 4096 };
 
 static struct text script;
 
@@ -70,18 +73,21 @@ int main(void)
     shortest();
     for (int kind = 0; kind < 3; kind++) {
         double first = 0, time_before = 0;
-        size_t words_before = 0;
+        size_t words_before = 0, size_before = 0;
         printf("%s\n", names[kind]);
         for (size_t most = 512; most <= 8192; most += 512) {
             make(kind, most);
             double time = shortest();
             if (words_before != 0) {
                 double each = (time - time_before) / (script.words - words_before);
-                if (first == 0) first = each;
-                printf("  %4zu words  %7.1f ns a further word  ratio %.2f\n", script.words, each, each / first);
+                if (first == 0 && size_before > SMALLER) first = each;
+                printf("  %4zu words  %7.1f ns a further word", script.words, each);
+                if (first == 0) printf("\n");
+                else printf("  ratio %.2f\n", each / first);
             }
             time_before = time;
             words_before = script.words;
+            size_before = script.size;
         }
     }
     return 0;

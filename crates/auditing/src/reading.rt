@@ -3,6 +3,9 @@ use crate::lists::follow_all;
 use both_texts::read_texts;
 use both_texts::tables::are_short;
 use both_texts::tables::form_room;
+use both_texts::tables::is_middling;
+use both_texts::tables::middle_forms;
+use both_texts::tables::middle_nodes;
 use both_texts::tables::no_names;
 use both_texts::tables::no_places;
 use both_texts::tables::node_room;
@@ -54,17 +57,22 @@ fn audit_in(
     refusal(ACCEPTED, NONE, 0)
 }
 
-// The same in tables that fit the texts: short ones are read into small tables.
+// The same in tables that fit the texts.
 pub(crate) fn audit_texts(file: &[u8], script: &[u8], response: &[u8]) -> Outcome
     requires { ⌜ FileTexts (now file) (now script) (now response) ⌝ }
     ensures { λ r. ⌜ Audited (now (file .entry)) r ⌝ }
 {
     if are_short(script.len(), response.len()) {
-        let mut nodes = short_nodes();
-        let mut forms = short_forms();
-        return audit_in(file, script, response, &mut nodes, &mut forms);
+        let nodes: &mut [u64] = &mut short_nodes();
+        let forms: &mut [u64] = &mut short_forms();
+        return audit_in(file, script, response, nodes, forms);
     }
-    let mut nodes = node_room();
-    let mut forms = form_room();
-    audit_in(file, script, response, &mut nodes, &mut forms)
+    if is_middling(script.len()) {
+        let nodes: &mut [u64] = &mut middle_nodes();
+        let forms: &mut [u64] = &mut middle_forms();
+        return audit_in(file, script, response, nodes, forms);
+    }
+    let nodes: &mut [u64] = &mut node_room();
+    let forms: &mut [u64] = &mut form_room();
+    audit_in(file, script, response, nodes, forms)
 }

@@ -22,8 +22,8 @@ use Rattle.script_reader.specs.declared.Step.{Step}
 use Rattle.script.specs.Outcome.{ResponseOutcome, ScriptOutcome, given, responseWithin, said, scriptOutcome}
 use Rattle.texts.specs.code.Responses.{Ready, ResponseRead, ResponseTold}
 use Rattle.texts.specs.code.Scripts.{Lent as ScriptLent, ScriptRead, ScriptTold}
-use Rattle.texts.specs.code.Texts.{shortResponse, shortScript}
-use Rattle.texts.proofs.Rooms.{full-room, short-room}
+use Rattle.texts.specs.code.Texts.{middleScript, shortResponse, shortScript}
+use Rattle.texts.proofs.Rooms.{short-room}
 use Rattle.script.proofs.Numbers.{Numbered, inResponse, inScript, response-numbered, script-numbered}
 use Rattle.outcome.specs.code.Texts.{scriptText, responseText}
 use Rattle.outcome.proofs.Script.{script-assured}
@@ -42,11 +42,24 @@ module _ {limits : Limits} {script response nodes forms : List ℕ} where
       let two : length response ≤ shortResponse = leb-true _ _ (and-right (leb (length script) shortScript) (leb (length response) shortResponse) t) in
       record { nodes-room = λ n m a b c d. omega (arith, one, two); forms-room = short-room forms-long one }
 
-  -- and those of any
+  -- and those of a response with any words, where they have a row for each word that the script can have
+  wide-rooms : (most : ℕ) → ((n : ℕ) → n ≤ scriptWords → n ≤ length script → n ≤ most) → limits .words ≤ responseWords
+      → length nodes ≡ nodeWidth * (most + responseWords) → length forms ≡ nodeWidth * most → Rooms limits script response nodes forms
+  wide-rooms most fits few nodes-long forms-long =
+      record {
+        nodes-room = λ n m a b c d. omega (arith, fits n a b);
+        forms-room = record { room = λ n a b. omega (arith, fits n a b) };
+      }
+
+  -- a script of middle length
+  pub middle-rooms : {middling : Bool} → middling ≡ leb (length script) middleScript → middling ≡ true → limits .words ≤ responseWords
+      → length nodes ≡ nodeWidth * (middleScript + responseWords) → length forms ≡ nodeWidth * middleScript → Rooms limits script response nodes forms
+  middle-rooms is taken = wide-rooms middleScript (λ n a b. omega (arith, leb-true (length script) middleScript (sym is ∙ taken)))
+
+  -- any script
   pub full-rooms : limits .words ≤ responseWords → length nodes ≡ nodeWidth * (scriptWords + responseWords) → length forms ≡ nodeWidth * scriptWords
       → Rooms limits script response nodes forms
-  full-rooms few nodes-long forms-long =
-      record { nodes-room = λ n m a b c d. omega arith; forms-room = full-room {most = scriptWords} forms-long (omega arith) }
+  full-rooms = wide-rooms scriptWords (λ n a b. a)
 
 -- the tables that are lent, within the limits of a response
 pub lent : {limits : Limits} {script response names places nodes forms : List ℕ} → limits ≡ responseLimits → Names names → length places ≡ placesLength

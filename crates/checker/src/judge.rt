@@ -4,6 +4,9 @@ use accepting::accept;
 use accepting::area::blank_area;
 use both_texts::tables::are_short;
 use both_texts::tables::form_room;
+use both_texts::tables::is_middling;
+use both_texts::tables::middle_forms;
+use both_texts::tables::middle_nodes;
 use both_texts::tables::no_names;
 use both_texts::tables::no_places;
 use both_texts::tables::node_room;
@@ -82,7 +85,7 @@ fn judge_in(
     found
 }
 
-// The answer for texts, points and an area of right sizes, where the area shows nothing; short texts are judged in small tables.
+// The answer for texts, points and an area of right sizes, where the area shows nothing, in tables that fit the texts.
 pub(crate) fn judge_texts(
     script: &[u8],
     response: &[u8],
@@ -95,27 +98,16 @@ pub(crate) fn judge_texts(
         (r .outcome) (now (shown .exit)) (r .totals) ⌝ }
 {
     if are_short(script.len(), response.len()) {
-        let mut nodes = short_nodes();
-        let mut forms = short_forms();
-        return judge_in(
-            script,
-            response,
-            points,
-            budget,
-            shown,
-            &mut nodes,
-            &mut forms,
-        );
+        let nodes: &mut [u64] = &mut short_nodes();
+        let forms: &mut [u64] = &mut short_forms();
+        return judge_in(script, response, points, budget, shown, nodes, forms);
     }
-    let mut nodes = node_room();
-    let mut forms = form_room();
-    judge_in(
-        script,
-        response,
-        points,
-        budget,
-        shown,
-        &mut nodes,
-        &mut forms,
-    )
+    if is_middling(script.len()) {
+        let nodes: &mut [u64] = &mut middle_nodes();
+        let forms: &mut [u64] = &mut middle_forms();
+        return judge_in(script, response, points, budget, shown, nodes, forms);
+    }
+    let nodes: &mut [u64] = &mut node_room();
+    let forms: &mut [u64] = &mut form_room();
+    judge_in(script, response, points, budget, shown, nodes, forms)
 }

@@ -3,6 +3,9 @@ use both_texts::lengths::length_answer;
 use both_texts::read_texts;
 use both_texts::tables::are_short;
 use both_texts::tables::form_room;
+use both_texts::tables::is_middling;
+use both_texts::tables::middle_forms;
+use both_texts::tables::middle_nodes;
 use both_texts::tables::no_names;
 use both_texts::tables::no_places;
 use both_texts::tables::node_room;
@@ -43,7 +46,7 @@ fn told_in(script: &[u8], response: &[u8], nodes: &mut [u64], forms: &mut [u64])
     refusal(ACCEPTED, NONE, 0)
 }
 
-// The texts' own answer: 1 to 12, or 0 where both pass; short texts are read into small tables.
+// The texts' own answer: 1 to 12, or 0 where both pass, in tables that fit them.
 pub(crate) fn texts_told(script: &[u8], response: &[u8]) -> Outcome
     ensures { λ r. ⌜ TextsTold (now (script .entry)) (now (response .entry)) r ⌝ }
 {
@@ -52,11 +55,16 @@ pub(crate) fn texts_told(script: &[u8], response: &[u8]) -> Outcome
         return long;
     }
     if are_short(script.len(), response.len()) {
-        let mut nodes = short_nodes();
-        let mut forms = short_forms();
-        return told_in(script, response, &mut nodes, &mut forms);
+        let nodes: &mut [u64] = &mut short_nodes();
+        let forms: &mut [u64] = &mut short_forms();
+        return told_in(script, response, nodes, forms);
     }
-    let mut nodes = node_room();
-    let mut forms = form_room();
-    told_in(script, response, &mut nodes, &mut forms)
+    if is_middling(script.len()) {
+        let nodes: &mut [u64] = &mut middle_nodes();
+        let forms: &mut [u64] = &mut middle_forms();
+        return told_in(script, response, nodes, forms);
+    }
+    let nodes: &mut [u64] = &mut node_room();
+    let forms: &mut [u64] = &mut form_room();
+    told_in(script, response, nodes, forms)
 }

@@ -8,6 +8,9 @@ use both_texts::answers::unlocated;
 use both_texts::located::locate;
 use both_texts::tables::are_short;
 use both_texts::tables::form_room;
+use both_texts::tables::is_middling;
+use both_texts::tables::middle_forms;
+use both_texts::tables::middle_nodes;
 use both_texts::tables::no_names;
 use both_texts::tables::no_places;
 use both_texts::tables::node_room;
@@ -215,45 +218,32 @@ fn list_in(
     list_held(&places, nodes, told.progress, found, function, area)
 }
 
-// The same in tables that fit the texts: short ones are read into small tables.
+// The same, of the function of an index, in tables that fit the texts.
 fn list_texts(
     script: &[u8],
     response: &[u8],
     points: &[u64],
     budget: u64,
-    function: usize,
+    index: usize,
     area: &mut [u64],
 ) -> Listed
     requires { ⌜ length (now area) ≡ stepNumbers ⌝ }
-    ensures { λ r. ⌜ StepList (now (script .entry)) (now (response .entry)) (now (points .entry)) budget function (now (area .entry))
+    ensures { λ r. ⌜ StepList (now (script .entry)) (now (response .entry)) (now (points .entry)) budget index (now (area .entry))
         (r .answer) (r .count) (now (area .exit)) ⌝ }
 {
     if are_short(script.len(), response.len()) {
-        let mut nodes = short_nodes();
-        let mut forms = short_forms();
-        return list_in(
-            script,
-            response,
-            points,
-            budget,
-            function,
-            area,
-            &mut nodes,
-            &mut forms,
-        );
+        let nodes: &mut [u64] = &mut short_nodes();
+        let forms: &mut [u64] = &mut short_forms();
+        return list_in(script, response, points, budget, index, area, nodes, forms);
     }
-    let mut nodes = node_room();
-    let mut forms = form_room();
-    list_in(
-        script,
-        response,
-        points,
-        budget,
-        function,
-        area,
-        &mut nodes,
-        &mut forms,
-    )
+    if is_middling(script.len()) {
+        let nodes: &mut [u64] = &mut middle_nodes();
+        let forms: &mut [u64] = &mut middle_forms();
+        return list_in(script, response, points, budget, index, area, nodes, forms);
+    }
+    let nodes: &mut [u64] = &mut node_room();
+    let forms: &mut [u64] = &mut form_room();
+    list_in(script, response, points, budget, index, area, nodes, forms)
 }
 
 // The steps of the body of a function, by its number in script order, where the response is accepted: they are written from the tables of the check.

@@ -9,6 +9,9 @@ use both_texts::lengths::length_answer;
 use both_texts::located::locate;
 use both_texts::tables::are_short;
 use both_texts::tables::form_room;
+use both_texts::tables::is_middling;
+use both_texts::tables::middle_forms;
+use both_texts::tables::middle_nodes;
 use both_texts::tables::no_names;
 use both_texts::tables::no_places;
 use both_texts::tables::node_room;
@@ -70,19 +73,24 @@ fn derive_in(
     told.weighed
 }
 
-// The same in tables that fit the texts: short ones are read into small tables.
+// The same in tables that fit the texts.
 fn derive_texts(script: &[u8], response: &[u8], shown: &mut [u16]) -> Weighed
     requires { ⌜ Derivable (now script) (now response) (now shown) ⌝ }
     ensures { λ r. ⌜ ListsFound (now (script .entry)) (now (response .entry)) r (now (shown .exit)) ⌝ }
 {
     if are_short(script.len(), response.len()) {
-        let mut nodes = short_nodes();
-        let mut forms = short_forms();
-        return derive_in(script, response, shown, &mut nodes, &mut forms);
+        let nodes: &mut [u64] = &mut short_nodes();
+        let forms: &mut [u64] = &mut short_forms();
+        return derive_in(script, response, shown, nodes, forms);
     }
-    let mut nodes = node_room();
-    let mut forms = form_room();
-    derive_in(script, response, shown, &mut nodes, &mut forms)
+    if is_middling(script.len()) {
+        let nodes: &mut [u64] = &mut middle_nodes();
+        let forms: &mut [u64] = &mut middle_forms();
+        return derive_in(script, response, shown, nodes, forms);
+    }
+    let nodes: &mut [u64] = &mut node_room();
+    let forms: &mut [u64] = &mut form_room();
+    derive_in(script, response, shown, nodes, forms)
 }
 
 // The file of two texts and the lists that the area shows, where the answer on them is 0 and there is room for it.

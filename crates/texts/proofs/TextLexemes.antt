@@ -8,7 +8,7 @@ use lib.Seq.{take-at}
 use Rattle.forest.specs.Tables.{over}
 use Rattle.forest.proofs.Rows.{length-rows}
 use Rattle.words.specs.Reading.{ReadWords, readingOf, wordsRead}
-use Rattle.words.specs.Table.{entries, wordTable, wordValues, rowWidth as wordWidth}
+use Rattle.words.specs.Table.{entries, wordTable, wordValues}
 use Rattle.words.specs.Words.{Word, wordsOf}
 use Rattle.words.proofs.Chains.{entries-long}
 use Rattle.words.specs.Answers.{numberOf, passed}
@@ -21,7 +21,7 @@ use Rattle.lexemes.specs.code.Numbering.{Numbering}
 use Rattle.lexemes.proofs.WholeText.{whole-count, whole-few, whole-words}
 use Rattle.texts.specs.code.Texts.{Placed, RowEach}
 use Rattle.texts.specs.code.Lexed.{Lexed, Room, Rooms, Worded}
-use Rattle.texts.proofs.Rooms.{found-roomy, full-room, short-room, words-few}
+use Rattle.texts.proofs.Rooms.{found-roomy, words-few}
 use Rattle.script.proofs.Numbers.{read-whole}
 
 -- a table with room within the limits that are asked for
@@ -33,16 +33,6 @@ room-of e few room = rw e (record { few-words = few; lexemes-room = room })
 lexemes-long : (text : List ℕ) (ws : List Word) → length (lexemeTable text ws) ≡ lexemeWidth * length ws
 unfolding lexemeTable
 lexemes-long text ws = rw (length-rows (lexemeRow text) lexemeWidth (λ e. refl) (entries ws 0), entries-long ws 0)
-
-module _ {limits : Limits} {text words values lexemes : List ℕ} (room : Room limits text lexemes) where
-  -- the tables of a short text have room for its words
-  pub short-rooms : {most : ℕ} → length words ≡ wordWidth * most → length values ≡ 1 * most → length text ≤ most → Rooms limits text words values lexemes
-  short-rooms rows long h = record { words-room = short-room rows h; values-room = short-room long h; lexemes-room = room .lexemes-room }
-
-  -- and those of any
-  pub full-rooms : length words ≡ wordWidth * scriptWords → length values ≡ 1 * scriptWords → Rooms limits text words values lexemes
-  full-rooms rows long =
-      record { words-room = full-room rows (room .few-words); values-room = full-room long (room .few-words); lexemes-room = room .lexemes-room }
 
 module _ {limits : Limits} {text words values lexemes wordsAfter valuesAfter : List ℕ} {r : Reading} (room : Rooms limits text words values lexemes)
     (read : ReadWords limits text words values r wordsAfter valuesAfter) where

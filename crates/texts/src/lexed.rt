@@ -1,4 +1,5 @@
 //! The words and lexemes of one text, and the offsets of its words.
+use crate::MIDDLE_SCRIPT;
 use crate::SHORT_SCRIPT;
 use forest::limits::SCRIPT_WORDS;
 use lexemes::numbering::number_words;
@@ -15,7 +16,7 @@ ghost use lib.ListN.{length};
 ghost use Rattle.forest.specs.Limits.{scriptWords};
 ghost use Rattle.words.specs.Table.{rowWidth};
 ghost use Rattle.script.specs.Outcome.{offsetOf};
-ghost use Rattle.texts.specs.code.Texts.{Placed, shortScript};
+ghost use Rattle.texts.specs.code.Texts.{Placed, middleScript, shortScript};
 ghost use Rattle.texts.specs.code.Lexed.{Lexed, Room, Rooms};
 
 // Room for the rows of a short text's words.
@@ -30,6 +31,20 @@ fn short_values() -> [u64; SHORT_SCRIPT]
     ensures { λ r. ⌜ length r ≡ 1 * shortScript ⌝ }
 {
     [0; SHORT_SCRIPT]
+}
+
+// Room for the rows of the words of a text of middle length.
+fn middle_rows() -> [u32; table::ROW * MIDDLE_SCRIPT]
+    ensures { λ r. ⌜ length r ≡ rowWidth * middleScript ⌝ }
+{
+    [0; table::ROW * MIDDLE_SCRIPT]
+}
+
+// Room for the values of the words of a text of middle length.
+fn middle_values() -> [u64; MIDDLE_SCRIPT]
+    ensures { λ r. ⌜ length r ≡ 1 * middleScript ⌝ }
+{
+    [0; MIDDLE_SCRIPT]
 }
 
 // Room for the rows of a text's words.
@@ -70,13 +85,18 @@ pub fn read_lexemes(text: &[u8], limits: Limits, lexemes: &mut [u64]) -> Reading
     ensures { λ r. ⌜ Lexed limits (now (text .entry)) (now (lexemes .exit)) r ⌝ }
 {
     if text.len() <= SHORT_SCRIPT {
-        let mut words = short_rows();
-        let mut values = short_values();
-        return lexemes_in(text, limits, &mut words, &mut values, lexemes);
+        let words: &mut [u32] = &mut short_rows();
+        let values: &mut [u64] = &mut short_values();
+        return lexemes_in(text, limits, words, values, lexemes);
     }
-    let mut words = word_rows();
-    let mut values = word_values();
-    lexemes_in(text, limits, &mut words, &mut values, lexemes)
+    if text.len() <= MIDDLE_SCRIPT {
+        let words: &mut [u32] = &mut middle_rows();
+        let values: &mut [u64] = &mut middle_values();
+        return lexemes_in(text, limits, words, values, lexemes);
+    }
+    let words: &mut [u32] = &mut word_rows();
+    let values: &mut [u64] = &mut word_values();
+    lexemes_in(text, limits, words, values, lexemes)
 }
 
 // The offset of a word of a text; the text's length where it has not so many words.

@@ -7,3 +7,6 @@ pub mod scripts;
 pub const SHORT_SCRIPT: usize = 2048;
 
 pub const SHORT_RESPONSE: usize = 512;
+
+// How many bytes a script of middle length has at most.
+pub const MIDDLE_SCRIPT: usize = 4096;

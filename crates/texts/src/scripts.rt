@@ -1,4 +1,5 @@
 //! A script, from its bytes.
+use crate::MIDDLE_SCRIPT;
 use crate::SHORT_SCRIPT;
 use crate::lexed::offset_of;
 use crate::lexed::read_lexemes;
@@ -19,7 +20,7 @@ ghost use Rattle.lexemes.specs.code.Table.{rowWidth};
 ghost use Rattle.term_nodes.specs.code.Table.{rowWidth as rawWidth};
 ghost use Rattle.words.specs.Limits.{scriptLimits};
 ghost use Rattle.script.specs.Outcome.{secondOf};
-ghost use Rattle.texts.specs.code.Texts.{Placed, RowEach, shortScript};
+ghost use Rattle.texts.specs.code.Texts.{Placed, RowEach, middleScript, shortScript};
 ghost use Rattle.texts.specs.code.Scripts.{Lent, ScriptRead, inOffsets};
 
 // Room for the lexemes of a script.
@@ -36,6 +37,13 @@ fn short_lexemes() -> [u64; ROW * SHORT_SCRIPT]
     [0; ROW * SHORT_SCRIPT]
 }
 
+// Room for the lexemes of a script of middle length.
+fn middle_lexemes() -> [u64; ROW * MIDDLE_SCRIPT]
+    ensures { λ r. ⌜ length r ≡ rowWidth * middleScript ⌝ }
+{
+    [0; ROW * MIDDLE_SCRIPT]
+}
+
 // Room for what is gathered of a script.
 fn raw_rows() -> [u64; term_nodes::ROW * SCRIPT_WORDS]
     ensures { λ r. ⌜ length r ≡ rawWidth * scriptWords ⌝ }
@@ -48,6 +56,13 @@ fn short_raw() -> [u64; term_nodes::ROW * SHORT_SCRIPT]
     ensures { λ r. ⌜ length r ≡ rawWidth * shortScript ⌝ }
 {
     [0; term_nodes::ROW * SHORT_SCRIPT]
+}
+
+// Room for what is gathered of a script of middle length.
+fn middle_raw() -> [u64; term_nodes::ROW * MIDDLE_SCRIPT]
+    ensures { λ r. ⌜ length r ≡ rawWidth * middleScript ⌝ }
+{
+    [0; term_nodes::ROW * MIDDLE_SCRIPT]
 }
 
 // The refusal of a word of a script, by its number and its offset.
@@ -135,6 +150,11 @@ pub fn read_script_text(
     if text.len() <= SHORT_SCRIPT {
         let mut lexemes = short_lexemes();
         let mut raw = short_raw();
+        return script_in(text, &mut lexemes, names, &mut raw, places, nodes, forms);
+    }
+    if text.len() <= MIDDLE_SCRIPT {
+        let mut lexemes = middle_lexemes();
+        let mut raw = middle_raw();
         return script_in(text, &mut lexemes, names, &mut raw, places, nodes, forms);
     }
     let mut lexemes = lexeme_rows();

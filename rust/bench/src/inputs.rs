@@ -37,7 +37,7 @@ pub fn typical() -> Input {
     }
 }
 
-/// A script of nearly 4 KiB of the same kind, which is past the 2,048 bytes up to which the proved checker uses small tables.
+/// A script of nearly 4 KiB of the same kind, which the proved checker reads into tables of middle size.
 pub fn longer() -> Input {
     Input {
         script: include_bytes!("longer.sy").to_vec(),

@@ -23,7 +23,7 @@ const OPERATORS: [&str; 2] = ["bvuge", "bvult"];
 /// How many times as long as the simple checker the proved one may take for the largest script: "at most four times", by request E10.
 const REQUESTED: f64 = 4.0;
 /// What is held instead of that, for the largest script, for a typical one, for one of 4 KiB and for evaluation.
-const GOALS: [f64; 4] = [0.5, 0.4, 0.5, 0.3];
+const GOALS: [f64; 4] = [0.5, 0.4, 0.4, 0.3];
 /// How many times as long as with the earlier operator a script may take with the last one.
 const MOST_APART: f64 = 1.05;
 /// A literal, an operator's name and another name, of which a further word is read.

@@ -15,6 +15,10 @@ shortScript = 2048
 abbrev pub shortResponse : ℕ
 shortResponse = 512
 
+-- How many a script of middle length has.
+abbrev pub middleScript : ℕ
+middleScript = 4096
+
 -- A table has a row of so many numbers for each word that a text can have within limits.
 pub record RowEach (limits : Limits) (text : List ℕ) (width : ℕ) (table : List ℕ) : Type 0 where
   pub room : (n : ℕ) → n ≤ limits .words → n ≤ length text → width * n ≤ length table
