@@ -3,8 +3,8 @@
    Every function may be called with any bytes and any numbers. A text or a list is a pointer and a length; where the length is 0 the pointer is not read.
 
    A call keeps nothing for the next one, so that several may run at once. It runs on the caller's stack: sverdhyll_answer and sverdhyll_check take up to
-   1.68 MiB of it, whatever they are given (measured at the limits of all inputs, docs/MEASUREMENTS.md), sverdhyll_steps and the calls of the evidence file up to
-   1.74 MiB; sverdhyll_read, which evaluates nothing, and sverdhyll_run take less. A thread of 2 MiB suffices for each call; one of 1 MiB does not for every input,
+   1.52 MiB of it, whatever they are given (measured at the limits of all inputs, docs/MEASUREMENTS.md), sverdhyll_steps and the calls of the evidence file up to
+   1.59 MiB; sverdhyll_read, which evaluates nothing, and sverdhyll_run take less. A thread of 2 MiB suffices for each call; one of 1 MiB does not for every input,
    and a call that needs more than there is ends the program.
 
    Which static library has which function (`rt staticlib NAME` makes target/staticlib/libNAME.a; link one of them):

@@ -15,7 +15,6 @@ use Rattle.words.specs.Answers.{numberOf, passed}
 use Rattle.words.specs.declared.Limits.{Limits}
 use Rattle.words.specs.declared.Reading.{Reading}
 use Rattle.words.specs.declared.Reading.the-variants.{Whole}
-use Rattle.forest.specs.Limits.{scriptWords}
 use Rattle.lexemes.specs.code.Table.{lexemeRow, lexemeTable, rowWidth as lexemeWidth}
 use Rattle.lexemes.specs.code.Numbering.{Numbering}
 use Rattle.lexemes.proofs.WholeText.{whole-count, whole-few, whole-words}
@@ -25,8 +24,8 @@ use Rattle.texts.proofs.Rooms.{found-roomy, words-few}
 use Rattle.script.proofs.Numbers.{read-whole}
 
 -- a table with room within the limits that are asked for
-pub room-of : {limits asked : Limits} {text lexemes : List ℕ} → limits ≡ asked → asked .words ≤ scriptWords → RowEach asked text lexemeWidth lexemes
-    → Room limits text lexemes
+pub room-of : {most : ℕ} {limits asked : Limits} {text lexemes : List ℕ} → limits ≡ asked → asked .words ≤ most → RowEach asked text lexemeWidth lexemes
+    → Room most limits text lexemes
 room-of e few room = rw e (record { few-words = few; lexemes-room = room })
 
 -- the length of a table of lexemes

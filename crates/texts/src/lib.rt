@@ -1,6 +1,8 @@
 //! Texts: a script and a response, from their bytes to a refusal at its offset or to the tables of what they say.
 mod lexed;
+mod response_words;
 pub mod responses;
+mod script_words;
 pub mod scripts;
 
 // How many bytes a short script and a short response have at most: tables of so many rows have room for their words.

@@ -1,7 +1,7 @@
 //! A response, from its bytes.
 use crate::SHORT_RESPONSE;
 use crate::lexed::offset_of;
-use crate::lexed::read_lexemes;
+use crate::response_words::read_lexemes;
 use forest::limits::RESPONSE_WORDS;
 use lexemes::ROW;
 use response::answers::read_response;

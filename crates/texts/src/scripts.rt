@@ -2,7 +2,7 @@
 use crate::MIDDLE_SCRIPT;
 use crate::SHORT_SCRIPT;
 use crate::lexed::offset_of;
-use crate::lexed::read_lexemes;
+use crate::script_words::read_lexemes;
 use forest::limits::SCRIPT_WORDS;
 use lexemes::ROW;
 use script_reader::Step;

@@ -6,7 +6,6 @@ use lib.ListN.{length}
 use Rattle.words.specs.Reading.{readingOf}
 use Rattle.words.specs.Table.{rowWidth as wordWidth}
 use Rattle.words.specs.Words.{wordsOf}
-use Rattle.forest.specs.Limits.{scriptWords}
 use Rattle.lexemes.specs.code.Table.{lexemeTable, rowWidth as lexemeWidth}
 use Rattle.words.specs.Answers.{numberOf, passed}
 use Rattle.words.specs.declared.Limits.{Limits}
@@ -14,9 +13,9 @@ use Rattle.words.specs.declared.Reading.{Reading}
 use Rattle.words.specs.declared.Reading.the-variants.{Whole}
 use Rattle.texts.specs.code.Texts.{RowEach}
 
--- The limits are not past those of a script, and there is a row for each word.
-pub record Room (limits : Limits) (text lexemes : List ℕ) : Type 0 where
-  pub few-words : limits .words ≤ scriptWords
+-- The limits allow at most so many words, and there is a row for each word.
+pub record Room (most : ℕ) (limits : Limits) (text lexemes : List ℕ) : Type 0 where
+  pub few-words : limits .words ≤ most
   pub lexemes-room : RowEach limits text lexemeWidth lexemes
 
 -- There is a row, a value and a lexeme for each word.
