@@ -1,4 +1,5 @@
 //! The two texts and the derivations of all bodies, through answer 13, in tables and an area that the caller lends.
+#![tactic(auto)]
 pub mod area;
 
 ghost use Rattle.std.specs.Prelude.{◌≡◌};
@@ -17,7 +18,7 @@ use verdicts::derive::derive_all;
 use words::Limits;
 
 // The answer on two texts and their bodies, whose number is 0 where every body is derived, with the totals; and what the script has said.
-#[derive(Drop)]
+#[derive(Clone, Copy)]
 pub struct TextsWeighed {
     pub weighed: Weighed,
     pub progress: Progress,

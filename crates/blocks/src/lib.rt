@@ -1,4 +1,5 @@
 //! The blocks of an evidence file: 510 bytes of payload each, and two that hold their sum. What the payload says, and the writing of a file.
+#![tactic(auto)]
 pub mod reading;
 pub mod writing;
 
@@ -18,7 +19,7 @@ pub const HEAD: usize = 24;
 pub(crate) const MODULUS: usize = 65521;
 
 // Where the next payload byte is written: its index in the file, how many payload bytes the open block has, and their sum.
-#[derive(Drop)]
+#[derive(Clone, Copy)]
 pub(crate) struct Place {
     pub(crate) at: usize,
     pub(crate) filled: usize,

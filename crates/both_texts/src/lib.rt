@@ -1,5 +1,6 @@
 //! The two texts: what reading a script and a response to it gives, through answer 12, and what an answer on them carries. Nothing here searches for
 //! derivations.
+#![tactic(auto)]
 pub mod answers;
 pub mod lengths;
 pub mod located;
@@ -19,7 +20,7 @@ use texts::scripts::read_script_text;
 use words::Limits;
 
 // The answer on two texts, whose number is 0 where both pass; and what the script has said.
-#[derive(Drop)]
+#[derive(Clone, Copy)]
 pub struct Told {
     pub outcome: Outcome,
     pub progress: Progress,

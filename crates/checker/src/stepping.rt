@@ -30,7 +30,7 @@ use words::response_limits;
 const NUMBERS: usize = STEP * NODES;
 
 // An answer, and how many steps were written.
-#[derive(Drop)]
+#[derive(Clone, Copy)]
 pub struct Listed {
     pub answer: Answer,
     pub count: usize,

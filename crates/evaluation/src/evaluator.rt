@@ -8,7 +8,7 @@ use terms::codes::{LITERAL, NAME, OPERATOR, head_of, high_in, kind_of, low_in};
 use terms::{Value, code_at, operands_at, size_at, value_at};
 
 // The sorts of the first two operands; what is not there is 0.
-#[derive(Drop)]
+#[derive(Clone, Copy)]
 struct Sorts {
     one: u64,
     two: u64,

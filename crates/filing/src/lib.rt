@@ -1,4 +1,5 @@
 //! The writing of an evidence file (request E12): the two texts, and the derivations that are found for their bodies.
+#![tactic(auto)]
 ghost use Rattle.std.specs.Prelude.{◌≡◌};
 ghost use Rattle.words.specs.Limits.{response_limits};
 ghost use Rattle.both_texts.specs.code.Both.{Rooms};
@@ -20,7 +21,7 @@ use script::answers::{ACCEPTED, AREA_SIZE};
 use words::response_limits;
 
 // An answer, and how long the file is that was written; 0 where none was.
-#[derive(Drop)]
+#[derive(Clone, Copy)]
 pub struct Written {
     pub answer: Answer,
     pub length: usize,

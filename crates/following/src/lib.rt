@@ -1,6 +1,7 @@
 //! Whether a list of rules derives a body: the list is read as `searching::showing` writes it, leftmost rule first, and nothing is searched for.
 //!
 //! `rules`, `forms` and `body` are the tables of crate `derivation`.
+#![tactic(auto)]
 ghost use Rattle.std.specs.Prelude.{◌≡◌, ◌<◌, get_or};
 ghost use Rattle.forest.specs.Limits.{most_non_terminals, unused};
 ghost use Rattle.following.specs.code.Follows.{Follows, FollowsPre};
@@ -15,7 +16,7 @@ use terms::codes::NON_TERMINAL;
 use terms::{code_at, size_at, value_at};
 
 // Whether the chain rules of a list lead to a rule that is no chain rule; that rule, and the place of the list after it.
-#[derive(Drop)]
+#[derive(Clone, Copy)]
 struct Last {
     ok: bool,
     at: usize,
@@ -23,7 +24,7 @@ struct Last {
 }
 
 // Whether the front of a list derives a tree, and the place of the list after it.
-#[derive(Drop)]
+#[derive(Clone, Copy)]
 struct Followed {
     ok: bool,
     at: usize,

@@ -1,5 +1,6 @@
 //! Names in scope: a table of them, what a symbol stands for, and the forms that terms say.
 //! New names: whether one is reserved or taken, where a name that is taken was declared, and the names of arguments and non-terminals put in scope.
+#![tactic(auto)]
 pub mod earlier;
 pub mod forms;
 mod meanings;
@@ -11,7 +12,7 @@ pub mod table;
 ghost use Rattle.std.specs.Prelude.{◌≡◌, min};
 
 // What a term sees, as rows of the table of names: arguments or variables from row `first` on, and how many of the others there are.
-#[derive(Drop)]
+#[derive(Clone, Copy)]
 pub struct Seen {
     pub first: usize,
     pub names: usize,
@@ -21,7 +22,7 @@ pub struct Seen {
 }
 
 // What a node stands for, as the two numbers of a node table, and whether it is known.
-#[derive(Drop)]
+#[derive(Clone, Copy)]
 pub struct Meaning {
     pub known: bool,
     pub code: u64,
@@ -29,7 +30,7 @@ pub struct Meaning {
 }
 
 // How many names of each kind are in scope: variables, `define-fun`s, synthesized functions, and arguments, which stand from row `first` on.
-#[derive(Drop)]
+#[derive(Clone, Copy)]
 pub struct Scope {
     pub variables: usize,
     pub defined: usize,
@@ -39,7 +40,7 @@ pub struct Scope {
 }
 
 // Where the forms of gathered nodes are written: how many of the nodes there are, the row from which on their forms stand, and how many words the text has.
-#[derive(Drop)]
+#[derive(Clone, Copy)]
 pub struct Target {
     pub count: usize,
     pub base: usize,

@@ -1,6 +1,7 @@
 //! What the checker answers for a script, a response, a list of points and a budget, and what follows from that.
 //! What holds of a script that passes: its rules, bodies and constraints have their sorts, and so has every term that its grammars derive.
 //! What is sure of a script and a response that pass: the sizes and sorts that the search for derivations and the evaluation rely on.
+#![tactic(auto)]
 
 ghost use Rattle.std.specs.Prelude.{◌≡◌};
 ghost use Rattle.outcome.specs.Checked.{refusal};
@@ -22,7 +23,7 @@ pub const NONE: usize = 3;
 
 // The number of an answer; which text it speaks of (0 the script, 1 the response, 2 the points, 3 none or the area); its place and its second number; and the
 // units spent.
-#[derive(Drop)]
+#[derive(Clone, Copy)]
 pub struct Outcome {
     pub number: usize,
     pub text: usize,
@@ -32,7 +33,7 @@ pub struct Outcome {
 }
 
 // What an answer carries of its place: the end of the word there, the line and the column; zeros where it carries nothing.
-#[derive(Drop)]
+#[derive(Clone, Copy)]
 pub struct Location {
     pub end: usize,
     pub line: usize,
@@ -40,14 +41,14 @@ pub struct Location {
 }
 
 // An answer, and what the list of each function weighs; 0 where none is shown.
-#[derive(Drop)]
+#[derive(Clone, Copy)]
 pub struct Weighed {
     pub outcome: Outcome,
     pub totals: [u64; FUNCTIONS],
 }
 
 // An answer with what it carries, and the same totals.
-#[derive(Drop)]
+#[derive(Clone, Copy)]
 pub struct Answer {
     pub outcome: Outcome,
     pub location: Location,

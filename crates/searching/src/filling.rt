@@ -17,7 +17,7 @@ use terms::codes::NON_TERMINAL;
 use terms::{ROW, code_at, value_at};
 
 // The rule that leads to the least list, and the rank of that list; 0 if there is none.
-#[derive(Drop)]
+#[derive(Clone, Copy)]
 struct Choice {
     rule: usize,
     rank: u64,

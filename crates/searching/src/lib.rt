@@ -1,6 +1,7 @@
 //! The search for derivations: whether the rules of a grammar derive a body, and by which rules.
 //!
 //! `rules`, `forms` and `body` are the tables of crate `derivation`.
+#![tactic(auto)]
 ghost use Rattle.std.specs.Prelude.{◌≡◌, ◌+◌, ◌*◌, ◌≤◌, length, replicate};
 ghost use Rattle.std.proofs.lemmas.List.Edits.{sets};
 ghost use Rattle.searching.specs.code.Derive.{Decides, DerivePre};
@@ -57,7 +58,7 @@ fn copy(list: &[u16], area: &mut [u16], at: usize)
 }
 
 // Whether there is a derivation, and what the least one weighs in all; 0 if there is none.
-#[derive(Drop)]
+#[derive(Clone, Copy)]
 pub struct Derived {
     pub found: bool,
     pub total: u64,

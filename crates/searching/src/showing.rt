@@ -11,7 +11,7 @@ use terms::codes::NON_TERMINAL;
 use terms::{code_at, size_at, value_at};
 
 // Where the next rule is written, and the rule that is no chain rule.
-#[derive(Drop)]
+#[derive(Clone, Copy)]
 struct Followed {
     at: usize,
     rule: usize,

@@ -1,10 +1,11 @@
 //! Steps for a small stack controller, and the list of steps of a body.
+#![tactic(auto)]
 pub mod list;
 
 use terms::Value;
 
 // The four numbers of a step: what it does, and the three behind that.
-#[derive(Drop)]
+#[derive(Clone, Copy)]
 pub struct Step {
     pub first: u64,
     pub second: u64,
@@ -19,7 +20,7 @@ pub const BAD_STEP: usize = 19;
 pub const BAD_ARGUMENT: usize = 20;
 
 // How running a list of steps ends: the answer's number and its place, and after answer 0 the one value on the stack.
-#[derive(Drop)]
+#[derive(Clone, Copy)]
 pub struct StepsRan {
     pub number: usize,
     pub place: usize,

@@ -1,6 +1,7 @@
 //! The nodes of terms, gathered from the words before their names are looked up: four numbers for each node, its first word, the word that says what it is,
 //! how many operands it has, and how many nodes its tree has. A node past the end of a table has zeros.
 //! The rules that a grammar lists: their nodes, gathered one after the other, where each starts and its non-terminal; and the limits on them.
+#![tactic(auto)]
 pub mod gather;
 pub mod limits;
 pub mod rule_limits;
@@ -56,7 +57,7 @@ pub fn is_constant(first: usize, head: usize, code: u64) -> bool
 }
 
 // What is gathered so far: how many rows and rules, and the least word past a limit.
-#[derive(Drop)]
+#[derive(Clone, Copy)]
 pub struct Gathered {
     pub row: usize,
     pub rule: usize,

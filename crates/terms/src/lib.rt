@@ -1,4 +1,5 @@
 //! Terms in node tables: four numbers for each node. A node past the end of a table has zeros.
+#![tactic(auto)]
 pub mod codes;
 
 ghost use Rattle.std.specs.Prelude.{◌≡◌};
@@ -7,7 +8,7 @@ ghost use Rattle.terms.specs.code.Nodes.{code_at, operands_at, size_at, value_at
 use forest::numbers::number_at;
 
 // A value of a sort: 0 is Bool, else the width; and its number.
-#[derive(Drop)]
+#[derive(Clone, Copy)]
 pub struct Value {
     pub sort: u64,
     pub number: u64,

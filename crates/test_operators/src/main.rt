@@ -2,6 +2,7 @@
 //! hash of the values of each operator, with two operands where it takes more; then of each operator that takes more, a hash of its values with 3, with 4, with 5
 //! and with 6 operands.
 //! tests/operators.py computes the same lines from SMT-LIB's meaning of the operators.
+#![tactic(auto)]
 ghost use Rattle.std.specs.Prelude.{◌≡◌, ◌<◌, ◌≤◌, true, if◌then◌else◌, nat_lt};
 ghost use Rattle.operators.specs.Operators.{operator_at, operator_count, takes};
 ghost use Rattle.operators.specs.Sorts.{Fit, choice, cutting, joining, max_width};

@@ -1,5 +1,6 @@
 //! The Ring case of document 01: A has the rule B; B has A and x. The body x, of function 1, shows the rules 0 and 2.
 //! Of lists that are read, that one alone derives it without using a non-terminal twice.
+#![tactic(auto)]
 ghost use Rattle.std.specs.Prelude.{length, ◌≡◌};
 
 // The place in the area where function 1's list starts.

@@ -2,6 +2,7 @@
 //! or `-` for none; a budget and the size of the area in hex; with a space between. For each it writes a line that says what the reader of words finds in the
 //! two texts, the checker's answer (number, text, place, second number, units; the end, the line and the column that it carries; the total weight of each of eight
 //! functions), and what stands in the area afterwards: `unchanged`, `blank`, the lists shown, or `other`.
+#![tactic(auto)]
 mod answers;
 mod records;
 

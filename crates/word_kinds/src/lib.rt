@@ -1,10 +1,11 @@
 //! Words by their bytes: what a word is, or why it is refused.
+#![tactic(auto)]
 mod bytes;
 pub mod decimals;
 pub mod kinds;
 
 // The classes of bytes of which words are made.
-#[derive(Drop)]
+#[derive(Clone, Copy)]
 pub enum Class {
     Digits,
     HexDigits,
@@ -13,7 +14,7 @@ pub enum Class {
 }
 
 // Why a text is refused; `NoFault` is why one is not.
-#[derive(Drop)]
+#[derive(Clone, Copy)]
 pub enum Fault {
     NoFault,
     TooLong,
@@ -24,14 +25,14 @@ pub enum Fault {
 }
 
 // The value of a constant's numeral, where it fits 64 bits.
-#[derive(Drop)]
+#[derive(Clone, Copy)]
 pub struct Decimal {
     pub fits: bool,
     pub value: u64,
 }
 
 // What a word is: a numeral has its value, a literal its width in bits and its value; a keyword is one that is carried.
-#[derive(Drop)]
+#[derive(Clone, Copy)]
 pub enum Kind {
     Open,
     Close,

@@ -1,6 +1,7 @@
 //! The reader of words: from the bytes of a text to its words, or to the refusal at the least offset.
 //! What the reader of words takes and gives: the limits of a text, what is found in it, and the word table.
 //! The words of a text: where they start and end, what is wrong with them, and the rows of the word table.
+#![tactic(auto)]
 pub mod answers;
 pub mod links;
 pub mod positions;
@@ -26,7 +27,7 @@ use forest::numbers::least;
 use word_kinds::Fault;
 
 // What a text may hold at the most: its bytes, its words with brackets counted, and how many lists may stand within one another.
-#[derive(Drop)]
+#[derive(Clone, Copy)]
 pub struct Limits {
     pub bytes: u32,
     pub words: u32,
@@ -34,14 +35,14 @@ pub struct Limits {
 }
 
 // What reading a text finds: how many words there are, or the refusal, its place, and how many words were passed before it.
-#[derive(Drop)]
+#[derive(Clone, Copy)]
 pub enum Reading {
     Whole(usize),
     Refused(Fault, usize, usize),
 }
 
 // Where a place of a text stands: its line and its column, both from 1.
-#[derive(Drop)]
+#[derive(Clone, Copy)]
 pub struct Position {
     pub line: usize,
     pub column: usize,
