@@ -88,7 +88,7 @@ word_at names (start ∷ end ∷ more) (suc k) h = rw suc-add (word_at names (en
 slot_small : (slot : ℕ) (word : List ℕ) → slot < slot_count → slot_from slot word < slot_count
 unfolding slot_from
 slot_small slot [] h = h
-slot_small slot (b ∷ word) h = slot_small _ word (mod-lt (7 * slot + b) (lit< tt))
+slot_small slot (b ∷ word) h = slot_small ((7 * slot + b) % slot_count) word (mod-lt (7 * slot + b) (lit< tt))
 
 -- the slot of the bytes so far, and of those that are left
 pub record Slotting (word : List ℕ) (slot k : ℕ) : Type 0 where
@@ -208,7 +208,9 @@ words_behind front [] = refl
 words_behind front (w ∷ words) =
     let size : length front + length w - length front ≡ length w = omega arith in
     let first : take (length w) (drop (length front) (front ++ (w ++ joined words))) ≡ w = rw (drop-append_seam front, take-append_seam w) in
-    rw (size, first, ← append_assoc front w (joined words), ← length-append front w, words_behind (front ++ w) words)
+    let whole : words_in (front ++ (w ++ joined words)) ((length front + length w) ∷ ends_from (length front + length w) words) ≡ words =
+        rw (← append_assoc front w (joined words), ← length-append front w) (words_behind (front ++ w) words) in
+    rw (size, first) (ap (λ (l : List (List ℕ)). w ∷ l) whole)
 
 -- and they are the words that it goes through
 pub words_are : (words : List (List ℕ)) → words_in (joined words) (starts_of words) ≡ words

@@ -1,0 +1,22 @@
+use Rattle.one_function.proofs.OneFunction.{body_end, few_rules, forms_end}
+use Rattle.auditing.proofs.ListFollowed.{followable, list_followed}
+use Rattle.auditing.proofs.lists.follow_list.Goals as goal
+
+pub rules_of-rules-requires : goal.rules_of-rules-requires
+rules_of-rules-requires c = let q = c.requires in (q.low, (q.long, few_rules q))
+
+pub rows_from-sides-requires : goal.rows_from-sides-requires
+rows_from-sides-requires c = forms_end c.requires c.forms_of.ensures c.form_rows_of.ensures
+
+pub rows_from-body-requires : goal.rows_from-body-requires
+rows_from-body-requires c = body_end c.requires c.body_of-node.ensures c.size_at.ensures
+
+pub follows-requires : goal.follows-requires
+follows-requires c =
+    followable c.requires c.rules_of-rules.ensures c.forms_of.ensures c.form_rows_of.ensures
+    c.rows_from-sides.ensures c.body_of-node.ensures c.size_at.ensures c.rows_from-body.ensures
+
+pub returns : goal.returns
+returns c =
+    λ q. list_followed q c.rules_of-rules.ensures c.forms_of.ensures c.form_rows_of.ensures c.rows_from-sides.ensures
+    c.body_of-node.ensures c.size_at.ensures c.rows_from-body.ensures c.follows.ensures

@@ -1,0 +1,6 @@
+use Rattle.blocks.specs.Layout.{list_length_in}
+use Rattle.blocks.proofs.reading.list_length.Goals as goal
+
+pub returns : goal.returns
+unfolding list_length_in
+returns c = c.pair_at.ensures

@@ -1,0 +1,6 @@
+use Rattle.blocks.specs.Layout.{script_length_in}
+use Rattle.blocks.proofs.reading.script_length.Goals as goal
+
+pub returns : goal.returns
+unfolding script_length_in
+returns c = c.four_at.ensures

@@ -1,0 +1,12 @@
+use Rattle.names.proofs.Names.{Writing}
+use Rattle.names.specs.code.Table.{longest}
+use Prim.Native.Nat.{◌-◌}
+use Rattle.names.proofs.table.put_name.Reads as reads
+use Rattle.names.proofs.table.put_name.Lts as lts
+use Rattle.names.proofs.table.put_name.Given as goal
+
+abbrev pub invariant-loop-k : goal.invariant-loop-k
+invariant-loop-k l = Writing l.initial.names l.word l.names l.at l.k
+
+abbrev pub decreases-loop-k : goal.decreases-loop-k
+decreases-loop-k l = longest - l.k

@@ -1,0 +1,10 @@
+use Rattle.operators.specs.Operators.{Operator, operators}
+use Rattle.operators.proofs.Table.{column, past}
+use Rattle.operators.proofs.operators.many_of.Goals as goal
+
+pub returns-then-operator-lt-OPERATORS : goal.returns-then-operator-lt-OPERATORS
+unfolding operators
+returns-then-operator-lt-OPERATORS c = column (λ (r : Operator). r.many) c.args.operator
+
+pub returns-else-operator-lt-OPERATORS : goal.returns-else-operator-lt-OPERATORS
+returns-else-operator-lt-OPERATORS c = past (λ (r : Operator). r.many) c.if-operator-lt-OPERATORS.false

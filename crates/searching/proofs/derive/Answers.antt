@@ -1,0 +1,41 @@
+use Rattle.searching.proofs.Top.{masks_fit, show_pre, derive_no, derive_yes}
+use lib.ListN.{length, length-take}
+use mathlib.Core.Path.{refl}
+use Prim.Native.Nat.{◌/◌, ◌*◌}
+use native.Mathlib.Omega.{arith}
+use Rattle.terms.specs.code.Nodes.{row_width}
+use Rattle.searching.specs.code.Masks.{mark_width}
+use Rattle.searching.proofs.derive.Goals as goal
+
+pub slice_bounds-masks-end : goal.slice_bounds-masks-end
+slice_bounds-masks-end c =
+    omega (
+      arith,
+      masks_fit {n = length c.args.body.now / row_width * mark_width} refl c.requires,
+      c.no_masks-masks.ensures,
+    )
+
+pub slice_bounds-show-end : goal.slice_bounds-show-end
+slice_bounds-show-end c =
+    omega (
+      arith,
+      length-take (length c.args.body.now / row_width * mark_width) c.no_masks-masks.result,
+      masks_fit {n = length c.args.body.now / row_width * mark_width} refl c.requires,
+      c.no_masks-masks.ensures,
+    )
+
+pub show-rank-requires : goal.show-rank-requires
+show-rank-requires c =
+    show_pre refl c.no_masks-masks.result c.no_masks-masks.ensures c.no_choices-choices.ensures
+    c.blank-list.ensures c.requires
+
+pub returns-then-rank-eq0 : goal.returns-then-rank-eq0
+returns-then-rank-eq0 c =
+    derive_no refl c.no_masks-masks.result c.no_masks-masks.ensures c.no_choices-choices.ensures
+    c.blank-list.ensures c.show-rank.ensures c.if-rank-eq0.true
+
+pub returns : goal.returns
+returns c =
+    derive_yes refl c.no_masks-masks.result c.no_masks-masks.ensures c.no_choices-choices.ensures
+    c.blank-list.ensures c.show-rank.ensures c.if-rank-eq0.false
+    c.copy.ensures

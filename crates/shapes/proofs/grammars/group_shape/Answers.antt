@@ -1,0 +1,39 @@
+use Rattle.lexemes.proofs.Listed.{as_list, no_list}
+use Rattle.shapes.proofs.Shaped.{group_made, not_listed}
+use Rattle.shapes.proofs.ListItems.{long, the_item}
+use native.Mathlib.Omega.{arith}
+use Rattle.shapes.proofs.grammars.group_shape.Goals as goal
+
+pub returns-then-code_at-ne-OPEN : goal.returns-then-code_at-ne-OPEN
+returns-then-code_at-ne-OPEN c = λ here. rw (no_list c.code_at.ensures c.if-code_at-ne-OPEN.true here)
+
+pub count_in-requires : goal.count_in-requires
+count_in-requires c = search as_list
+
+pub returns-then-count_in-ne3 : goal.returns-then-count_in-ne3
+returns-then-count_in-ne3 c =
+    λ here. rw
+    (not_listed c.code_at.ensures c.if-code_at-ne-OPEN.false c.count_in.ensures c.if-count_in-ne3.true here)
+
+pub symbol_in-requires : goal.symbol_in-requires
+symbol_in-requires c = long (search as_list) c.count_in.ensures (omega arith)
+
+pub item_in-requires : goal.item_in-requires
+item_in-requires c = long (search as_list) c.count_in.ensures (omega arith)
+
+pub sort_shape-requires : goal.sort_shape-requires
+sort_shape-requires c = the_item c.item_in.ensures (search as_list)
+
+pub item_in-requires-2 : goal.item_in-requires-2
+item_in-requires-2 c = long (search as_list) c.count_in.ensures (omega arith)
+
+pub rules_shape-requires : goal.rules_shape-requires
+rules_shape-requires c = the_item c.item_in-2.ensures (search as_list)
+
+pub returns : goal.returns
+returns c =
+    group_made c.code_at.ensures
+    c.if-code_at-ne-OPEN.false
+    c.count_in.ensures c.if-count_in-ne3.false
+    c.symbol_in.ensures c.item_in.ensures
+    c.sort_shape.ensures c.item_in-2.ensures c.rules_shape.ensures

@@ -1,0 +1,26 @@
+use mathlib.Core.Logic.{⊎_elim}
+use native.Mathlib.Omega.{arith}
+use Prim.Native.Nat.{◌-◌}
+use Rattle.term_nodes.proofs.PastLimit.{seek_begins, seek_counts, seek_ends, seek_finds, seek_skips}
+use Rattle.term_nodes.proofs.limits.node_past.Goals as goal
+
+pub loop-node-init : goal.loop-node-init
+loop-node-init c = search seek_begins
+
+pub returns-then-counted-most : goal.returns-then-counted-most
+returns-then-counted-most c = search seek_finds
+
+pub overflow_add-counted : goal.overflow_add-counted
+overflow_add-counted c = omega arith
+
+pub overflow_add-node : goal.overflow_add-node
+overflow_add-node c = omega arith
+
+pub loop-node-smaller : goal.loop-node-smaller
+loop-node-smaller c = omega arith
+
+pub loop-node-preserved : goal.loop-node-preserved
+loop-node-preserved c = ⊎_elim (λ w. search seek_counts) (λ w. search seek_skips) c.if-head-at.branch
+
+pub returns : goal.returns
+returns c = search seek_ends

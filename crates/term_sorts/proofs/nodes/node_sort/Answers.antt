@@ -1,0 +1,39 @@
+use Rattle.term_sorts.proofs.NodeSorts.{call_ready, called_node, leaf_node, node_fails, operator_node, operands_ready, row_low}
+use native.Mathlib.Omega.{arith}
+use Rattle.term_sorts.proofs.nodes.node_sort.Goals as goal
+
+pub returns-then-not-whole : goal.returns-then-not-whole
+returns-then-not-whole c = search node_fails
+
+pub operator_sort-requires : goal.operator_sort-requires
+operator_sort-requires c =
+    search operands_ready
+
+pub returns-then-kind-eq-OPERATOR : goal.returns-then-kind-eq-OPERATOR
+returns-then-kind-eq-OPERATOR c = search operator_node
+
+pub overflow_add-row : goal.overflow_add-row
+overflow_add-row c =
+    let said-kind = c in
+    let said = said-kind.before in
+    omega (
+      arith,
+      row_low said.before.before.before.if1.false said.operands-at.ensures said.before.before.code_at.ensures said.before.value-at.ensures
+          said-kind.kind-of.ensures c.if-kind.true c.first_row.ensures said.before.before.before.before.before.before.before.requires,
+    )
+
+pub called_sort-requires : goal.called_sort-requires
+called_sort-requires c =
+    let said-kind = c in
+    let said = said-kind.before in
+    call_ready said.before.before.before.if1.false said.operands-at.ensures said.before.before.code_at.ensures said.before.value-at.ensures
+    said-kind.kind-of.ensures c.if-kind.true c.first_row.ensures said.before.before.before.before.before.before.before.requires
+
+pub returns-then-kind : goal.returns-then-kind
+returns-then-kind c = search called_node
+
+pub overflow_add-head_of : goal.overflow_add-head_of
+overflow_add-head_of c = omega arith
+
+pub returns : goal.returns
+returns c = search leaf_node

@@ -1,0 +1,9 @@
+use Rattle.std.proofs.Common.{◌-◌, ◌≤◌}
+use Rattle.operators.specs.Operators.{operator_count}
+use Rattle.test_operators.proofs.line.Given as goal
+
+abbrev pub invariant-loop-operator : goal.invariant-loop-operator
+invariant-loop-operator l = operator ≤ operator_count
+
+abbrev pub decreases-loop-operator : goal.decreases-loop-operator
+decreases-loop-operator l = operator_count - operator

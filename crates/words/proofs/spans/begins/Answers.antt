@@ -1,0 +1,4 @@
+use Rattle.words.proofs.spans.begins.Goals as goal
+
+pub returns : goal.returns
+returns c = cc
