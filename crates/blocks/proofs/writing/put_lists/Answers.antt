@@ -16,7 +16,7 @@ pub overflow_mul-function-in-loop-function : goal.overflow_mul-function-in-loop-
 overflow_mul-function-in-loop-function c = omega arith
 
 pub put_rules-place-requires : goal.put_rules-place-requires
-put_rules-place-requires c = (list_within c.loop-function.invariant c.loop-function-test.true c.rules_shown-count.ensures, lists_fit c.loop-function.invariant c.loop-function-test.true c.rules_shown-count.ensures)
+put_rules-place-requires c = record { count_in_bounds = list_within c.loop-function.invariant c.loop-function-test.true c.rules_shown-count.ensures; fitting = lists_fit c.loop-function.invariant c.loop-function-test.true c.rules_shown-count.ensures }
 
 pub overflow_add-function : goal.overflow_add-function
 overflow_add-function c = omega arith

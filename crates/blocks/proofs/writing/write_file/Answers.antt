@@ -3,7 +3,7 @@ use native.Mathlib.Omega.{arith}
 use Rattle.blocks.proofs.writing.write_file.Goals as goal
 
 pub put_head-head-requires : goal.put_head-head-requires
-put_head-head-requires c = (c.requires.shown_len, write_head c.args.script.now c.args.response.now c.args.shown.now c.args.area.now c.requires.shown_in_bounds)
+put_head-head-requires c = record { shown_len = c.requires.shown_len; fitting = write_head c.args.script.now c.args.response.now c.args.shown.now c.args.area.now c.requires.shown_in_bounds }
 
 pub put_bytes-first-requires : goal.put_bytes-first-requires
 put_bytes-first-requires c = write_script c.args.script.now c.args.response.now c.args.shown.now c.args.area.now c.requires.shown_in_bounds c.put_head-head.ensures
@@ -12,7 +12,7 @@ pub put_bytes-second-requires : goal.put_bytes-second-requires
 put_bytes-second-requires c = write_response c.args.script.now c.args.response.now c.args.shown.now c.args.area.now c.requires.shown_in_bounds c.put_head-head.ensures c.put_bytes-first.ensures
 
 pub put_lists-lists-requires : goal.put_lists-lists-requires
-put_lists-lists-requires c = (c.requires.shown_len, write_rules c.args.script.now c.args.response.now c.args.shown.now c.args.area.now c.requires.shown_in_bounds c.put_head-head.ensures c.put_bytes-first.ensures c.put_bytes-second.ensures)
+put_lists-lists-requires c = record { shown_len = c.requires.shown_len; fitting = write_rules c.args.script.now c.args.response.now c.args.shown.now c.args.area.now c.requires.shown_in_bounds c.put_head-head.ensures c.put_bytes-first.ensures c.put_bytes-second.ensures }
 
 pub overflow_sub-lists : goal.overflow_sub-lists
 overflow_sub-lists c = omega (arith, place_low c.args.script.now c.args.response.now c.args.shown.now c.args.area.now c.requires.shown_in_bounds c.put_head-head.ensures c.put_bytes-first.ensures c.put_bytes-second.ensures c.put_lists-lists.ensures)

@@ -4,7 +4,7 @@ use Rattle.operators.proofs.operators.apply.Goals as goal
 
 pub fixed_value-requires : goal.fixed_value-requires
 fixed_value-requires c =
-    fixed_operable c.in_default.rest c.operand.ensures c.operand-in_default.ensures c.operand-in_default-2.ensures
+    fixed_operable c.in_default.in_default-own.rest c.operand.ensures c.operand-in_default.ensures c.operand-in_default-2.ensures
     c.requires
 
 pub returns-in-1 : goal.returns-in-1
@@ -33,5 +33,5 @@ returns-in-6 c = search applied
 
 pub returns-in_default : goal.returns-in_default
 returns-in_default c =
-    fixed_gives c.in_default.rest c.operand.ensures c.operand-in_default.ensures
+    fixed_gives c.in_default.in_default-own.rest c.operand.ensures c.operand-in_default.ensures
     c.operand-in_default-2.ensures c.fixed_value.ensures

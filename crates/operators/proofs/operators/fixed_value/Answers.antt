@@ -44,7 +44,7 @@ unfolding operator_at operators
 extract-requires c = a_cut c.in-22.is c.requires refl
 
 pub later_value-requires : goal.later_value-requires
-later_value-requires c = later_operable c.in_default.rest c.requires
+later_value-requires c = later_operable c.in_default.in_default-own.rest c.requires
 
 pub returns-in-0 : goal.returns-in-0
 unfolding operator_at operators
@@ -115,4 +115,4 @@ unfolding operator_at operators
 returns-in-22 c = search fixed_applied
 
 pub returns-in_default : goal.returns-in_default
-returns-in_default c = λ e. later_gives c.in_default.rest e c.later_value.ensures
+returns-in_default c = λ e. later_gives c.in_default.in_default-own.rest e c.later_value.ensures

@@ -47,4 +47,4 @@ unfolding operator_at operators
 returns-in-33 c = search later_applied
 
 pub returns-in_default : goal.returns-in_default
-returns-in_default c = later_past _ _ _ c.requires.later c.in_default.rest
+returns-in_default c = later_past _ _ _ c.requires.later c.in_default.in_default-own.rest

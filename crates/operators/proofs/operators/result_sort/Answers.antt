@@ -24,4 +24,4 @@ pub returns-in-6 : goal.returns-in-6
 returns-in-6 c = cut_result c.rule_of-rule.ensures c.in-6.is refl
 
 pub returns-in_default : goal.returns-in_default
-returns-in_default c = let n = c.in_default.rest in bool_result c.rule_of-rule.ensures n.0.0.0.1 n.0.0.1 n.0.1 n.1
+returns-in_default c = let n = c.in_default.in_default-own.rest in bool_result c.rule_of-rule.ensures n.0.0.0.1 n.0.0.1 n.0.1 n.1

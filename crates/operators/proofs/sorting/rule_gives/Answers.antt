@@ -21,5 +21,5 @@ returns-in-6 c = cutting_told _ _ c.operand-first.ensures c.operand-second.ensur
 
 pub returns-in_default : goal.returns-in_default
 returns-in_default c =
-    let n = c.in_default.rest in width_told _ _ c.operand-first.ensures c.operand-second.ensures n.0.0.0.0.1
+    let n = c.in_default.in_default-own.rest in width_told _ _ c.operand-first.ensures c.operand-second.ensures n.0.0.0.0.1
     n.0.0.0.1 n.0.0.1 n.0.1 n.1 c.all_are-in_default.ensures

@@ -49,5 +49,5 @@ returns-in-17 c =
 
 pub returns-in_default : goal.returns-in_default
 returns-in_default c =
-    λ s. let n = c.in_default.rest in
+    λ s. let n = c.in_default.in_default-own.rest in
     others c.code_at-code.ensures s n.0.0.0.0.1 n.0.0.0.1 n.0.0.1 n.0.1 n.1 c.verdict.ensures

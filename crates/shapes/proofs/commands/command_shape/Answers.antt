@@ -39,6 +39,6 @@ returns-in-18 c = λ here. c.set_feature_shape.ensures here ∙ named_command c.
 
 pub returns-in_default : goal.returns-in_default
 returns-in_default c =
-    let n = c.in_default.rest in
+    let n = c.in_default.in_default-own.rest in
     no_command c.code_at-command.ensures n.0.0.0.0.0.0.0.1 n.0.0.0.0.0.0.1 n.0.0.0.0.0.1 n.0.0.0.0.1 n.0.0.0.1
     n.0.0.1 n.0.1 n.1

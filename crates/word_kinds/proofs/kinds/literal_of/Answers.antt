@@ -1,4 +1,6 @@
 use native.Mathlib.Omega.{arith}
+use mathlib.Core.Bool.{not}
+use mathlib.Core.Path.{ap}
 use Rattle.word_kinds.proofs.Forms.{bits_fit, bits_some, literal_bad, literal_digits, literal_is, literal_long, literal_power}
 use Rattle.word_kinds.proofs.kinds.literal_of.Goals as goal
 
@@ -20,7 +22,7 @@ overflow_cast-result c = let b = bits_fit c.requires _ c.if-digits-bits.false in
 pub spell-requires : goal.spell-requires
 spell-requires c =
     let radix = c.requires in
-    (literal_digits radix _ _ c.all_in.ensures c.if-not-all_in-digits.false, search literal_power)
+    (literal_digits radix _ _ c.all_in.ensures (ap not c.if-not-all_in-digits.false), search literal_power)
 
 pub returns : goal.returns
 returns c = search literal_is
