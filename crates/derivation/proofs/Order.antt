@@ -48,9 +48,9 @@ lower_trans (here h) (there l) = here h
 lower_trans (there l) (here k) = here k
 lower_trans (there l) (there m) = there (lower_trans l m)
 
-lower_not : {xs : List ℕ} → Lower xs xs → ⊥
-lower_not (here h) = omega arith
-lower_not (there l) = lower_not l
+lower_not : {xs ys : List ℕ} → Lower xs ys → xs ≡ ys → ⊥
+lower_not (here {x = x} {y = y} h) e = let same : x ≡ y = cc in omega arith
+lower_not (there {xs = xs} {ys = ys} l) e = let same : xs ≡ ys = cc in lower_not l same
 
 lower_append : {xs ys : List ℕ} (zs : List ℕ) → Lower xs ys → Lower (xs ++ zs) (ys ++ zs)
 lower_append zs (here h) = here h
@@ -89,7 +89,7 @@ module _ (G : Grammar) where
   pub before_not : {xs : List ℕ} → Before G xs xs → ⊥
   before_not (lighter h) = omega arith
   before_not (fewer e h) = omega arith
-  before_not (lower e h l) = lower_not l
+  before_not (lower e h l) = lower_not l refl
 
   pub before_total : (xs ys : List ℕ) → (xs ≡ ys) ⊎ (Before G xs ys ⊎ Before G ys xs)
   before_total xs ys = go (dec_lt (total xs) (total ys)) (dec_lt (total ys) (total xs)) (dec_lt (length xs) (length ys)) (dec_lt (length ys) (length xs))

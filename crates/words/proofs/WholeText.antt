@@ -68,9 +68,8 @@ module _ (limits : Limits) (table values : List ℕ) (room : Limits) (e : room �
         let same : length (rows row (map unlinked ws)) ≡ length (word_table ws) =
         length_rows row 5 wide (map unlinked ws)
         ∙ rw (length-map ws unlinked, ← entries_long ws 0) (sym (length_rows row 5 wide (entries ws 0))) in
-        let fits : length text ≤ room.bytes = omega (arith, ap (λ (l : Limits). l.bytes) e) in
         record {
-          found = rw (← e, le-leb (length text) room.bytes fits) scanned.found;
+          found = rw (← e, le-leb (length text) limits.bytes h) scanned.found;
           table_is = rw (← same) (linked (to_link small count ec));
           values_are = scanned.values_are;
         }

@@ -4,6 +4,7 @@ use Prim.Native.Nat.{◌-◌}
 use native.Mathlib.Omega.{arith}
 use Rattle.evaluation.proofs.CostTurns.{ends_within, size_some, sum_body, sum_end, sum_other, sum_start}
 use Rattle.evaluation.proofs.costs.cost_at.Goals as goal
+use Rattle.evaluation.proofs.costs.cost_at.Goals.{else-place-lt-BODIES, then-place-lt-BODIES}
 
 pub size_at-size-requires : goal.size_at-size-requires
 size_at-size-requires c = tt
@@ -43,15 +44,12 @@ pub loop-j-preserved : goal.loop-j-preserved
 loop-j-preserved c = let code = c.code_at.ensures in
     let value = c.value_at.ensures in
     let place = c.body_place-place.ensures in (
-      ⊎_elim (λ w. omega arith) (λ w. omega arith) c.if-place-lt-BODIES.branch,
+      elim c.if-place-lt-BODIES.branch [ then-place-lt-BODIES w ↦ omega arith | else-place-lt-BODIES w ↦ omega arith ],
       c.loop-j.invariant.1,
       λ e.
           let r = c.loop-j.invariant.2 e in
           let h = c.loop-j-test.true in
-          ⊎_elim
-          (λ w. sum_body e r h code value place w.0.taken w.1.ensures w.2.ensures (w.4 ∙ w.3.ensures))
-          (λ w. sum_other e r h code value place w.0.left w.1)
-          c.if-place-lt-BODIES.branch,
+          elim c.if-place-lt-BODIES.branch [ then-place-lt-BODIES w ↦ sum_body e r h code value place w.0.taken w.1.ensures w.2.ensures (w.4 ∙ w.3.ensures) | else-place-lt-BODIES w ↦ sum_other e r h code value place w.0.left w.1 ],
     )
 
 pub returns : goal.returns

@@ -1,3 +1,5 @@
+use mathlib.Core.Bool.{not}
+use mathlib.Core.Path.{ap}
 use Rattle.evaluation.proofs.Visits.{assumed_front, constraints_runnable, point_long, point_skipped, point_tested}
 use Rattle.evaluation.proofs.running.run_point.Goals as goal
 
@@ -6,7 +8,7 @@ returns-then-not-all_passed c = λ e.
     let args = c.args in
     let got = c.run_terms-assumed.ensures in
     let passed = c.all_passed.ensures in (
-      point_skipped args.visit e args.budget got passed c.if-not-all_passed.true c.skipping.ensures,
+      point_skipped args.visit e args.budget got passed (ap not c.if-not-all_passed.true) c.skipping.ensures,
       (assumed_front args.visit e args.budget got passed).as_long,
     )
 
@@ -20,6 +22,6 @@ returns c = λ e.
     let passed = c.all_passed.ensures in
     let left = c.left_of-left.ensures in
     let then = c.run_terms.ensures in (
-      point_tested args.visit e args.budget got passed _ left then c.if-not-all_passed.false,
+      point_tested args.visit e args.budget got passed _ left then (ap not c.if-not-all_passed.false),
       point_long args.visit e args.budget got passed _ left then,
     )

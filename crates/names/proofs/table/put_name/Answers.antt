@@ -8,6 +8,7 @@ use Prim.Native.Nat.{◌*◌, ◌-◌}
 use Rattle.names.proofs.table.put_name.Reads as reads
 use Rattle.names.proofs.table.put_name.Lts as lts
 use Rattle.names.proofs.table.put_name.Goals as goal
+use Rattle.names.proofs.table.put_name.Goals.{else-k-word, then-k-word}
 
 pub overflow_mul-at : goal.overflow_mul-at
 overflow_mul-at c = omega arith
@@ -64,7 +65,7 @@ pub loop-k-smaller : goal.loop-k-smaller
 loop-k-smaller c = omega arith
 
 pub loop-k-preserved : goal.loop-k-preserved
-loop-k-preserved c = ⊎_elim (λ w. search name_byte) (λ w. search zero_byte) c.if-k-word.branch
+loop-k-preserved c = elim c.if-k-word.branch [ then-k-word w ↦ search name_byte | else-k-word w ↦ search zero_byte ]
 
 pub shape_of-names : goal.shape_of-names
 shape_of-names c = simp length-set at c.loop-k.invariant.long

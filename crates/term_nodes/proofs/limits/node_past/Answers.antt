@@ -3,6 +3,7 @@ use native.Mathlib.Omega.{arith}
 use Prim.Native.Nat.{◌-◌}
 use Rattle.term_nodes.proofs.PastLimit.{seek_begins, seek_counts, seek_ends, seek_finds, seek_skips}
 use Rattle.term_nodes.proofs.limits.node_past.Goals as goal
+use Rattle.term_nodes.proofs.limits.node_past.Goals.{else-head-at, then-head-at}
 
 pub loop-node-init : goal.loop-node-init
 loop-node-init c = search seek_begins
@@ -20,7 +21,7 @@ pub loop-node-smaller : goal.loop-node-smaller
 loop-node-smaller c = omega arith
 
 pub loop-node-preserved : goal.loop-node-preserved
-loop-node-preserved c = ⊎_elim (λ w. search seek_counts) (λ w. search seek_skips) c.if-head-at.branch
+loop-node-preserved c = elim c.if-head-at.branch [ then-head-at w ↦ search seek_counts | else-head-at w ↦ search seek_skips ]
 
 pub returns : goal.returns
 returns c = search seek_ends

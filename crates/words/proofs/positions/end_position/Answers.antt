@@ -3,6 +3,7 @@ use Prim.Native.Nat.{◌-◌}
 use mathlib.Core.Logic.{⊎_elim}
 use native.Mathlib.Omega.{arith}
 use Rattle.words.proofs.positions.end_position.Goals as goal
+use Rattle.words.proofs.positions.end_position.Goals.{else-text-i-eq-LINE_END, then-text-i-eq-LINE_END}
 
 pub loop-i-init : goal.loop-i-init
 loop-i-init c = count_begins _
@@ -23,7 +24,7 @@ pub loop-i-smaller : goal.loop-i-smaller
 loop-i-smaller c = omega arith
 
 pub loop-i-preserved : goal.loop-i-preserved
-loop-i-preserved c = ⊎_elim (λ w. search count_line) (λ w. search count_byte) c.if-text-i-eq-LINE_END.branch
+loop-i-preserved c = elim c.if-text-i-eq-LINE_END.branch [ then-text-i-eq-LINE_END w ↦ search count_line | else-text-i-eq-LINE_END w ↦ search count_byte ]
 
 pub returns : goal.returns
 returns c = search count_ends
