@@ -1,3 +1,5 @@
+use mathlib.Core.Bool.{not}
+use mathlib.Core.Path.{ap}
 use Rattle.following.proofs.Chain.{inv_start, turn_end, turn_more, turn_no, turn_room}
 use native.Mathlib.Omega.{arith}
 use Prim.Native.Nat.{◌-◌}
@@ -10,7 +12,7 @@ pub returns-then-not-usable : goal.returns-then-not-usable
 returns-then-not-usable c = search turn_no
 
 pub overflow_add-next : goal.overflow_add-next
-overflow_add-next c = omega (arith, turn_room c.loop-nonterminal.invariant c.rule_in-rule.ensures c.usable.ensures c.if-not-usable.false)
+overflow_add-next c = omega (arith, turn_room c.loop-nonterminal.invariant c.rule_in-rule.ensures c.usable.ensures (ap not c.if-not-usable.false))
 
 pub returns-then-code_at-ne-NON_TERMINAL : goal.returns-then-code_at-ne-NON_TERMINAL
 returns-then-code_at-ne-NON_TERMINAL c = search turn_end
@@ -21,7 +23,7 @@ loop-nonterminal-smaller c =
       arith,
       turn_room c.loop-nonterminal.invariant
           c.rule_in-rule.ensures
-          c.usable.ensures c.if-not-usable.false,
+          c.usable.ensures (ap not c.if-not-usable.false),
     )
 
 pub loop-nonterminal-preserved : goal.loop-nonterminal-preserved

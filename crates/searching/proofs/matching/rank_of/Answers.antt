@@ -1,3 +1,5 @@
+use mathlib.Core.Bool.{not}
+use mathlib.Core.Path.{ap}
 use Prim.Native.Nat.{◌-◌}
 use native.Mathlib.Omega.{arith}
 use Rattle.searching.proofs.RuleWalk.{end_small}
@@ -31,7 +33,7 @@ overflow_add-sum-then-code_at-eq-NON_TERMINAL c =
     omega (
       arith,
       turn_sum c.loop-place.invariant c.loop-place-test.true c.code_at.ensures c.if-code_at-eq-NON_TERMINAL.true c.value_at-nonterminal.ensures c.mask_at.ensures
-          c.has.ensures c.if-not-has.false c.rank_at-sum.ensures,
+          c.has.ensures (ap not c.if-not-has.false) c.rank_at-sum.ensures,
     )
 
 pub overflow_add-here : goal.overflow_add-here
@@ -46,7 +48,7 @@ loop-place-smaller-then-code_at-eq-NON_TERMINAL c = omega arith
 pub loop-place-preserved-then-code_at-eq-NON_TERMINAL : goal.loop-place-preserved-then-code_at-eq-NON_TERMINAL
 loop-place-preserved-then-code_at-eq-NON_TERMINAL c =
     turn_hole c.loop-place.invariant c.loop-place-test.true c.code_at.ensures c.if-code_at-eq-NON_TERMINAL.true c.value_at-nonterminal.ensures c.mask_at.ensures
-    c.has.ensures c.if-not-has.false c.rank_at-sum.ensures c.size_at-here.ensures
+    c.has.ensures (ap not c.if-not-has.false) c.rank_at-sum.ensures c.size_at-here.ensures
 
 pub returns-then-not-alike : goal.returns-then-not-alike
 returns-then-not-alike c = search miss_node
@@ -62,7 +64,7 @@ loop-place-smaller c = omega arith
 
 pub loop-place-preserved : goal.loop-place-preserved
 loop-place-preserved c =
-    turn_node c.loop-place.invariant c.loop-place-test.true c.code_at.ensures c.if-code_at-eq-NON_TERMINAL.false c.alike.ensures c.if-not-alike.false
+    turn_node c.loop-place.invariant c.loop-place-test.true c.code_at.ensures c.if-code_at-eq-NON_TERMINAL.false c.alike.ensures (ap not c.if-not-alike.false)
 
 pub returns : goal.returns
 returns c = search turn_end
