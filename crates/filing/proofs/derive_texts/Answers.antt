@@ -6,4 +6,4 @@ pub derive_in-requires : goal.derive_in-requires
 derive_in-requires c = search short_rooms
 
 pub derive_in-requires-then-is_middling : goal.derive_in-requires-then-is_middling
-derive_in-requires-then-is_middling c = (c.requires, middle_rooms c.is_middling.ensures c.if-is_middling.true (omega arith) c.middle_nodes.ensures c.middle_forms.ensures)
+derive_in-requires-then-is_middling c = record { derivable = c.requires; rooms = middle_rooms c.is_middling.ensures c.if-is_middling.true (omega arith) c.middle_nodes.ensures c.middle_forms.ensures }

@@ -14,7 +14,7 @@ pub returns-then-area-file_length : goal.returns-then-area-file_length
 returns-then-area-file_length c = short_filed c.requires c.if-outcome-ne-ACCEPTED.false c.rules_in.ensures c.file_length.ensures c.if-area-file_length.true c.refusal.ensures c.unlocated.ensures c.unwritten-then-area-file_length.ensures
 
 pub write_file-length-requires : goal.write_file-length-requires
-write_file-length-requires c = (area_sized c.requires c.if-outcome-ne-ACCEPTED.false, file_fits c.requires c.if-outcome-ne-ACCEPTED.false c.rules_in.ensures c.file_length.ensures c.if-area-file_length.false)
+write_file-length-requires c = record { shown_len = area_sized c.requires c.if-outcome-ne-ACCEPTED.false; shown_in_bounds = file_fits c.requires c.if-outcome-ne-ACCEPTED.false c.rules_in.ensures c.file_length.ensures c.if-area-file_length.false }
 
 pub returns : goal.returns
 returns c = search is_filed

@@ -1,3 +1,5 @@
+use mathlib.Core.Bool.{not}
+use mathlib.Core.Path.{ap}
 use Prim.Native.Nat.{◌-◌}
 use native.Mathlib.Omega.{arith}
 use borrow.Author.Tests.{not-false, not-true}
@@ -12,7 +14,7 @@ list_passes-requires c = (c.requires, c.loop-function-test.true)
 
 pub returns-then-not-list_passes : goal.returns-then-not-list_passes
 returns-then-not-list_passes c q =
-    going_fails q (c.loop-function.invariant q) c.loop-function-test.true (c.list_passes.ensures q) (not-true _ c.if-not-list_passes.true)
+    going_fails q (c.loop-function.invariant q) c.loop-function-test.true (c.list_passes.ensures q) c.if-not-list_passes.true
 
 pub overflow_add-function : goal.overflow_add-function
 overflow_add-function c = omega arith
@@ -22,7 +24,7 @@ loop-function-smaller c = omega arith
 
 pub loop-function-preserved : goal.loop-function-preserved
 loop-function-preserved c q =
-    going_turn q (c.loop-function.invariant q) c.loop-function-test.true (c.list_passes.ensures q) (not-false _ c.if-not-list_passes.false)
+    going_turn q (c.loop-function.invariant q) c.loop-function-test.true (c.list_passes.ensures q) c.if-not-list_passes.false
 
 pub returns : goal.returns
 returns c q = going_done q (c.loop-function.invariant q) c.loop-function-test.false

@@ -3,7 +3,7 @@ use Rattle.auditing.proofs.ListFollowed.{followable, list_followed}
 use Rattle.auditing.proofs.lists.follow_list.Goals as goal
 
 pub rules_of-rules-requires : goal.rules_of-rules-requires
-rules_of-rules-requires c = let q = c.requires in (q.low, (q.long, few_rules q))
+rules_of-rules-requires c = let q = c.requires in record { function_lt_most_functions = q.low; places_len = q.long; function_bound = few_rules q }
 
 pub rows_from-sides-requires : goal.rows_from-sides-requires
 rows_from-sides-requires c = forms_end c.requires c.forms_of.ensures c.form_rows_of.ensures

@@ -6,4 +6,4 @@ pub audit_in-requires : goal.audit_in-requires
 audit_in-requires c = search short_rooms
 
 pub audit_in-requires-then-is_middling : goal.audit_in-requires-then-is_middling
-audit_in-requires-then-is_middling c = (c.requires, middle_rooms c.is_middling.ensures c.if-is_middling.true (omega arith) c.middle_nodes.ensures c.middle_forms.ensures)
+audit_in-requires-then-is_middling c = record { file_texts = c.requires; rooms = middle_rooms c.is_middling.ensures c.if-is_middling.true (omega arith) c.middle_nodes.ensures c.middle_forms.ensures }

@@ -4,7 +4,7 @@ use Rattle.both_texts.proofs.Reading.{lent}
 use Rattle.checker.proofs.judge.judge_in.Goals as goal
 
 pub accept-told-requires : goal.accept-told-requires
-accept-told-requires c = (lent c.response_limits-limits.ensures c.no_names-names.ensures c.no_places-places.ensures c.requires.rooms, c.requires.judging.blank)
+accept-told-requires c = record { lent = lent c.response_limits-limits.ensures c.no_names-names.ensures c.no_places-places.ensures c.requires.rooms; shown_value = c.requires.judging.blank }
 
 pub judge_points-found-requires : goal.judge_points-found-requires
 judge_points-found-requires c = to_judge c.response_limits-limits.ensures c.requires.judging c.accept-told.ensures

@@ -6,7 +6,7 @@ pub judge_in-requires : goal.judge_in-requires
 judge_in-requires c = search short_rooms
 
 pub judge_in-requires-then-is_middling : goal.judge_in-requires-then-is_middling
-judge_in-requires-then-is_middling c = (c.requires, middle_rooms c.is_middling.ensures c.if-is_middling.true (omega arith) c.middle_nodes.ensures c.middle_forms.ensures)
+judge_in-requires-then-is_middling c = record { judging = c.requires; rooms = middle_rooms c.is_middling.ensures c.if-is_middling.true (omega arith) c.middle_nodes.ensures c.middle_forms.ensures }
 
 pub judge_in-requires-2 : goal.judge_in-requires-2
 judge_in-requires-2 c = record { judging = c.requires; rooms = full_rooms (omega arith) c.node_room.ensures c.form_room.ensures }

@@ -10,7 +10,7 @@ pub told_in-requires : goal.told_in-requires
 told_in-requires c = record { response_value = texts_short _ _ c.length_answer-long.ensures c.if-long-ne-ACCEPTED.false; rooms = short_rooms c.short_nodes.ensures c.short_forms.ensures c.are_short.ensures c.if-are_short.true }
 
 pub told_in-requires-then-is_middling : goal.told_in-requires-then-is_middling
-told_in-requires-then-is_middling c = (texts_short _ _ c.length_answer-long.ensures c.if-long-ne-ACCEPTED.false, middle_rooms c.is_middling.ensures c.if-is_middling.true (omega arith) c.middle_nodes.ensures c.middle_forms.ensures)
+told_in-requires-then-is_middling c = record { response_value = texts_short _ _ c.length_answer-long.ensures c.if-long-ne-ACCEPTED.false; rooms = middle_rooms c.is_middling.ensures c.if-is_middling.true (omega arith) c.middle_nodes.ensures c.middle_forms.ensures }
 
 pub told_in-requires-2 : goal.told_in-requires-2
 told_in-requires-2 c = record { response_value = texts_short _ _ c.length_answer-long.ensures c.if-long-ne-ACCEPTED.false; rooms = full_rooms (omega arith) c.node_room.ensures c.form_room.ensures }

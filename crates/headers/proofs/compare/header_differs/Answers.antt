@@ -1,3 +1,5 @@
+use mathlib.Core.Bool.{not}
+use mathlib.Core.Path.{ap}
 use Rattle.headers.proofs.HeaderHeld.{arguments_differ, pairs_within, name_differs, name_within, none_differs, own_sort, pairs_at, sort_behind}
 use Rattle.headers.proofs.HeaderHeld.{sort_differs}
 use native.Mathlib.Omega.{arith}
@@ -10,7 +12,7 @@ pub overflow_add-result : goal.overflow_add-result
 overflow_add-result c = omega (arith, name_within c.requires)
 
 pub returns-then-not-is_named : goal.returns-then-not-is_named
-returns-then-not-is_named c = name_differs c.is_named.ensures c.if-not-is_named.true _
+returns-then-not-is_named c = name_differs c.is_named.ensures (ap not c.if-not-is_named.true) _
 
 pub overflow_add-at-2 : goal.overflow_add-at-2
 overflow_add-at-2 c = omega (arith, name_within c.requires)
@@ -31,7 +33,7 @@ returns-then-within-ne0 c =
     c.next_at-list.ensures
     c.next_at-sort.ensures
     c.is_named.ensures
-    c.if-not-is_named.false
+    (ap not c.if-not-is_named.false)
     c.pairs_differ-within.ensures
     c.if-within-ne0.true
     _
@@ -42,7 +44,7 @@ sort_differs-own-requires c =
     let sort = c.next_at-sort.ensures in
     let given = c.requires in
     let behind = sort_behind list sort given in
-    (own_sort list sort given, omega arith)
+    record { sort_at = own_sort list sort given; at_nonzero = omega arith }
 
 pub returns-then-own-ne0 : goal.returns-then-own-ne0
 returns-then-own-ne0 c =
@@ -50,7 +52,7 @@ returns-then-own-ne0 c =
     c.next_at-list.ensures
     c.next_at-sort.ensures
     c.is_named.ensures
-    c.if-not-is_named.false
+    (ap not c.if-not-is_named.false)
     c.pairs_differ-within.ensures
     c.if-within-ne0.false
     c.sort_differs-own.ensures
@@ -63,7 +65,7 @@ returns c =
     c.next_at-list.ensures
     c.next_at-sort.ensures
     c.is_named.ensures
-    c.if-not-is_named.false
+    (ap not c.if-not-is_named.false)
     c.pairs_differ-within.ensures
     c.if-within-ne0.false
     c.sort_differs-own.ensures

@@ -13,7 +13,7 @@ pub overflow_add-first : goal.overflow_add-first
 overflow_add-first c = omega arith
 
 pub later_of-last-requires : goal.later_of-last-requires
-later_of-last-requires c = (c.requires.names, omega arith)
+later_of-last-requires c = record { names = c.requires.names; row_lt_row_count = omega arith }
 
 pub overflow_add-k : goal.overflow_add-k
 overflow_add-k c = omega arith

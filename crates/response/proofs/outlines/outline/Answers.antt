@@ -1,3 +1,5 @@
+use mathlib.Core.Bool.{not}
+use mathlib.Core.Path.{ap}
 use Rattle.response.proofs.ShapeAndLimits.{body-in, head_in, misshapen, other_command, past_limit, some_uncarried, within_limits}
 use Rattle.lexemes.proofs.Listed.{as_item, between, item_ahead, list_room}
 use native.Mathlib.Omega.{arith}
@@ -42,7 +44,7 @@ body_limit-body-requires c =
     c.any_uncarried.ensures
     c.if-any_uncarried.false
     c.define_fun_shape.ensures
-    c.if-not-define_fun_shape.false
+    (ap not c.if-not-define_fun_shape.false)
     c.body_word-first.ensures
     c.requires
 

@@ -1,3 +1,5 @@
+use mathlib.Core.Bool.{not}
+use mathlib.Core.Path.{ap}
 use Prim.Native.Nat.{◌-◌}
 use native.Mathlib.Omega.{arith}
 use Rattle.runner.proofs.Runs.{bad_here, bad_later, bad_none, none_bad}
@@ -24,7 +26,7 @@ is_value-requires c = tt
 pub returns-then-not-is_value : goal.returns-then-not-is_value
 returns-then-not-is_value c =
     bad_here c.requires c.loop-k.invariant (omega arith)
-    c.is_value.ensures c.if-not-is_value.true
+    c.is_value.ensures (ap not c.if-not-is_value.true)
 
 pub overflow_add-k : goal.overflow_add-k
 overflow_add-k c = omega arith
@@ -35,7 +37,7 @@ loop-k-smaller c = omega arith
 pub loop-k-preserved : goal.loop-k-preserved
 loop-k-preserved c =
     bad_later c.requires c.loop-k.invariant (omega arith)
-    c.is_value.ensures c.if-not-is_value.false
+    c.is_value.ensures (ap not c.if-not-is_value.false)
 
 pub returns : goal.returns
 returns c = bad_none c.requires c.loop-k.invariant c.loop-k-test.false

@@ -1,3 +1,5 @@
+use mathlib.Core.Bool.{not}
+use mathlib.Core.Path.{ap}
 use Rattle.runner.proofs.OnTop.{base_place, not_taken, taken_appliable, too_few, value_placed}
 use Rattle.runner.proofs.stack.apply_operator.Goals as goal
 
@@ -9,7 +11,7 @@ pub returns-then-not-has_sort : goal.returns-then-not-has_sort
 returns-then-not-has_sort c =
     λ e. not_taken c.args.operator
     c.args.high c.args.low e
-    c.if-top-count.false c.has_sort.ensures c.if-not-has_sort.true
+    c.if-top-count.false c.has_sort.ensures (ap not c.if-not-has_sort.true)
 
 pub value_of-value-requires : goal.value_of-value-requires
 value_of-value-requires c =
@@ -18,7 +20,7 @@ value_of-value-requires c =
     c.args.low
     c.requires
     c.if-top-count.false c.has_sort.ensures
-    c.if-not-has_sort.false
+    (ap not c.if-not-has_sort.false)
 
 pub bounds-values-base : goal.bounds-values-base
 bounds-values-base c =
@@ -27,7 +29,7 @@ bounds-values-base c =
     c.args.low
     c.requires
     c.if-top-count.false
-    c.has_sort.ensures c.if-not-has_sort.false).0
+    c.has_sort.ensures (ap not c.if-not-has_sort.false)).0
 
 pub bounds-stack_sorts-base : goal.bounds-stack_sorts-base
 bounds-stack_sorts-base c =
@@ -36,7 +38,7 @@ bounds-stack_sorts-base c =
     c.args.low
     c.requires
     c.if-top-count.false
-    c.has_sort.ensures c.if-not-has_sort.false).1
+    c.has_sort.ensures (ap not c.if-not-has_sort.false)).1
 
 pub returns : goal.returns
 returns c =
@@ -44,4 +46,4 @@ returns c =
     c.args.high
     c.args.low e
     c.if-top-count.false
-    c.has_sort.ensures c.if-not-has_sort.false c.value_of-value.ensures
+    c.has_sort.ensures (ap not c.if-not-has_sort.false) c.value_of-value.ensures

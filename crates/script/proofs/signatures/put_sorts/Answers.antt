@@ -10,7 +10,7 @@ pub overflow_add-k : goal.overflow_add-k
 overflow_add-k c = omega arith
 
 pub sort_in-sort-requires : goal.sort_in-sort-requires
-sort_in-sort-requires c = (c.requires.table, omega arith)
+sort_in-sort-requires c = record { names = c.requires.table; row_lt_row_count = omega arith }
 
 pub overflow_add-k-in-loop-k : goal.overflow_add-k-in-loop-k
 overflow_add-k-in-loop-k c = omega arith

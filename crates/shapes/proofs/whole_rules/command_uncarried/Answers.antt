@@ -1,3 +1,5 @@
+use mathlib.Core.Bool.{not}
+use mathlib.Core.Path.{ap}
 use Rattle.shapes.proofs.WholeRules.{command_made, command_other, command_short, ends_given}
 use Rattle.lexemes.proofs.Listed.{list_room}
 use native.Mathlib.Omega.{arith}
@@ -16,7 +18,7 @@ pub returns-then-not-ends_in_list : goal.returns-then-not-ends_in_list
 returns-then-not-ends_in_list c = search command_short
 
 pub groups_part-requires : goal.groups_part-requires
-groups_part-requires c = ends_given c.requires c.ends_in_list.ensures c.if-not-ends_in_list.false
+groups_part-requires c = ends_given c.requires c.ends_in_list.ensures (ap not c.if-not-ends_in_list.false)
 
 pub returns : goal.returns
 returns c = search command_made

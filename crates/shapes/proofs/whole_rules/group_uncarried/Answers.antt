@@ -1,3 +1,5 @@
+use mathlib.Core.Bool.{not}
+use mathlib.Core.Path.{ap}
 use Rattle.shapes.proofs.WholeRules.{ends_given, group_made, group_other, group_word}
 use Rattle.lexemes.proofs.Listed.{as_list}
 use native.Mathlib.Omega.{arith}
@@ -16,7 +18,7 @@ pub uncarried_start-requires : goal.uncarried_start-requires
 uncarried_start-requires c = as_list c.code_at.ensures c.if-code_at-ne-OPEN.false c.requires
 
 pub rules_part-requires : goal.rules_part-requires
-rules_part-requires c = ends_given (as_list c.code_at.ensures c.if-code_at-ne-OPEN.false c.requires) c.ends_in_list.ensures c.if-not-ends_in_list.false
+rules_part-requires c = ends_given (as_list c.code_at.ensures c.if-code_at-ne-OPEN.false c.requires) c.ends_in_list.ensures (ap not c.if-not-ends_in_list.false)
 
 pub returns : goal.returns
 returns c = search group_made
