@@ -28,7 +28,7 @@ node_number scope n = sort_number (tree_sort scope n.label (form_sorts scope n.o
 column_nodes : (scope : FormScope) (F : Forest Item) → sort_column scope F ≡ map (node_number scope) (nodes_of F)
 unfolding sort_column nodes_of
 column_nodes scope none = refl
-column_nodes scope (tree i ops rest) = rw (column_nodes scope ops, column_nodes scope rest, map-append)
+column_nodes scope (tree i ops rest) = rw (column_nodes scope ops, column_nodes scope rest, map-append (node_number scope))
 
 -- It has as many numbers as there are nodes.
 pub column_length : (scope : FormScope) (F : Forest Item) → length (sort_column scope F) ≡ size F

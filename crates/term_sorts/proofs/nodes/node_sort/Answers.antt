@@ -1,3 +1,5 @@
+use mathlib.Core.Bool.{not}
+use mathlib.Core.Path.{ap}
 use Rattle.term_sorts.proofs.NodeSorts.{call_ready, called_node, leaf_node, node_fails, operator_node, operands_ready, row_low}
 use native.Mathlib.Omega.{arith}
 use Rattle.term_sorts.proofs.nodes.node_sort.Goals as goal
@@ -14,20 +16,16 @@ returns-then-kind-eq-OPERATOR c = search operator_node
 
 pub overflow_add-row : goal.overflow_add-row
 overflow_add-row c =
-    let said-kind = c in
-    let said = said-kind.before in
     omega (
       arith,
-      row_low said.before.before.before.if1.false said.operands-at.ensures said.before.before.code_at.ensures said.before.value-at.ensures
-          said-kind.kind-of.ensures c.if-kind.true c.first_row.ensures said.before.before.before.before.before.before.before.requires,
+      row_low (ap not c.if-not-whole.false) c.operands_at-count.ensures c.code_at-code.ensures c.value_at-value.ensures c.kind_of-kind.ensures
+          c.if-kind.true c.first_row.ensures c.requires,
     )
 
 pub called_sort-requires : goal.called_sort-requires
 called_sort-requires c =
-    let said-kind = c in
-    let said = said-kind.before in
-    call_ready said.before.before.before.if1.false said.operands-at.ensures said.before.before.code_at.ensures said.before.value-at.ensures
-    said-kind.kind-of.ensures c.if-kind.true c.first_row.ensures said.before.before.before.before.before.before.before.requires
+    call_ready (ap not c.if-not-whole.false) c.operands_at-count.ensures c.code_at-code.ensures c.value_at-value.ensures c.kind_of-kind.ensures
+    c.if-kind.true c.first_row.ensures c.requires
 
 pub returns-then-kind : goal.returns-then-kind
 returns-then-kind c = search called_node
