@@ -1,7 +1,7 @@
 use Rattle.evaluation.proofs.TermCosts.{prices_more, prices_start}
 use mathlib.Core.Path.{◌≡◌}
 use native.Mathlib.Omega.{arith}
-use Prim.Native.Nat.{◌+◌, ◌-◌}
+use Prim.Native.Nat.{◌+◌}
 use Rattle.evaluation.proofs.running.put_costs.Goals as goal
 
 pub overflow_add-end : goal.overflow_add-end

@@ -5,7 +5,7 @@ use Rattle.evaluation.specs.code.Running.{stack_size}
 use lib.ListN.{length, length-replicate}
 use native.Mathlib.Omega.{arith}
 use mathlib.Core.Path.{sym, ap, ◌∙◌}
-use Prim.Native.Nat.{ℕ, ◌-◌}
+use Prim.Native.Nat.{ℕ}
 use Rattle.evaluation.proofs.running.run_points.Goals as goal
 
 pub point_count-count-requires : goal.point_count-count-requires
