@@ -58,8 +58,8 @@ fit_rule-loop-place-preserved t c =
     let more = c.loop-place-test.true in
     let code = c.code_at.ensures in
     elim c.if-code_at-eq-NON_TERMINAL.branch [
-      fit_rule-then-code_at-eq-NON_TERMINAL+else-not-found w ↦ rw (w.here-is, w.next-is) (turn_hole inv more code w.if-code_at-eq-NON_TERMINAL.true w.value_at.ensures w.use_rule-found.ensures w.if-not-found.false w.size_at-here.ensures)
-    | fit_rule-else-code_at-eq-NON_TERMINAL+else-not-alike w ↦ rw (w.here-is, w.next-is) (turn_node inv more code w.if-code_at-eq-NON_TERMINAL.false w.alike.ensures (ap not w.if-not-alike.false))
+      | fit_rule-then-code_at-eq-NON_TERMINAL+else-not-found w ↦ rw (w.here-is, w.next-is) (turn_hole inv more code w.if-code_at-eq-NON_TERMINAL.true w.value_at.ensures w.use_rule-found.ensures w.if-not-found.false w.size_at-here.ensures)
+      | fit_rule-else-code_at-eq-NON_TERMINAL+else-not-alike w ↦ rw (w.here-is, w.next-is) (turn_node inv more code w.if-code_at-eq-NON_TERMINAL.false w.alike.ensures (ap not w.if-not-alike.false))
     ]
 
 pub fit_rule-returns : goal.fit_rule-returns
