@@ -17,7 +17,7 @@ use Rattle.lexemes.proofs.Standing.{forward}
 
 module _ {s : Source} where
   -- the items of a list stand from behind its bracket to the one that closes it
-  pub within : {i c e : ℕ} {ops more : Items} → Stands s i (tree (list i c) ops more) e → Stands s (i + 1) ops c
+  pub within : {i j c e : ℕ} {ops more : Items} → Stands s j (tree (list i c) ops more) e → Stands s (i + 1) ops c
   within (word w rest) = apart (sym w.no_list)
   within (bracketed b inner rest) = inner
 
