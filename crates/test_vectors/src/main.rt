@@ -3,12 +3,14 @@
 //! two texts, the checker's answer (number, text, place, second number, units; the end, the line and the column that it carries; the total weight of each of eight
 //! functions), and what stands in the area afterwards: `unchanged`, `blank`, the lists shown, or `other`.
 #![tactic(auto)]
+
 mod answers;
 mod records;
 
-ghost use Rattle.std.specs.Prelude.{◌≡◌, length};
+ghost use Rattle.std.specs.Prelude.{◌≡◌, ◌≤◌, length, IfOk};
 
-use libc::STDIN_FILENO;
+use std::io;
+use std::io::{BufWriter, Read, Write};
 
 // Room for all of standard input.
 fn input_room() -> [u8; 5000000]
@@ -17,9 +19,26 @@ fn input_room() -> [u8; 5000000]
     [0; 5000000]
 }
 
+// Reads until the room is full or the input ends, and answers how many bytes that are.
+fn read_full(input: &mut impl Read, room: &mut [u8]) -> io::Result<usize>
+    ensures { IfOk result (λ n. n ≤ length room.new) }
+{
+    let mut done = 0;
+    for _ in 0..u64::MAX {
+        let n = input.read(&mut room[done..])?;
+        if n == 0 {
+            break;
+        }
+        done += n;
+    }
+    Ok(done)
+}
+
 // Reads all of standard input and reports each record of it.
-fn main() {
+fn main(rt: HostRuntime) -> io::Result<()> {
     let mut input = input_room();
-    let n = io::read_full(STDIN_FILENO, &mut input);
-    records::report_all(&input[..n]);
+    let n = read_full(&mut rt.stdin(), &mut input)?;
+    let mut out = BufWriter::new(rt.alloc(), io::writer(&rt))?;
+    records::report_all(&mut out, &input[..n])?;
+    out.flush()
 }
