@@ -7,16 +7,17 @@
 mod answers;
 mod records;
 
-ghost use Rattle.std.specs.Prelude.{◌≡◌, ◌≤◌, length, IfOk};
+ghost use Rattle.std.specs.Prelude.{◌≡◌, ◌≤◌, length, vec_len, IfOk};
 
+use std::alloc::{AllocError, Global};
 use std::io;
 use std::io::{BufWriter, Read, Write};
 
 // Room for all of standard input.
-fn input_room() -> [u8; 5000000]
-    ensures { 5000000 ≡ length result }
+fn input_room(alloc: Global) -> Result<Vec<u8>, AllocError>
+    ensures { IfOk result (λ room. 5000000 ≡ vec_len room) }
 {
-    [0; 5000000]
+    vec![in alloc; 0; 5000000]
 }
 
 // Reads until the room is full or the input ends, and answers how many bytes that are.
@@ -36,7 +37,7 @@ fn read_full(input: &mut impl Read, room: &mut [u8]) -> io::Result<usize>
 
 // Reads all of standard input and reports each record of it.
 fn main(rt: HostRuntime) -> io::Result<()> {
-    let mut input = input_room();
+    let mut input = input_room(rt.alloc())?;
     let n = read_full(&mut rt.stdin(), &mut input)?;
     let mut out = BufWriter::new(rt.alloc(), io::writer(&rt))?;
     records::report_all(&mut out, &input[..n])?;
