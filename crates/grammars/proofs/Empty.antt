@@ -6,7 +6,7 @@ use mathlib.Core.Bool.{Bool, true, false, cond}
 use mathlib.Core.List.{List}
 use lib.Dec.{eqb}
 use borrow.Author.Tests.{eq-eqb, eqb-true, ne_eqb}
-use Rattle.forest.specs.Forest.{count, none, tree}
+use Rattle.forest.specs.Forest.{count, tree}
 use Rattle.forest.proofs.Bools.{apart}
 use Rattle.words.specs.Trees.{list}
 use Rattle.lexemes.specs.Lists.{Items}
