@@ -17,29 +17,29 @@ HERE = os.path.dirname(os.path.abspath(__file__))
 ROOT = os.path.join(HERE, "..")
 PAPER = os.path.join(ROOT, "docs", "AUDIT.md")
 
-# The calls that are sold, with those for C in the same files, and how many steps are enough for the reader of words.
-CHECKER = (("checker", "lib", ("check", "answer", "read")), ("checker", "stepping", ("step_list",)), ("checker", "exports", ()))
-RUNNER = (("runner", "lib", ("run_steps",)),)
-READER = (("words", "lib", ("read_words", "word_at")), ("words", "positions", ("position", "end_of")))
-EVIDENCE = (("auditing", "lib", ("check_evidence",)), ("filing", "lib", ("write_evidence",)))
+# The calls that are sold, with the crates whose calls for C are, and how many steps are enough for the reader of words.
+CHECKER = (("checker", "lib", ("check", "answer", "read")), ("checker", "stepping", ("step_list",)), ("checker_c", "lib", ()))
+RUNNER = (("runner", "lib", ("run_steps",)), ("runner_c", "lib", ()))
+READER = (("words", "lib", ("read_words", "word_at")), ("words", "positions", ("position", "end_of")), ("words_c", "lib", ()))
+EVIDENCE = (("auditing", "lib", ("check_evidence",)), ("auditing_c", "lib", ()), ("filing", "lib", ("write_evidence",)))
 READER_STEPS = 2
 
 # The module in which the definitions find the types of src/.
 DECLARED = "declared"
-LIBRARY = re.compile(r"(Prim|mathlib|lib)\.")
+LIBRARY = re.compile(r"(Prim|mathlib|lib|Rattle\.(?:std|core))\.")
 
 USE = re.compile(r"^(?:unfoldable )?(?:pub )?(?:ghost )?use ([^{]+)\.\{([^}]*)\}", re.MULTILINE)
-SPECS = re.compile(r"Rattle·(\w+)(?:·specs)?\.specs\.(.+)")
-PROOFS = re.compile(r"Rattle·\w+(?:·proofs)?\.proofs\..+")
-NAME = re.compile(r"[\w·'′₀-₉!?-]+")
-START = re.compile(r"^(?:abbrev |unfoldable )?pub (?!use |mod )(?:record |data )?([\w·'!-]+)")
+SPECS = re.compile(r"Rattle\.(?!(?:std|core)\.)(\w+)\.specs\.(.+)")
+PROOFS = re.compile(r"Rattle\.(?!(?:std|core)\.)\w+\.proofs\..+")
+NAME = re.compile(r"[\w'₀-₉!?-]+")
+START = re.compile(r"^(?:abbrev |unfoldable )?pub (?!use |mod )(?:record |data )?([\w'!-]+)")
 CASE = re.compile(r"^  ([\w'!-]+) :", re.MULTILINE)
 STATEMENT = re.compile(r"^( *)pub (\S+) :.*\n(?:\1 .*\n)*", re.MULTILINE)
 MODULE = re.compile(r"^( *)module _ .*?\bwhere\n", re.MULTILINE | re.DOTALL)
-DEFINED = re.compile(r"^ *(?:(?:abbrev|unfoldable) (?:pub )?|(?:pub )?(?:record|data) )([\w·'!-]+)", re.MULTILINE)
+DEFINED = re.compile(r"^ *(?:(?:abbrev|unfoldable) (?:pub )?|(?:pub )?(?:record|data) )([\w'!-]+)", re.MULTILINE)
 CONTRACT = re.compile(r'^pub (?:extern "C" )?fn (\w+).*\n(?:[^{\n].*\n)*', re.MULTILINE)
 TYPE = re.compile(r"^pub (?:struct|enum) (\w+) \{\n(?: .*\n)*\}", re.MULTILINE)
-RUST_USE = re.compile(r"^use (\w+)::(?:\w+::)*(\w+);", re.MULTILINE)
+RUST_USE = re.compile(r"^use (\w+)::(?:\w+::)*(?:(\w+)|\{([\w, \n]+)\});", re.MULTILINE)
 
 THEOREMS = re.compile(r"^\| `(\w+)/proofs/(\w+): ([^`]*)` \|", re.MULTILINE)
 STEP = re.compile(r"^\| (\d+\. [^|]*) \| ([^|]*) \| [\d,]* \|$", re.MULTILINE)
@@ -102,7 +102,7 @@ def types_of_code():
     for path in glob.glob(os.path.join(ROOT, "crates", "*", "src", "*.rt")):
         text = text_of(path)
         crate, file = path.split(os.sep)[-3], os.path.basename(path)[:-3]
-        imports = {name: origin for origin, name in RUST_USE.findall(text)}
+        imports = {name: origin for origin, *names in RUST_USE.findall(text) for name in re.findall(r"\w+", " ".join(names))}
         for type in TYPE.finditer(text):
             first = text.count("\n", 0, type.start()) + 1
             found[crate, type.group(1)] = Type(file, first, first + type.group().count("\n"), type.group(), imports)

@@ -42,15 +42,15 @@ UNFOLDED = ("forest", "word_kinds", "words", "operators", "terms", "derivation",
             "term_faults", "headers", "grammars", "script")
 UNREACHED = {("terms", "Costs"), ("terms", "Values"), ("words", "Answers"), ("words", "Limits"), ("words", "Reading"), ("derivation", "Derivation"),
              ("derivation", "Answer"), ("script", "Outcome"), ("forest", "Tables"), ("words", "Table"), ("words", "Positions")}
-LEFT_OUT = {"sortsOf", "operatorValue", "enquired"}
+LEFT_OUT = {"sorts_of", "operator_value", "enquired"}
 
 # Definitions of one name in two files: the kinds of words are imported under another.
-RENAMED = {("word_kinds", "Kinds", name): name + "Kind" for name in ("numeral", "literal", "symbol")}
+RENAMED = {("word_kinds", "Kinds", name): name + "_kind" for name in ("numeral", "literal", "symbol")}
 
 # What the table's own definitions name.
-NAMED = {"Rattle·forest.specs.Limits": ["allowed"],
-         "Rattle·script.specs.Script": ["Known", "Read", "passed", "refused", "nothingKnown"],
-         "Rattle·script.specs.Response": ["Answered", "bodies", "refused as refusedBody"]}
+NAMED = {"Rattle.forest.specs.Limits": ["allowed"],
+         "Rattle.script.specs.Script": ["Known", "Read", "passed", "refused", "nothing_known"],
+         "Rattle.script.specs.Response": ["Answered", "bodies", "refused as refusedBody"]}
 
 READINGS_HEAD = "-- Decided readings of document 01 and of the requests, computed from the definitions: one table under one statement. A place is a word.\n"
 
@@ -63,12 +63,12 @@ LOCATED = """\
 -- Places of decided readings and of other texts, computed from the definitions: the end of the word there, the line and the column, one table under one statement.
 use Prim.Native.Nat.{ℕ}
 use Prim.Native.String.{String}
-use mathlib.Core.List.{List, [], _∷_, map}
-use mathlib.Core.Path.{_≡_, refl}
-use Rattle·forest.specs.Lists.{spelling}
-use Rattle·words.specs.Positions.{columnOf, endOf, inLastLine, lineOf, linesEnded}
-use Rattle·words.specs.Spans.{runEnd, startsFrom, wordEnd, wordStarts}
-use Rattle·words.specs.Words.{bytesAt, enquired}
+use mathlib.Core.List.{List, [], ◌∷◌, map}
+use mathlib.Core.Path.{◌≡◌, refl}
+use Rattle.forest.specs.Lists.{spelling}
+use Rattle.words.specs.Positions.{column_of, end_of, in_last_line, line_of, lines_ended}
+use Rattle.words.specs.Spans.{run_end, starts_from, word_end, word_starts}
+use Rattle.words.specs.Words.{bytes_at, enquired}
 
 -- A place of a text, and what is carried of it: an end, a line and a column.
 pub record Place : Type 0 where
@@ -82,7 +82,7 @@ row t p e l c = record { text = t; place = p; numbers = e ∷ l ∷ c ∷ [] }
 
 -- What the definitions say of a place of a text.
 abbrev pub placed : (text : List ℕ) → (place : ℕ) → List ℕ
-placed text place = endOf text place ∷ lineOf text place ∷ columnOf text place ∷ []
+placed text place = end_of text place ∷ line_of text place ∷ column_of text place ∷ []
 
 -- The places.
 abbrev places : List Place
@@ -90,8 +90,8 @@ places =
     %s
 
 -- The definitions say so of every one of them.
-pub located : map (λ (p : Place). placed (spelling (p .text)) (p .place)) places ≡ map (λ (p : Place). p .numbers) places
-unfolding bytesAt columnOf endOf enquired inLastLine lineOf linesEnded runEnd startsFrom wordEnd wordStarts
+pub located : map (λ (p : Place). placed (spelling p.text) p.place) places ≡ map (λ (p : Place). p.numbers) places
+unfolding bytes_at column_of end_of enquired in_last_line line_of lines_ended run_end starts_from word_end word_starts
 located = refl
 """
 
@@ -101,10 +101,10 @@ QUOTED = {0: "\\0", 9: "\\t", 10: "\\n", 13: "\\r", 34: "\\\"", 92: "\\\\"}
 HEAD = """\
 use Prim.Native.Nat.{ℕ}
 use Prim.Native.String.{String}
-use mathlib.Core.List.{List, [], _∷_, map}
-use mathlib.Core.Path.{_≡_, refl}
+use mathlib.Core.List.{List, [], ◌∷◌, map}
+use mathlib.Core.Path.{◌≡◌, refl}
 use lib.ListN.{length}
-use Rattle·forest.specs.Lists.{spelling}
+use Rattle.forest.specs.Lists.{spelling}
 """
 
 DEFINITIONS = """
@@ -119,23 +119,23 @@ abbrev pub row : (script response : String) → List ℕ → Reading
 row s r a = record { script = s; response = r; answer = a }
 
 -- The answer to a response.
-abbrev pub bodiesAnswer : Answered → List ℕ
-bodiesAnswer (refusedBody number place) = number ∷ place ∷ []
-bodiesAnswer (bodies ts) = []
+abbrev pub bodies_answer : Answered → List ℕ
+bodies_answer (refusedBody number place) = number ∷ place ∷ []
+bodies_answer (bodies ts) = []
 
 -- The answer to a script, and where it passes to the response, a text.
-abbrev pub bothAnswer : (response : List ℕ) → Read → List ℕ
-bothAnswer response (refused number place second) = number ∷ place ∷ second ∷ []
-bothAnswer response (passed k) =
-    bodiesAnswer (answered allowed (length (wordsOf response)) (k .defined) (inScriptOrder (k .functions)) (itemsOf response))
+abbrev pub both_answer : (response : List ℕ) → Read → List ℕ
+both_answer response (refused number place second) = number ∷ place ∷ second ∷ []
+both_answer response (passed k) =
+    bodies_answer (answered allowed (length (words_of response)) k.defined (in_script_order k.functions) (items_of response))
 
 -- What the definitions answer to two texts.
-abbrev pub textsAnswer : (script response : List ℕ) → List ℕ
-textsAnswer script response = bothAnswer response (readAll allowed (length (wordsOf script)) nothingKnown (itemsOf script))
+abbrev pub texts_answer : (script response : List ℕ) → List ℕ
+texts_answer script response = both_answer response (read_all allowed (length (words_of script)) nothing_known (items_of script))
 
 -- What they answer to a reading.
 abbrev pub defined : Reading → List ℕ
-defined reading = textsAnswer (spelling (reading .script)) (spelling (reading .response))
+defined reading = texts_answer (spelling reading.script) (spelling reading.response)
 
 """
 
@@ -147,7 +147,7 @@ abbrev %s : List Reading
 
 THEOREM = """
 -- The definitions answer every one of them so.
-pub %s : map defined %s ≡ map (λ (r : Reading). r .answer) %s
+pub %s : map defined %s ≡ map (λ (r : Reading). r.answer) %s
 unfolding %s
 %s = refl
 """
@@ -282,7 +282,7 @@ def unfolded():
             shown = {name: RENAMED.get((crate, module, name), name) for name in found}
             names += shown.values()
             if shown:
-                imports["Rattle·%s.specs.%s" % (crate, module)] = [name if name == other else "%s as %s" % (name, other) for name, other in shown.items()]
+                imports["Rattle.%s.specs.%s" % (crate, module)] = [name if name == other else "%s as %s" % (name, other) for name, other in shown.items()]
     for module, found in NAMED.items():
         imports[module] = imports.get(module, []) + found
     return imports, sorted(names)
@@ -306,9 +306,9 @@ def files():
     uses = "".join("use %s.{%s}\n" % (module, ", ".join(sorted(imports[module], key=lambda name: (name.lower(), name)))) for module in sorted(imports))
     weighted = [case for case in readings() if ":weight" in case[0] + case[1]]
     decided = table("The readings.", "readings", "decided", [case for case in readings() if case not in weighted], names)
-    decided += table("Those with the words of request E13.", "weighted", "weighted-decided", weighted, names)
-    held = "".join(table("The limit on %s." % kind.replace("-", " "), kind + "-texts", kind + "-held", cases, names) for kind, cases in limits().items())
-    own = "use Rattle·test_decided·proofs.proofs.Readings.{Reading, bodiesAnswer, bothAnswer, defined, row, textsAnswer}\n"
+    decided += table("Those with the words of request E13.", "weighted", "weighted_decided", weighted, names)
+    held = "".join(table("The limit on %s." % kind.replace("-", " "), kind.replace("-", "_") + "_texts", kind.replace("-", "_") + "_held", cases, names) for kind, cases in limits().items())
+    own = "use Rattle.test_decided.proofs.Readings.{Reading, bodies_answer, both_answer, defined, row, texts_answer}\n"
     located = LOCATED % "\n    ∷ ".join(["row %s %d %d %d %d" % place for place in places()] + ["[]"])
     return {
         "Readings.antt": READINGS_HEAD + HEAD + uses + DEFINITIONS.rstrip("\n") + "\n" + decided, "Limits.antt": LIMITS_HEAD + HEAD + uses + own + held,

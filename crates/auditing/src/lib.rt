@@ -80,8 +80,7 @@ pub fn check_evidence(file: &[u8]) -> Answer
 }
 
 // `check_evidence` for C: returns the answer's number, and puts the sixteen numbers where the caller lends room for them.
-#[unsafe(no_mangle)]
-pub extern "C" fn sverdhyll_check_evidence(file: &[u8], numbers: &mut [u64; 16]) -> u8
+pub fn sverdhyll_check_evidence(file: &[u8], numbers: &mut [u64; 16]) -> u8
     ensures { AuditForC file.now result numbers.new }
 {
     let found = check_evidence(file);

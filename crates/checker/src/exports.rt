@@ -18,8 +18,7 @@ use words::positions::position;
 use words::word_at;
 
 // `check` for C: returns the answer's number and puts its text, its place, its second number and its units where the caller lends room for them.
-#[unsafe(no_mangle)]
-pub extern "C" fn sverdhyll_check(
+pub fn sverdhyll_check(
     script: &[u8],
     response: &[u8],
     points: &[u64],
@@ -43,8 +42,7 @@ pub extern "C" fn sverdhyll_check(
 }
 
 // The length of the word that starts at an offset of a text; 0 if no word starts there.
-#[unsafe(no_mangle)]
-pub extern "C" fn sverdhyll_word(text: &[u8], at: usize) -> usize
+pub fn sverdhyll_word(text: &[u8], at: usize) -> usize
     ensures { result ≡ length (enquired text.now at) }
 {
     let word = word_at(text, at);
@@ -52,8 +50,7 @@ pub extern "C" fn sverdhyll_word(text: &[u8], at: usize) -> usize
 }
 
 // `answer` for C: returns the answer's number, and puts the sixteen numbers where the caller lends room for them.
-#[unsafe(no_mangle)]
-pub extern "C" fn sverdhyll_answer(
+pub fn sverdhyll_answer(
     script: &[u8],
     response: &[u8],
     points: &[u64],
@@ -70,8 +67,7 @@ pub extern "C" fn sverdhyll_answer(
 }
 
 // `read` for C: returns the answer's number, and puts the sixteen numbers where the caller lends room for them.
-#[unsafe(no_mangle)]
-pub extern "C" fn sverdhyll_read(script: &[u8], response: &[u8], numbers: &mut [u64; 16]) -> u8
+pub fn sverdhyll_read(script: &[u8], response: &[u8], numbers: &mut [u64; 16]) -> u8
     ensures { TextsAnswerForC script.now response.now result numbers.new }
 {
     let told = read(script, response);
@@ -80,8 +76,7 @@ pub extern "C" fn sverdhyll_read(script: &[u8], response: &[u8], numbers: &mut [
 }
 
 // `step_list` for C: returns the answer's number, and puts the count of steps and the sixteen numbers where the caller lends room for them.
-#[unsafe(no_mangle)]
-pub extern "C" fn sverdhyll_steps(
+pub fn sverdhyll_steps(
     script: &[u8],
     response: &[u8],
     points: &[u64],
@@ -101,8 +96,7 @@ pub extern "C" fn sverdhyll_steps(
 }
 
 // `run_steps` for C: returns the answer's number and puts its place, and the value and its sort, where the caller lends room for them.
-#[unsafe(no_mangle)]
-pub extern "C" fn sverdhyll_run(
+pub fn sverdhyll_run(
     sorts: &[u64],
     arguments: &[u64],
     steps: &[u64],
@@ -120,8 +114,7 @@ pub extern "C" fn sverdhyll_run(
 }
 
 // `write_evidence` for C: returns the answer's number, and puts the file's length and the sixteen numbers where the caller lends room for them.
-#[unsafe(no_mangle)]
-pub extern "C" fn sverdhyll_write_evidence(
+pub fn sverdhyll_write_evidence(
     script: &[u8],
     response: &[u8],
     area: &mut [u8],
@@ -138,8 +131,7 @@ pub extern "C" fn sverdhyll_write_evidence(
 }
 
 // `check_evidence` for C: returns the answer's number, and puts the sixteen numbers where the caller lends room for them.
-#[unsafe(no_mangle)]
-pub extern "C" fn sverdhyll_check_evidence(file: &[u8], numbers: &mut [u64; 16]) -> u8
+pub fn sverdhyll_check_evidence(file: &[u8], numbers: &mut [u64; 16]) -> u8
     ensures { AuditForC file.now result numbers.new }
 {
     let audit = check_evidence(file);
@@ -148,8 +140,7 @@ pub extern "C" fn sverdhyll_check_evidence(file: &[u8], numbers: &mut [u64; 16])
 }
 
 // The line and the column of a place of a text, for C: they are put where the caller says.
-#[unsafe(no_mangle)]
-pub extern "C" fn sverdhyll_position(text: &[u8], place: usize, line: &mut u64, column: &mut u64)
+pub fn sverdhyll_position(text: &[u8], place: usize, line: &mut u64, column: &mut u64)
     ensures { Positioned text.now place (record { line = line.exit.now; column = column.new }) }
 {
     let found = position(text, place);

@@ -27,8 +27,7 @@ pub fn run_steps(sorts: &[u64], arguments: &[u64], steps: &[u64]) -> StepsRan
 }
 
 // `run_steps` for C: returns the answer's number and puts its place, and the value and its sort, where the caller lends room for them.
-#[unsafe(no_mangle)]
-pub extern "C" fn sverdhyll_run(
+pub fn sverdhyll_run(
     sorts: &[u64],
     arguments: &[u64],
     steps: &[u64],

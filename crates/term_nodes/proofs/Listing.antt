@@ -7,7 +7,7 @@ use mathlib.Core.List.{List, [], ◌∷◌, ◌++◌}
 use lib.Dec.{leb}
 use lib.ListN.{length}
 use borrow.Author.Tests.{le-leb}
-use Rattle.forest.specs.Forest.{join, nodes_of, none, tree}
+use Rattle.forest.specs.Forest.{join, none, tree}
 use Rattle.forest.specs.code.Cursors.{size}
 use Rattle.forest.proofs.Laws.{join_assoc, join_none, size_join}
 use Rattle.derivation.specs.code.Rules.{rule_width}

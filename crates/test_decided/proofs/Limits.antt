@@ -22,7 +22,7 @@ use Rattle.names.specs.Earlier.{earlier, last_before}
 use Rattle.names.specs.New.{named_by, new_pairs}
 use Rattle.names.specs.Scopes.{forms_of, in_order, is_known, is_named, symbol_means}
 use Rattle.names.specs.Unknown.{unknown_in}
-use Rattle.operators.specs.Operators.{named, operator_at, operator_of, operators, operator_sort}
+use Rattle.operators.specs.Operators.{named, operator_at, operator_of, operator_sort, operators}
 use Rattle.operators.specs.Sorts.{sort_by}
 use Rattle.operators.specs.Values.{chained, group_left, group_right, pairwise, with_each}
 use Rattle.script.specs.Response.{Answered, answered, bodies, in_script_order, judged_all, judged_body, judged_extra, refused as refusedBody}
@@ -34,7 +34,7 @@ use Rattle.term_nodes.specs.Rules.{nodes_past, rule_past, rules_in, rules_of, si
 use Rattle.term_nodes.specs.Terms.{constants_past, node_word, raw_terms}
 use Rattle.terms.specs.Sorts.{called_sort, label_sort, same_sorts, sort_over, with_sort}
 use Rattle.word_kinds.specs.Decimals.{is_decimal}
-use Rattle.word_kinds.specs.Kinds.{all_in, formed, hashed, keyword_form, kind_of, literal as literal_kind, marked, numeral as numeralKind, spelled, symbol as symbolKind}
+use Rattle.word_kinds.specs.Kinds.{all_in, formed, hashed, keyword_form, kind_of, literal as literal_kind, marked, numeral as numeral_kind, spelled, symbol as symbol_kind}
 use Rattle.words.specs.Spans.{run_end, starts_from, word_end, word_starts}
 use Rattle.words.specs.Trees.{levels_at, levels_before, trees_from}
 use Rattle.words.specs.Words.{bytes_at, word_at, words_of}
@@ -50,7 +50,7 @@ operands_constraint_texts =
 
 -- The definitions answer every one of them so.
 pub operands_constraint_held : map defined operands_constraint_texts ≡ map (λ (r : Reading). r.answer) operands_constraint_texts
-unfolding after all all_in all_numerals answered any_of any_uncarried argument_tokens attributes_shape before bytes_at called_sort chained command_shape command_uncarried constants_past count dead_misfit dead_place differing earlier form_sorts form_yields formed forms_of grammar_place group_left group_right hashed in_order in_script_order inside is_decimal is_known is_named is_one_of is_reserved item item_sort items_of join judged judged_all judged_body judged_extra keyword_form kind_of known_after label_sort last_before least_in levels_at levels_before limit_place listing_misfit literal_kind marked name_place named named_by new_names new_pairs node_word nodes_of nodes_past is_not_carried numeralKind one_pass operator_at operator_of operator_sort operators pairwise passes place_in raw_terms read_all reserved_words rule_misfit rule_past rules_in rules_of run_end same_bytes same_sorts sides sort_by sort_over sorting_place spelled starts_from symbolKind symbol_means term_fault term_shapes terms_in tested total_of trees_from unknown_in with_each with_sort word_at word_end word_starts words_in words_of
+unfolding after all all_in all_numerals answered any_of any_uncarried argument_tokens attributes_shape before bytes_at called_sort chained command_shape command_uncarried constants_past count dead_misfit dead_place differing earlier form_sorts form_yields formed forms_of grammar_place group_left group_right hashed in_order in_script_order inside is_decimal is_known is_named is_not_carried is_one_of is_reserved item item_sort items_of join judged judged_all judged_body judged_extra keyword_form kind_of known_after label_sort last_before least_in levels_at levels_before limit_place listing_misfit literal_kind marked name_place named named_by new_names new_pairs node_word nodes_of nodes_past numeral_kind one_pass operator_at operator_of operator_sort operators pairwise passes place_in raw_terms read_all reserved_words rule_misfit rule_past rules_in rules_of run_end same_bytes same_sorts sides sort_by sort_over sorting_place spelled starts_from symbol_kind symbol_means term_fault term_shapes terms_in tested total_of trees_from unknown_in with_each with_sort word_at word_end word_starts words_in words_of
 operands_constraint_held = refl
 
 -- The limit on operands rule.
@@ -62,7 +62,7 @@ operands_rule_texts =
 
 -- The definitions answer every one of them so.
 pub operands_rule_held : map defined operands_rule_texts ≡ map (λ (r : Reading). r.answer) operands_rule_texts
-unfolding after all all_in all_numerals answered any_of any_uncarried argument_tokens attributes_shape before bytes_at called_sort chained command_shape command_uncarried constants_past count dead_misfit dead_place differing earlier form_sorts form_yields formed forms_of grammar_place group_left group_right hashed in_order in_script_order inside is_decimal is_known is_named is_one_of is_reserved item item_sort items_of join judged judged_all judged_body judged_extra keyword_form kind_of known_after label_sort last_before least_in levels_at levels_before limit_place listing_misfit literal_kind marked name_place named named_by new_names new_pairs node_word nodes_of nodes_past is_not_carried numeralKind one_pass operator_at operator_of operator_sort operators pairwise passes place_in raw_terms read_all reserved_words rule_misfit rule_past rules_in rules_of run_end same_bytes same_sorts sides sort_by sort_over sorting_place spelled starts_from symbolKind symbol_means term_fault term_shapes terms_in tested total_of trees_from unknown_in with_each with_sort word_at word_end word_starts words_in words_of
+unfolding after all all_in all_numerals answered any_of any_uncarried argument_tokens attributes_shape before bytes_at called_sort chained command_shape command_uncarried constants_past count dead_misfit dead_place differing earlier form_sorts form_yields formed forms_of grammar_place group_left group_right hashed in_order in_script_order inside is_decimal is_known is_named is_not_carried is_one_of is_reserved item item_sort items_of join judged judged_all judged_body judged_extra keyword_form kind_of known_after label_sort last_before least_in levels_at levels_before limit_place listing_misfit literal_kind marked name_place named named_by new_names new_pairs node_word nodes_of nodes_past numeral_kind one_pass operator_at operator_of operator_sort operators pairwise passes place_in raw_terms read_all reserved_words rule_misfit rule_past rules_in rules_of run_end same_bytes same_sorts sides sort_by sort_over sorting_place spelled starts_from symbol_kind symbol_means term_fault term_shapes terms_in tested total_of trees_from unknown_in with_each with_sort word_at word_end word_starts words_in words_of
 operands_rule_held = refl
 
 -- The limit on constant width.
@@ -74,7 +74,7 @@ constant_width_texts =
 
 -- The definitions answer every one of them so.
 pub constant_width_held : map defined constant_width_texts ≡ map (λ (r : Reading). r.answer) constant_width_texts
-unfolding after all all_in all_numerals answered any_of any_uncarried argument_tokens attributes_shape before bytes_at called_sort chained command_shape command_uncarried constants_past count dead_misfit dead_place differing earlier form_sorts form_yields formed forms_of grammar_place group_left group_right hashed in_order in_script_order inside is_decimal is_known is_named is_one_of is_reserved item item_sort items_of join judged judged_all judged_body judged_extra keyword_form kind_of known_after label_sort last_before least_in levels_at levels_before limit_place listing_misfit literal_kind marked name_place named named_by new_names new_pairs node_word nodes_of nodes_past is_not_carried numeralKind one_pass operator_at operator_of operator_sort operators pairwise passes place_in raw_terms read_all reserved_words rule_misfit rule_past rules_in rules_of run_end same_bytes same_sorts sides sort_by sort_over sorting_place spelled starts_from symbolKind symbol_means term_fault term_shapes terms_in tested total_of trees_from unknown_in with_each with_sort word_at word_end word_starts words_in words_of
+unfolding after all all_in all_numerals answered any_of any_uncarried argument_tokens attributes_shape before bytes_at called_sort chained command_shape command_uncarried constants_past count dead_misfit dead_place differing earlier form_sorts form_yields formed forms_of grammar_place group_left group_right hashed in_order in_script_order inside is_decimal is_known is_named is_not_carried is_one_of is_reserved item item_sort items_of join judged judged_all judged_body judged_extra keyword_form kind_of known_after label_sort last_before least_in levels_at levels_before limit_place listing_misfit literal_kind marked name_place named named_by new_names new_pairs node_word nodes_of nodes_past numeral_kind one_pass operator_at operator_of operator_sort operators pairwise passes place_in raw_terms read_all reserved_words rule_misfit rule_past rules_in rules_of run_end same_bytes same_sorts sides sort_by sort_over sorting_place spelled starts_from symbol_kind symbol_means term_fault term_shapes terms_in tested total_of trees_from unknown_in with_each with_sort word_at word_end word_starts words_in words_of
 constant_width_held = refl
 
 -- The limit on digits.
@@ -87,7 +87,7 @@ digits_texts =
 
 -- The definitions answer every one of them so.
 pub digits_held : map defined digits_texts ≡ map (λ (r : Reading). r.answer) digits_texts
-unfolding after all all_in all_numerals answered any_of any_uncarried argument_tokens attributes_shape before bytes_at called_sort chained command_shape command_uncarried constants_past count dead_misfit dead_place differing earlier form_sorts form_yields formed forms_of grammar_place group_left group_right hashed in_order in_script_order inside is_decimal is_known is_named is_one_of is_reserved item item_sort items_of join judged judged_all judged_body judged_extra keyword_form kind_of known_after label_sort last_before least_in levels_at levels_before limit_place listing_misfit literal_kind marked name_place named named_by new_names new_pairs node_word nodes_of nodes_past is_not_carried numeralKind one_pass operator_at operator_of operator_sort operators pairwise passes place_in raw_terms read_all reserved_words rule_misfit rule_past rules_in rules_of run_end same_bytes same_sorts sides sort_by sort_over sorting_place spelled starts_from symbolKind symbol_means term_fault term_shapes terms_in tested total_of trees_from unknown_in with_each with_sort word_at word_end word_starts words_in words_of
+unfolding after all all_in all_numerals answered any_of any_uncarried argument_tokens attributes_shape before bytes_at called_sort chained command_shape command_uncarried constants_past count dead_misfit dead_place differing earlier form_sorts form_yields formed forms_of grammar_place group_left group_right hashed in_order in_script_order inside is_decimal is_known is_named is_not_carried is_one_of is_reserved item item_sort items_of join judged judged_all judged_body judged_extra keyword_form kind_of known_after label_sort last_before least_in levels_at levels_before limit_place listing_misfit literal_kind marked name_place named named_by new_names new_pairs node_word nodes_of nodes_past numeral_kind one_pass operator_at operator_of operator_sort operators pairwise passes place_in raw_terms read_all reserved_words rule_misfit rule_past rules_in rules_of run_end same_bytes same_sorts sides sort_by sort_over sorting_place spelled starts_from symbol_kind symbol_means term_fault term_shapes terms_in tested total_of trees_from unknown_in with_each with_sort word_at word_end word_starts words_in words_of
 digits_held = refl
 
 -- The limit on weight.
@@ -99,7 +99,7 @@ weight_texts =
 
 -- The definitions answer every one of them so.
 pub weight_held : map defined weight_texts ≡ map (λ (r : Reading). r.answer) weight_texts
-unfolding after all all_in all_numerals answered any_of any_uncarried argument_tokens attributes_shape before bytes_at called_sort chained command_shape command_uncarried constants_past count dead_misfit dead_place differing earlier form_sorts form_yields formed forms_of grammar_place group_left group_right hashed in_order in_script_order inside is_decimal is_known is_named is_one_of is_reserved item item_sort items_of join judged judged_all judged_body judged_extra keyword_form kind_of known_after label_sort last_before least_in levels_at levels_before limit_place listing_misfit literal_kind marked name_place named named_by new_names new_pairs node_word nodes_of nodes_past is_not_carried numeralKind one_pass operator_at operator_of operator_sort operators pairwise passes place_in raw_terms read_all reserved_words rule_misfit rule_past rules_in rules_of run_end same_bytes same_sorts sides sort_by sort_over sorting_place spelled starts_from symbolKind symbol_means term_fault term_shapes terms_in tested total_of trees_from unknown_in with_each with_sort word_at word_end word_starts words_in words_of
+unfolding after all all_in all_numerals answered any_of any_uncarried argument_tokens attributes_shape before bytes_at called_sort chained command_shape command_uncarried constants_past count dead_misfit dead_place differing earlier form_sorts form_yields formed forms_of grammar_place group_left group_right hashed in_order in_script_order inside is_decimal is_known is_named is_not_carried is_one_of is_reserved item item_sort items_of join judged judged_all judged_body judged_extra keyword_form kind_of known_after label_sort last_before least_in levels_at levels_before limit_place listing_misfit literal_kind marked name_place named named_by new_names new_pairs node_word nodes_of nodes_past numeral_kind one_pass operator_at operator_of operator_sort operators pairwise passes place_in raw_terms read_all reserved_words rule_misfit rule_past rules_in rules_of run_end same_bytes same_sorts sides sort_by sort_over sorting_place spelled starts_from symbol_kind symbol_means term_fault term_shapes terms_in tested total_of trees_from unknown_in with_each with_sort word_at word_end word_starts words_in words_of
 weight_held = refl
 
 -- The limit on functions.
@@ -111,7 +111,7 @@ functions_texts =
 
 -- The definitions answer every one of them so.
 pub functions_held : map defined functions_texts ≡ map (λ (r : Reading). r.answer) functions_texts
-unfolding after all all_in all_numerals answered any_of any_uncarried argument_tokens attributes_shape before bytes_at called_sort chained command_shape command_uncarried constants_past count dead_misfit dead_place differing earlier form_sorts form_yields formed forms_of grammar_place group_left group_right hashed in_order in_script_order inside is_decimal is_known is_named is_one_of is_reserved item item_sort items_of join judged judged_all judged_body judged_extra keyword_form kind_of known_after label_sort last_before least_in levels_at levels_before limit_place listing_misfit literal_kind marked name_place named named_by new_names new_pairs node_word nodes_of nodes_past is_not_carried numeralKind one_pass operator_at operator_of operator_sort operators pairwise passes place_in raw_terms read_all reserved_words rule_misfit rule_past rules_in rules_of run_end same_bytes same_sorts sides sort_by sort_over sorting_place spelled starts_from symbolKind symbol_means term_fault term_shapes terms_in tested total_of trees_from unknown_in with_each with_sort word_at word_end word_starts words_in words_of
+unfolding after all all_in all_numerals answered any_of any_uncarried argument_tokens attributes_shape before bytes_at called_sort chained command_shape command_uncarried constants_past count dead_misfit dead_place differing earlier form_sorts form_yields formed forms_of grammar_place group_left group_right hashed in_order in_script_order inside is_decimal is_known is_named is_not_carried is_one_of is_reserved item item_sort items_of join judged judged_all judged_body judged_extra keyword_form kind_of known_after label_sort last_before least_in levels_at levels_before limit_place listing_misfit literal_kind marked name_place named named_by new_names new_pairs node_word nodes_of nodes_past numeral_kind one_pass operator_at operator_of operator_sort operators pairwise passes place_in raw_terms read_all reserved_words rule_misfit rule_past rules_in rules_of run_end same_bytes same_sorts sides sort_by sort_over sorting_place spelled starts_from symbol_kind symbol_means term_fault term_shapes terms_in tested total_of trees_from unknown_in with_each with_sort word_at word_end word_starts words_in words_of
 functions_held = refl
 
 -- The limit on arguments.
@@ -123,7 +123,7 @@ arguments_texts =
 
 -- The definitions answer every one of them so.
 pub arguments_held : map defined arguments_texts ≡ map (λ (r : Reading). r.answer) arguments_texts
-unfolding after all all_in all_numerals answered any_of any_uncarried argument_tokens attributes_shape before bytes_at called_sort chained command_shape command_uncarried constants_past count dead_misfit dead_place differing earlier form_sorts form_yields formed forms_of grammar_place group_left group_right hashed in_order in_script_order inside is_decimal is_known is_named is_one_of is_reserved item item_sort items_of join judged judged_all judged_body judged_extra keyword_form kind_of known_after label_sort last_before least_in levels_at levels_before limit_place listing_misfit literal_kind marked name_place named named_by new_names new_pairs node_word nodes_of nodes_past is_not_carried numeralKind one_pass operator_at operator_of operator_sort operators pairwise passes place_in raw_terms read_all reserved_words rule_misfit rule_past rules_in rules_of run_end same_bytes same_sorts sides sort_by sort_over sorting_place spelled starts_from symbolKind symbol_means term_fault term_shapes terms_in tested total_of trees_from unknown_in with_each with_sort word_at word_end word_starts words_in words_of
+unfolding after all all_in all_numerals answered any_of any_uncarried argument_tokens attributes_shape before bytes_at called_sort chained command_shape command_uncarried constants_past count dead_misfit dead_place differing earlier form_sorts form_yields formed forms_of grammar_place group_left group_right hashed in_order in_script_order inside is_decimal is_known is_named is_not_carried is_one_of is_reserved item item_sort items_of join judged judged_all judged_body judged_extra keyword_form kind_of known_after label_sort last_before least_in levels_at levels_before limit_place listing_misfit literal_kind marked name_place named named_by new_names new_pairs node_word nodes_of nodes_past numeral_kind one_pass operator_at operator_of operator_sort operators pairwise passes place_in raw_terms read_all reserved_words rule_misfit rule_past rules_in rules_of run_end same_bytes same_sorts sides sort_by sort_over sorting_place spelled starts_from symbol_kind symbol_means term_fault term_shapes terms_in tested total_of trees_from unknown_in with_each with_sort word_at word_end word_starts words_in words_of
 arguments_held = refl
 
 -- The limit on defined arguments.
@@ -135,7 +135,7 @@ defined_arguments_texts =
 
 -- The definitions answer every one of them so.
 pub defined_arguments_held : map defined defined_arguments_texts ≡ map (λ (r : Reading). r.answer) defined_arguments_texts
-unfolding after all all_in all_numerals answered any_of any_uncarried argument_tokens attributes_shape before bytes_at called_sort chained command_shape command_uncarried constants_past count dead_misfit dead_place differing earlier form_sorts form_yields formed forms_of grammar_place group_left group_right hashed in_order in_script_order inside is_decimal is_known is_named is_one_of is_reserved item item_sort items_of join judged judged_all judged_body judged_extra keyword_form kind_of known_after label_sort last_before least_in levels_at levels_before limit_place listing_misfit literal_kind marked name_place named named_by new_names new_pairs node_word nodes_of nodes_past is_not_carried numeralKind one_pass operator_at operator_of operator_sort operators pairwise passes place_in raw_terms read_all reserved_words rule_misfit rule_past rules_in rules_of run_end same_bytes same_sorts sides sort_by sort_over sorting_place spelled starts_from symbolKind symbol_means term_fault term_shapes terms_in tested total_of trees_from unknown_in with_each with_sort word_at word_end word_starts words_in words_of
+unfolding after all all_in all_numerals answered any_of any_uncarried argument_tokens attributes_shape before bytes_at called_sort chained command_shape command_uncarried constants_past count dead_misfit dead_place differing earlier form_sorts form_yields formed forms_of grammar_place group_left group_right hashed in_order in_script_order inside is_decimal is_known is_named is_not_carried is_one_of is_reserved item item_sort items_of join judged judged_all judged_body judged_extra keyword_form kind_of known_after label_sort last_before least_in levels_at levels_before limit_place listing_misfit literal_kind marked name_place named named_by new_names new_pairs node_word nodes_of nodes_past numeral_kind one_pass operator_at operator_of operator_sort operators pairwise passes place_in raw_terms read_all reserved_words rule_misfit rule_past rules_in rules_of run_end same_bytes same_sorts sides sort_by sort_over sorting_place spelled starts_from symbol_kind symbol_means term_fault term_shapes terms_in tested total_of trees_from unknown_in with_each with_sort word_at word_end word_starts words_in words_of
 defined_arguments_held = refl
 
 -- The limit on defined.
@@ -147,7 +147,7 @@ defined_texts =
 
 -- The definitions answer every one of them so.
 pub defined_held : map defined defined_texts ≡ map (λ (r : Reading). r.answer) defined_texts
-unfolding after all all_in all_numerals answered any_of any_uncarried argument_tokens attributes_shape before bytes_at called_sort chained command_shape command_uncarried constants_past count dead_misfit dead_place differing earlier form_sorts form_yields formed forms_of grammar_place group_left group_right hashed in_order in_script_order inside is_decimal is_known is_named is_one_of is_reserved item item_sort items_of join judged judged_all judged_body judged_extra keyword_form kind_of known_after label_sort last_before least_in levels_at levels_before limit_place listing_misfit literal_kind marked name_place named named_by new_names new_pairs node_word nodes_of nodes_past is_not_carried numeralKind one_pass operator_at operator_of operator_sort operators pairwise passes place_in raw_terms read_all reserved_words rule_misfit rule_past rules_in rules_of run_end same_bytes same_sorts sides sort_by sort_over sorting_place spelled starts_from symbolKind symbol_means term_fault term_shapes terms_in tested total_of trees_from unknown_in with_each with_sort word_at word_end word_starts words_in words_of
+unfolding after all all_in all_numerals answered any_of any_uncarried argument_tokens attributes_shape before bytes_at called_sort chained command_shape command_uncarried constants_past count dead_misfit dead_place differing earlier form_sorts form_yields formed forms_of grammar_place group_left group_right hashed in_order in_script_order inside is_decimal is_known is_named is_not_carried is_one_of is_reserved item item_sort items_of join judged judged_all judged_body judged_extra keyword_form kind_of known_after label_sort last_before least_in levels_at levels_before limit_place listing_misfit literal_kind marked name_place named named_by new_names new_pairs node_word nodes_of nodes_past numeral_kind one_pass operator_at operator_of operator_sort operators pairwise passes place_in raw_terms read_all reserved_words rule_misfit rule_past rules_in rules_of run_end same_bytes same_sorts sides sort_by sort_over sorting_place spelled starts_from symbol_kind symbol_means term_fault term_shapes terms_in tested total_of trees_from unknown_in with_each with_sort word_at word_end word_starts words_in words_of
 defined_held = refl
 
 -- The limit on variables.
@@ -159,7 +159,7 @@ variables_texts =
 
 -- The definitions answer every one of them so.
 pub variables_held : map defined variables_texts ≡ map (λ (r : Reading). r.answer) variables_texts
-unfolding after all all_in all_numerals answered any_of any_uncarried argument_tokens attributes_shape before bytes_at called_sort chained command_shape command_uncarried constants_past count dead_misfit dead_place differing earlier form_sorts form_yields formed forms_of grammar_place group_left group_right hashed in_order in_script_order inside is_decimal is_known is_named is_one_of is_reserved item item_sort items_of join judged judged_all judged_body judged_extra keyword_form kind_of known_after label_sort last_before least_in levels_at levels_before limit_place listing_misfit literal_kind marked name_place named named_by new_names new_pairs node_word nodes_of nodes_past is_not_carried numeralKind one_pass operator_at operator_of operator_sort operators pairwise passes place_in raw_terms read_all reserved_words rule_misfit rule_past rules_in rules_of run_end same_bytes same_sorts sides sort_by sort_over sorting_place spelled starts_from symbolKind symbol_means term_fault term_shapes terms_in tested total_of trees_from unknown_in with_each with_sort word_at word_end word_starts words_in words_of
+unfolding after all all_in all_numerals answered any_of any_uncarried argument_tokens attributes_shape before bytes_at called_sort chained command_shape command_uncarried constants_past count dead_misfit dead_place differing earlier form_sorts form_yields formed forms_of grammar_place group_left group_right hashed in_order in_script_order inside is_decimal is_known is_named is_not_carried is_one_of is_reserved item item_sort items_of join judged judged_all judged_body judged_extra keyword_form kind_of known_after label_sort last_before least_in levels_at levels_before limit_place listing_misfit literal_kind marked name_place named named_by new_names new_pairs node_word nodes_of nodes_past numeral_kind one_pass operator_at operator_of operator_sort operators pairwise passes place_in raw_terms read_all reserved_words rule_misfit rule_past rules_in rules_of run_end same_bytes same_sorts sides sort_by sort_over sorting_place spelled starts_from symbol_kind symbol_means term_fault term_shapes terms_in tested total_of trees_from unknown_in with_each with_sort word_at word_end word_starts words_in words_of
 variables_held = refl
 
 -- The limit on constraints.
@@ -171,7 +171,7 @@ constraints_texts =
 
 -- The definitions answer every one of them so.
 pub constraints_held : map defined constraints_texts ≡ map (λ (r : Reading). r.answer) constraints_texts
-unfolding after all all_in all_numerals answered any_of any_uncarried argument_tokens attributes_shape before bytes_at called_sort chained command_shape command_uncarried constants_past count dead_misfit dead_place differing earlier form_sorts form_yields formed forms_of grammar_place group_left group_right hashed in_order in_script_order inside is_decimal is_known is_named is_one_of is_reserved item item_sort items_of join judged judged_all judged_body judged_extra keyword_form kind_of known_after label_sort last_before least_in levels_at levels_before limit_place listing_misfit literal_kind marked name_place named named_by new_names new_pairs node_word nodes_of nodes_past is_not_carried numeralKind one_pass operator_at operator_of operator_sort operators pairwise passes place_in raw_terms read_all reserved_words rule_misfit rule_past rules_in rules_of run_end same_bytes same_sorts sides sort_by sort_over sorting_place spelled starts_from symbolKind symbol_means term_fault term_shapes terms_in tested total_of trees_from unknown_in with_each with_sort word_at word_end word_starts words_in words_of
+unfolding after all all_in all_numerals answered any_of any_uncarried argument_tokens attributes_shape before bytes_at called_sort chained command_shape command_uncarried constants_past count dead_misfit dead_place differing earlier form_sorts form_yields formed forms_of grammar_place group_left group_right hashed in_order in_script_order inside is_decimal is_known is_named is_not_carried is_one_of is_reserved item item_sort items_of join judged judged_all judged_body judged_extra keyword_form kind_of known_after label_sort last_before least_in levels_at levels_before limit_place listing_misfit literal_kind marked name_place named named_by new_names new_pairs node_word nodes_of nodes_past numeral_kind one_pass operator_at operator_of operator_sort operators pairwise passes place_in raw_terms read_all reserved_words rule_misfit rule_past rules_in rules_of run_end same_bytes same_sorts sides sort_by sort_over sorting_place spelled starts_from symbol_kind symbol_means term_fault term_shapes terms_in tested total_of trees_from unknown_in with_each with_sort word_at word_end word_starts words_in words_of
 constraints_held = refl
 
 -- The limit on assumptions.
@@ -183,7 +183,7 @@ assumptions_texts =
 
 -- The definitions answer every one of them so.
 pub assumptions_held : map defined assumptions_texts ≡ map (λ (r : Reading). r.answer) assumptions_texts
-unfolding after all all_in all_numerals answered any_of any_uncarried argument_tokens attributes_shape before bytes_at called_sort chained command_shape command_uncarried constants_past count dead_misfit dead_place differing earlier form_sorts form_yields formed forms_of grammar_place group_left group_right hashed in_order in_script_order inside is_decimal is_known is_named is_one_of is_reserved item item_sort items_of join judged judged_all judged_body judged_extra keyword_form kind_of known_after label_sort last_before least_in levels_at levels_before limit_place listing_misfit literal_kind marked name_place named named_by new_names new_pairs node_word nodes_of nodes_past is_not_carried numeralKind one_pass operator_at operator_of operator_sort operators pairwise passes place_in raw_terms read_all reserved_words rule_misfit rule_past rules_in rules_of run_end same_bytes same_sorts sides sort_by sort_over sorting_place spelled starts_from symbolKind symbol_means term_fault term_shapes terms_in tested total_of trees_from unknown_in with_each with_sort word_at word_end word_starts words_in words_of
+unfolding after all all_in all_numerals answered any_of any_uncarried argument_tokens attributes_shape before bytes_at called_sort chained command_shape command_uncarried constants_past count dead_misfit dead_place differing earlier form_sorts form_yields formed forms_of grammar_place group_left group_right hashed in_order in_script_order inside is_decimal is_known is_named is_not_carried is_one_of is_reserved item item_sort items_of join judged judged_all judged_body judged_extra keyword_form kind_of known_after label_sort last_before least_in levels_at levels_before limit_place listing_misfit literal_kind marked name_place named named_by new_names new_pairs node_word nodes_of nodes_past numeral_kind one_pass operator_at operator_of operator_sort operators pairwise passes place_in raw_terms read_all reserved_words rule_misfit rule_past rules_in rules_of run_end same_bytes same_sorts sides sort_by sort_over sorting_place spelled starts_from symbol_kind symbol_means term_fault term_shapes terms_in tested total_of trees_from unknown_in with_each with_sort word_at word_end word_starts words_in words_of
 assumptions_held = refl
 
 -- The limit on non terminals.
@@ -195,7 +195,7 @@ non_terminals_texts =
 
 -- The definitions answer every one of them so.
 pub non_terminals_held : map defined non_terminals_texts ≡ map (λ (r : Reading). r.answer) non_terminals_texts
-unfolding after all all_in all_numerals answered any_of any_uncarried argument_tokens attributes_shape before bytes_at called_sort chained command_shape command_uncarried constants_past count dead_misfit dead_place differing earlier form_sorts form_yields formed forms_of grammar_place group_left group_right hashed in_order in_script_order inside is_decimal is_known is_named is_one_of is_reserved item item_sort items_of join judged judged_all judged_body judged_extra keyword_form kind_of known_after label_sort last_before least_in levels_at levels_before limit_place listing_misfit literal_kind marked name_place named named_by new_names new_pairs node_word nodes_of nodes_past is_not_carried numeralKind one_pass operator_at operator_of operator_sort operators pairwise passes place_in raw_terms read_all reserved_words rule_misfit rule_past rules_in rules_of run_end same_bytes same_sorts sides sort_by sort_over sorting_place spelled starts_from symbolKind symbol_means term_fault term_shapes terms_in tested total_of trees_from unknown_in with_each with_sort word_at word_end word_starts words_in words_of
+unfolding after all all_in all_numerals answered any_of any_uncarried argument_tokens attributes_shape before bytes_at called_sort chained command_shape command_uncarried constants_past count dead_misfit dead_place differing earlier form_sorts form_yields formed forms_of grammar_place group_left group_right hashed in_order in_script_order inside is_decimal is_known is_named is_not_carried is_one_of is_reserved item item_sort items_of join judged judged_all judged_body judged_extra keyword_form kind_of known_after label_sort last_before least_in levels_at levels_before limit_place listing_misfit literal_kind marked name_place named named_by new_names new_pairs node_word nodes_of nodes_past numeral_kind one_pass operator_at operator_of operator_sort operators pairwise passes place_in raw_terms read_all reserved_words rule_misfit rule_past rules_in rules_of run_end same_bytes same_sorts sides sort_by sort_over sorting_place spelled starts_from symbol_kind symbol_means term_fault term_shapes terms_in tested total_of trees_from unknown_in with_each with_sort word_at word_end word_starts words_in words_of
 non_terminals_held = refl
 
 -- The limit on rules.
@@ -207,7 +207,7 @@ rules_texts =
 
 -- The definitions answer every one of them so.
 pub rules_held : map defined rules_texts ≡ map (λ (r : Reading). r.answer) rules_texts
-unfolding after all all_in all_numerals answered any_of any_uncarried argument_tokens attributes_shape before bytes_at called_sort chained command_shape command_uncarried constants_past count dead_misfit dead_place differing earlier form_sorts form_yields formed forms_of grammar_place group_left group_right hashed in_order in_script_order inside is_decimal is_known is_named is_one_of is_reserved item item_sort items_of join judged judged_all judged_body judged_extra keyword_form kind_of known_after label_sort last_before least_in levels_at levels_before limit_place listing_misfit literal_kind marked name_place named named_by new_names new_pairs node_word nodes_of nodes_past is_not_carried numeralKind one_pass operator_at operator_of operator_sort operators pairwise passes place_in raw_terms read_all reserved_words rule_misfit rule_past rules_in rules_of run_end same_bytes same_sorts sides sort_by sort_over sorting_place spelled starts_from symbolKind symbol_means term_fault term_shapes terms_in tested total_of trees_from unknown_in with_each with_sort word_at word_end word_starts words_in words_of
+unfolding after all all_in all_numerals answered any_of any_uncarried argument_tokens attributes_shape before bytes_at called_sort chained command_shape command_uncarried constants_past count dead_misfit dead_place differing earlier form_sorts form_yields formed forms_of grammar_place group_left group_right hashed in_order in_script_order inside is_decimal is_known is_named is_not_carried is_one_of is_reserved item item_sort items_of join judged judged_all judged_body judged_extra keyword_form kind_of known_after label_sort last_before least_in levels_at levels_before limit_place listing_misfit literal_kind marked name_place named named_by new_names new_pairs node_word nodes_of nodes_past numeral_kind one_pass operator_at operator_of operator_sort operators pairwise passes place_in raw_terms read_all reserved_words rule_misfit rule_past rules_in rules_of run_end same_bytes same_sorts sides sort_by sort_over sorting_place spelled starts_from symbol_kind symbol_means term_fault term_shapes terms_in tested total_of trees_from unknown_in with_each with_sort word_at word_end word_starts words_in words_of
 rules_held = refl
 
 -- The limit on nodes body.
@@ -219,7 +219,7 @@ nodes_body_texts =
 
 -- The definitions answer every one of them so.
 pub nodes_body_held : map defined nodes_body_texts ≡ map (λ (r : Reading). r.answer) nodes_body_texts
-unfolding after all all_in all_numerals answered any_of any_uncarried argument_tokens attributes_shape before bytes_at called_sort chained command_shape command_uncarried constants_past count dead_misfit dead_place differing earlier form_sorts form_yields formed forms_of grammar_place group_left group_right hashed in_order in_script_order inside is_decimal is_known is_named is_one_of is_reserved item item_sort items_of join judged judged_all judged_body judged_extra keyword_form kind_of known_after label_sort last_before least_in levels_at levels_before limit_place listing_misfit literal_kind marked name_place named named_by new_names new_pairs node_word nodes_of nodes_past is_not_carried numeralKind one_pass operator_at operator_of operator_sort operators pairwise passes place_in raw_terms read_all reserved_words rule_misfit rule_past rules_in rules_of run_end same_bytes same_sorts sides sort_by sort_over sorting_place spelled starts_from symbolKind symbol_means term_fault term_shapes terms_in tested total_of trees_from unknown_in with_each with_sort word_at word_end word_starts words_in words_of
+unfolding after all all_in all_numerals answered any_of any_uncarried argument_tokens attributes_shape before bytes_at called_sort chained command_shape command_uncarried constants_past count dead_misfit dead_place differing earlier form_sorts form_yields formed forms_of grammar_place group_left group_right hashed in_order in_script_order inside is_decimal is_known is_named is_not_carried is_one_of is_reserved item item_sort items_of join judged judged_all judged_body judged_extra keyword_form kind_of known_after label_sort last_before least_in levels_at levels_before limit_place listing_misfit literal_kind marked name_place named named_by new_names new_pairs node_word nodes_of nodes_past numeral_kind one_pass operator_at operator_of operator_sort operators pairwise passes place_in raw_terms read_all reserved_words rule_misfit rule_past rules_in rules_of run_end same_bytes same_sorts sides sort_by sort_over sorting_place spelled starts_from symbol_kind symbol_means term_fault term_shapes terms_in tested total_of trees_from unknown_in with_each with_sort word_at word_end word_starts words_in words_of
 nodes_body_held = refl
 
 -- The limit on nodes constraint.
@@ -231,7 +231,7 @@ nodes_constraint_texts =
 
 -- The definitions answer every one of them so.
 pub nodes_constraint_held : map defined nodes_constraint_texts ≡ map (λ (r : Reading). r.answer) nodes_constraint_texts
-unfolding after all all_in all_numerals answered any_of any_uncarried argument_tokens attributes_shape before bytes_at called_sort chained command_shape command_uncarried constants_past count dead_misfit dead_place differing earlier form_sorts form_yields formed forms_of grammar_place group_left group_right hashed in_order in_script_order inside is_decimal is_known is_named is_one_of is_reserved item item_sort items_of join judged judged_all judged_body judged_extra keyword_form kind_of known_after label_sort last_before least_in levels_at levels_before limit_place listing_misfit literal_kind marked name_place named named_by new_names new_pairs node_word nodes_of nodes_past is_not_carried numeralKind one_pass operator_at operator_of operator_sort operators pairwise passes place_in raw_terms read_all reserved_words rule_misfit rule_past rules_in rules_of run_end same_bytes same_sorts sides sort_by sort_over sorting_place spelled starts_from symbolKind symbol_means term_fault term_shapes terms_in tested total_of trees_from unknown_in with_each with_sort word_at word_end word_starts words_in words_of
+unfolding after all all_in all_numerals answered any_of any_uncarried argument_tokens attributes_shape before bytes_at called_sort chained command_shape command_uncarried constants_past count dead_misfit dead_place differing earlier form_sorts form_yields formed forms_of grammar_place group_left group_right hashed in_order in_script_order inside is_decimal is_known is_named is_not_carried is_one_of is_reserved item item_sort items_of join judged judged_all judged_body judged_extra keyword_form kind_of known_after label_sort last_before least_in levels_at levels_before limit_place listing_misfit literal_kind marked name_place named named_by new_names new_pairs node_word nodes_of nodes_past numeral_kind one_pass operator_at operator_of operator_sort operators pairwise passes place_in raw_terms read_all reserved_words rule_misfit rule_past rules_in rules_of run_end same_bytes same_sorts sides sort_by sort_over sorting_place spelled starts_from symbol_kind symbol_means term_fault term_shapes terms_in tested total_of trees_from unknown_in with_each with_sort word_at word_end word_starts words_in words_of
 nodes_constraint_held = refl
 
 -- The limit on nodes rule.
@@ -243,7 +243,7 @@ nodes_rule_texts =
 
 -- The definitions answer every one of them so.
 pub nodes_rule_held : map defined nodes_rule_texts ≡ map (λ (r : Reading). r.answer) nodes_rule_texts
-unfolding after all all_in all_numerals answered any_of any_uncarried argument_tokens attributes_shape before bytes_at called_sort chained command_shape command_uncarried constants_past count dead_misfit dead_place differing earlier form_sorts form_yields formed forms_of grammar_place group_left group_right hashed in_order in_script_order inside is_decimal is_known is_named is_one_of is_reserved item item_sort items_of join judged judged_all judged_body judged_extra keyword_form kind_of known_after label_sort last_before least_in levels_at levels_before limit_place listing_misfit literal_kind marked name_place named named_by new_names new_pairs node_word nodes_of nodes_past is_not_carried numeralKind one_pass operator_at operator_of operator_sort operators pairwise passes place_in raw_terms read_all reserved_words rule_misfit rule_past rules_in rules_of run_end same_bytes same_sorts sides sort_by sort_over sorting_place spelled starts_from symbolKind symbol_means term_fault term_shapes terms_in tested total_of trees_from unknown_in with_each with_sort word_at word_end word_starts words_in words_of
+unfolding after all all_in all_numerals answered any_of any_uncarried argument_tokens attributes_shape before bytes_at called_sort chained command_shape command_uncarried constants_past count dead_misfit dead_place differing earlier form_sorts form_yields formed forms_of grammar_place group_left group_right hashed in_order in_script_order inside is_decimal is_known is_named is_not_carried is_one_of is_reserved item item_sort items_of join judged judged_all judged_body judged_extra keyword_form kind_of known_after label_sort last_before least_in levels_at levels_before limit_place listing_misfit literal_kind marked name_place named named_by new_names new_pairs node_word nodes_of nodes_past numeral_kind one_pass operator_at operator_of operator_sort operators pairwise passes place_in raw_terms read_all reserved_words rule_misfit rule_past rules_in rules_of run_end same_bytes same_sorts sides sort_by sort_over sorting_place spelled starts_from symbol_kind symbol_means term_fault term_shapes terms_in tested total_of trees_from unknown_in with_each with_sort word_at word_end word_starts words_in words_of
 nodes_rule_held = refl
 
 -- The limit on nodes response.
@@ -255,5 +255,5 @@ nodes_response_texts =
 
 -- The definitions answer every one of them so.
 pub nodes_response_held : map defined nodes_response_texts ≡ map (λ (r : Reading). r.answer) nodes_response_texts
-unfolding after all all_in all_numerals answered any_of any_uncarried argument_tokens attributes_shape before bytes_at called_sort chained command_shape command_uncarried constants_past count dead_misfit dead_place differing earlier form_sorts form_yields formed forms_of grammar_place group_left group_right hashed in_order in_script_order inside is_decimal is_known is_named is_one_of is_reserved item item_sort items_of join judged judged_all judged_body judged_extra keyword_form kind_of known_after label_sort last_before least_in levels_at levels_before limit_place listing_misfit literal_kind marked name_place named named_by new_names new_pairs node_word nodes_of nodes_past is_not_carried numeralKind one_pass operator_at operator_of operator_sort operators pairwise passes place_in raw_terms read_all reserved_words rule_misfit rule_past rules_in rules_of run_end same_bytes same_sorts sides sort_by sort_over sorting_place spelled starts_from symbolKind symbol_means term_fault term_shapes terms_in tested total_of trees_from unknown_in with_each with_sort word_at word_end word_starts words_in words_of
+unfolding after all all_in all_numerals answered any_of any_uncarried argument_tokens attributes_shape before bytes_at called_sort chained command_shape command_uncarried constants_past count dead_misfit dead_place differing earlier form_sorts form_yields formed forms_of grammar_place group_left group_right hashed in_order in_script_order inside is_decimal is_known is_named is_not_carried is_one_of is_reserved item item_sort items_of join judged judged_all judged_body judged_extra keyword_form kind_of known_after label_sort last_before least_in levels_at levels_before limit_place listing_misfit literal_kind marked name_place named named_by new_names new_pairs node_word nodes_of nodes_past numeral_kind one_pass operator_at operator_of operator_sort operators pairwise passes place_in raw_terms read_all reserved_words rule_misfit rule_past rules_in rules_of run_end same_bytes same_sorts sides sort_by sort_over sorting_place spelled starts_from symbol_kind symbol_means term_fault term_shapes terms_in tested total_of trees_from unknown_in with_each with_sort word_at word_end word_starts words_in words_of
 nodes_response_held = refl

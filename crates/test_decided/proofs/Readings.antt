@@ -21,7 +21,7 @@ use Rattle.names.specs.Earlier.{earlier, last_before}
 use Rattle.names.specs.New.{named_by, new_pairs}
 use Rattle.names.specs.Scopes.{forms_of, in_order, is_known, is_named, symbol_means}
 use Rattle.names.specs.Unknown.{unknown_in}
-use Rattle.operators.specs.Operators.{named, operator_at, operator_of, operators, operator_sort}
+use Rattle.operators.specs.Operators.{named, operator_at, operator_of, operator_sort, operators}
 use Rattle.operators.specs.Sorts.{sort_by}
 use Rattle.operators.specs.Values.{chained, group_left, group_right, pairwise, with_each}
 use Rattle.script.specs.Response.{Answered, answered, bodies, in_script_order, judged_all, judged_body, judged_extra, refused as refusedBody}
@@ -33,7 +33,7 @@ use Rattle.term_nodes.specs.Rules.{nodes_past, rule_past, rules_in, rules_of, si
 use Rattle.term_nodes.specs.Terms.{constants_past, node_word, raw_terms}
 use Rattle.terms.specs.Sorts.{called_sort, label_sort, same_sorts, sort_over, with_sort}
 use Rattle.word_kinds.specs.Decimals.{is_decimal}
-use Rattle.word_kinds.specs.Kinds.{all_in, formed, hashed, keyword_form, kind_of, literal as literal_kind, marked, numeral as numeralKind, spelled, symbol as symbolKind}
+use Rattle.word_kinds.specs.Kinds.{all_in, formed, hashed, keyword_form, kind_of, literal as literal_kind, marked, numeral as numeral_kind, spelled, symbol as symbol_kind}
 use Rattle.words.specs.Spans.{run_end, starts_from, word_end, word_starts}
 use Rattle.words.specs.Trees.{levels_at, levels_before, trees_from}
 use Rattle.words.specs.Words.{bytes_at, word_at, words_of}
@@ -495,7 +495,7 @@ readings =
 
 -- The definitions answer every one of them so.
 pub decided : map defined readings ≡ map (λ (r : Reading). r.answer) readings
-unfolding after all all_in all_numerals answered any_of any_uncarried argument_tokens attributes_shape before bytes_at called_sort chained command_shape command_uncarried constants_past count dead_misfit dead_place differing earlier form_sorts form_yields formed forms_of grammar_place group_left group_right hashed in_order in_script_order inside is_decimal is_known is_named is_one_of is_reserved item item_sort items_of join judged judged_all judged_body judged_extra keyword_form kind_of known_after label_sort last_before least_in levels_at levels_before limit_place listing_misfit literal_kind marked name_place named named_by new_names new_pairs node_word nodes_of nodes_past is_not_carried numeralKind one_pass operator_at operator_of operator_sort operators pairwise passes place_in raw_terms read_all reserved_words rule_misfit rule_past rules_in rules_of run_end same_bytes same_sorts sides sort_by sort_over sorting_place spelled starts_from symbolKind symbol_means term_fault term_shapes terms_in tested total_of trees_from unknown_in with_each with_sort word_at word_end word_starts words_in words_of
+unfolding after all all_in all_numerals answered any_of any_uncarried argument_tokens attributes_shape before bytes_at called_sort chained command_shape command_uncarried constants_past count dead_misfit dead_place differing earlier form_sorts form_yields formed forms_of grammar_place group_left group_right hashed in_order in_script_order inside is_decimal is_known is_named is_not_carried is_one_of is_reserved item item_sort items_of join judged judged_all judged_body judged_extra keyword_form kind_of known_after label_sort last_before least_in levels_at levels_before limit_place listing_misfit literal_kind marked name_place named named_by new_names new_pairs node_word nodes_of nodes_past numeral_kind one_pass operator_at operator_of operator_sort operators pairwise passes place_in raw_terms read_all reserved_words rule_misfit rule_past rules_in rules_of run_end same_bytes same_sorts sides sort_by sort_over sorting_place spelled starts_from symbol_kind symbol_means term_fault term_shapes terms_in tested total_of trees_from unknown_in with_each with_sort word_at word_end word_starts words_in words_of
 decided = refl
 
 -- Those with the words of request E13.
@@ -544,5 +544,5 @@ weighted =
 
 -- The definitions answer every one of them so.
 pub weighted_decided : map defined weighted ≡ map (λ (r : Reading). r.answer) weighted
-unfolding after all all_in all_numerals answered any_of any_uncarried argument_tokens attributes_shape before bytes_at called_sort chained command_shape command_uncarried constants_past count dead_misfit dead_place differing earlier form_sorts form_yields formed forms_of grammar_place group_left group_right hashed in_order in_script_order inside is_decimal is_known is_named is_one_of is_reserved item item_sort items_of join judged judged_all judged_body judged_extra keyword_form kind_of known_after label_sort last_before least_in levels_at levels_before limit_place listing_misfit literal_kind marked name_place named named_by new_names new_pairs node_word nodes_of nodes_past is_not_carried numeralKind one_pass operator_at operator_of operator_sort operators pairwise passes place_in raw_terms read_all reserved_words rule_misfit rule_past rules_in rules_of run_end same_bytes same_sorts sides sort_by sort_over sorting_place spelled starts_from symbolKind symbol_means term_fault term_shapes terms_in tested total_of trees_from unknown_in with_each with_sort word_at word_end word_starts words_in words_of
+unfolding after all all_in all_numerals answered any_of any_uncarried argument_tokens attributes_shape before bytes_at called_sort chained command_shape command_uncarried constants_past count dead_misfit dead_place differing earlier form_sorts form_yields formed forms_of grammar_place group_left group_right hashed in_order in_script_order inside is_decimal is_known is_named is_not_carried is_one_of is_reserved item item_sort items_of join judged judged_all judged_body judged_extra keyword_form kind_of known_after label_sort last_before least_in levels_at levels_before limit_place listing_misfit literal_kind marked name_place named named_by new_names new_pairs node_word nodes_of nodes_past numeral_kind one_pass operator_at operator_of operator_sort operators pairwise passes place_in raw_terms read_all reserved_words rule_misfit rule_past rules_in rules_of run_end same_bytes same_sorts sides sort_by sort_over sorting_place spelled starts_from symbol_kind symbol_means term_fault term_shapes terms_in tested total_of trees_from unknown_in with_each with_sort word_at word_end word_starts words_in words_of
 weighted_decided = refl

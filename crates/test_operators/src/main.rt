@@ -3,6 +3,7 @@
 //! and with 6 operands.
 //! tests/operators.py computes the same lines from SMT-LIB's meaning of the operators.
 #![tactic(auto)]
+
 ghost use Rattle.std.specs.Prelude.{◌≡◌, ◌<◌, ◌≤◌, true, if◌then◌else◌, nat_lt};
 ghost use Rattle.operators.specs.Operators.{operator_at, operator_count, takes};
 ghost use Rattle.operators.specs.Sorts.{Fit, choice, cutting, joining, max_width};
@@ -10,10 +11,11 @@ ghost use Rattle.operators.specs.code.Vectors.{Width, Word, Words};
 ghost use Rattle.test_operators.specs.Alike.{Alike};
 ghost use Rattle.test_operators.specs.Wide.{Wide, most_operands};
 
-use libc::STDOUT_FILENO;
 use operators::ones;
 use operators::operators::{OPERATORS, apply, operands_of, rule_of, takes};
 use operators::rules::{CHOICE, CUTTING, JOINING, LOGIC};
+use std::io;
+use std::io::{BufWriter, Write};
 
 // How many edge operands there are, and pairs of them.
 const EDGES: u64 = 6;
@@ -255,47 +257,51 @@ fn sort_of(operator: usize, width: u64) -> u64
 }
 
 // Prints a hash.
-fn print_hash(hash: u64) {
-    io::write_all(STDOUT_FILENO, b" ");
-    io::print_hex(STDOUT_FILENO, hash, 16);
+fn print_hash(out: &mut impl Write, hash: u64) -> io::Result<()> {
+    write!(out, " {hash:016x}")
 }
 
 // Prints the hashes at a width of each operator that takes as many operands as are made: with 3 of them, with 4, with 5 and with 6.
-fn further(width: u64)
+fn further(out: &mut impl Write, width: u64) -> io::Result<()>
     requires { Width width }
 {
     let mut k = 0;
     while k < 4 * OPERATORS {
         let operator = k / 4;
         if takes(operator, MOST_OPERANDS) {
-            print_hash(many(operator, sort_of(operator, width), 3 + k % 4, width));
+            let hash = many(operator, sort_of(operator, width), 3 + k % 4, width);
+            print_hash(out, hash)?;
         }
         k += 1;
     }
+    Ok(())
 }
 
 // Prints a width and the hashes of the operators at it.
-fn line(width: u64)
+fn line(out: &mut impl Write, width: u64) -> io::Result<()>
     requires { Width width }
 {
-    io::print_decimal(STDOUT_FILENO, width);
+    write!(out, "{width}")?;
     let mut operator = 0;
     while operator < OPERATORS {
-        print_hash(pairs(
+        let hash = pairs(
             operator,
             width,
             small(operator, width, edges(operator, width)),
-        ));
+        );
+        print_hash(out, hash)?;
         operator += 1;
     }
-    further(width);
-    io::write_all(STDOUT_FILENO, b"\n");
+    further(out, width)?;
+    out.write_all(b"\n")
 }
 
-fn main() {
+fn main(rt: HostRuntime) -> io::Result<()> {
+    let mut out = BufWriter::new(rt.alloc(), io::writer(&rt))?;
     let mut width = 1;
     while width <= 64 {
-        line(width);
+        line(&mut out, width)?;
         width += 1;
     }
+    out.flush()
 }

@@ -1,7 +1,8 @@
 //! The lent area: how it is filled before a call, and what is written of it afterwards.
 ghost use Rattle.std.specs.Prelude.{◌≡◌, ◌*◌, ◌<◌, ◌≤◌, length};
 
-use libc::STDOUT_FILENO;
+use std::io;
+use std::io::Write;
 
 // How many entries an area must have.
 const AREA: usize = 32768;
@@ -85,61 +86,60 @@ fn rest_unused(area: &[u16], count: usize) -> bool
 }
 
 // Writes an entry.
-fn write_entry(entry: u16) {
-    io::print_decimal(STDOUT_FILENO, entry as u64);
+fn write_entry(out: &mut impl Write, entry: u16) -> io::Result<()> {
+    write!(out, "{entry}")
 }
 
 // Writes the entries of a list from `start` on, with commas between.
-fn write_list(area: &[u16], start: usize, end: usize)
+fn write_list(out: &mut impl Write, area: &[u16], start: usize, end: usize) -> io::Result<()>
     requires { (start ≤ end) × (end ≤ length area.now) }
 {
     let stop = list_end(area, start, end);
     let mut i = start;
     while i < stop {
         if i > start {
-            io::write_all(STDOUT_FILENO, b",");
+            out.write_all(b",")?;
         }
-        write_entry(area[i]);
+        write_entry(out, area[i])?;
         i += 1;
     }
+    Ok(())
 }
 
 // Writes the first `count` lists, with strokes between.
-fn write_lists(area: &[u16], count: usize)
+fn write_lists(out: &mut impl Write, area: &[u16], count: usize) -> io::Result<()>
     requires { (32768 ≡ length area.now) × (count ≤ 8) }
 {
     let mut k = 0;
     while k < count {
         if k > 0 {
-            io::write_all(STDOUT_FILENO, b"/");
+            out.write_all(b"/")?;
         }
-        write_list(area, LIST * k, LIST * k + LIST);
+        write_list(out, area, LIST * k, LIST * k + LIST)?;
         k += 1;
     }
+    Ok(())
 }
 
 // Writes the lists that an area shows, where all other entries are unused.
-fn report_lists(area: &[u16]) {
+fn report_lists(out: &mut impl Write, area: &[u16]) -> io::Result<()> {
     if area.len() == AREA {
         let count = lists_in(area);
         if rest_unused(area, count) {
-            write_lists(area, count);
-            return;
+            return write_lists(out, area, count);
         }
     }
-    io::write_all(STDOUT_FILENO, b"other");
+    out.write_all(b"other")
 }
 
 // Writes what stands in an area after the call.
-pub fn report_area(area: &[u16]) {
-    io::write_all(STDOUT_FILENO, b" area ");
+pub fn report_area(out: &mut impl Write, area: &[u16]) -> io::Result<()> {
+    out.write_all(b" area ")?;
     if all_are(area, 0, area.len(), LENT) {
-        io::write_all(STDOUT_FILENO, b"unchanged");
-        return;
+        return out.write_all(b"unchanged");
     }
     if all_are(area, 0, area.len(), UNUSED) {
-        io::write_all(STDOUT_FILENO, b"blank");
-        return;
+        return out.write_all(b"blank");
     }
-    report_lists(area);
+    report_lists(out, area)
 }

@@ -3,7 +3,8 @@ ghost use Rattle.std.specs.Prelude.{◌≡◌, length};
 
 use crate::digest::digest_of;
 use crate::hex::decode;
-use libc::STDOUT_FILENO;
+use std::io;
+use std::io::Write;
 use words::answers::{number_of, passed_of, place_of};
 use words::{Limits, Reading, read_words, word_at};
 
@@ -29,20 +30,19 @@ fn values_room() -> [u64; 8200]
 }
 
 // Writes a number in decimal after its name.
-pub fn write_number(name: &[u8], n: u64) {
-    io::write_all(STDOUT_FILENO, name);
-    io::print_decimal(STDOUT_FILENO, n);
+pub fn write_number(out: &mut impl Write, name: &[u8], n: u64) -> io::Result<()> {
+    out.write_all(name)?;
+    write!(out, "{n}")
 }
 
 // Writes what was found: how many words there are, or the refusal.
-fn write_outcome(found: Reading) {
+fn write_outcome(out: &mut impl Write, found: Reading) -> io::Result<()> {
     if number_of(found) == 0 {
-        write_number(b" words ", passed_of(found) as u64);
-        return;
+        return write_number(out, b" words ", passed_of(found) as u64);
     }
-    write_number(b" refused ", number_of(found) as u64);
-    write_number(b" at ", place_of(found) as u64);
-    write_number(b" after ", passed_of(found) as u64);
+    write_number(out, b" refused ", number_of(found) as u64)?;
+    write_number(out, b" at ", place_of(found) as u64)?;
+    write_number(out, b" after ", passed_of(found) as u64)
 }
 
 // The length of the refused word, 0 where none is refused.
@@ -55,23 +55,19 @@ fn refused_length(text: &[u8], found: Reading) -> usize {
 }
 
 // Writes what reading a text finds, and the digest of its word table.
-fn report_words(text: &[u8], limits: Limits) {
+fn report_words(out: &mut impl Write, text: &[u8], limits: Limits) -> io::Result<()> {
     let mut table = table_room();
     let mut values = values_room();
     let found = read_words(text, limits, &mut table, &mut values);
-    write_outcome(found);
-    io::write_all(STDOUT_FILENO, b" table ");
-    io::print_hex(
-        STDOUT_FILENO,
-        digest_of(&table, &values, passed_of(found)),
-        16,
-    );
-    write_number(b" word ", refused_length(text, found) as u64);
+    write_outcome(out, found)?;
+    let digest = digest_of(&table, &values, passed_of(found));
+    write!(out, " table {digest:016x}")?;
+    write_number(out, b" word ", refused_length(text, found) as u64)
 }
 
 // Writes what reading a text that is given in hex finds.
-pub fn report_text(digits: &[u8], limits: Limits) {
+pub fn report_text(out: &mut impl Write, digits: &[u8], limits: Limits) -> io::Result<()> {
     let mut text = text_room();
     let n = decode(digits, &mut text);
-    report_words(&text[..n], limits);
+    report_words(out, &text[..n], limits)
 }

@@ -1,7 +1,11 @@
 //! The Ring case of document 01: A has the rule B; B has A and x. The body x, of function 1, shows the rules 0 and 2.
 //! Of lists that are read, that one alone derives it without using a non-terminal twice.
 #![tactic(auto)]
+
 ghost use Rattle.std.specs.Prelude.{length, ◌≡◌};
+
+use std::io;
+use std::io::Write;
 
 // The place in the area where function 1's list starts.
 const PLACE: usize = 4096;
@@ -33,7 +37,7 @@ fn followed(list: &[u16]) -> u8 {
 }
 
 // The shown list; one that goes round the ring; one too short, one too long; one that begins with a rule of B.
-fn show_followed() {
+fn show_followed(out: &mut impl Write) -> io::Result<()> {
     let shown: [u16; 2] = [0, 2];
     let round: [u16; 4] = [0, 1, 0, 2];
     let short: [u16; 1] = [0];
@@ -47,10 +51,11 @@ fn show_followed() {
         followed(&other),
         b'\n',
     ];
-    io::write_all(1, &line);
+    out.write_all(&line)
 }
 
-fn main() {
+fn main(rt: HostRuntime) -> io::Result<()> {
+    let mut out = io::writer(&rt);
     let rules: [u64; 9] = [0, 0, 0, 1, 1, 0, 2, 1, 0];
     let forms: [u64; 12] = [5, 1, 0, 1, 5, 0, 0, 1, 513, 0, 0, 1];
     let body: [u64; 4] = [513, 0, 0, 1];
@@ -65,7 +70,7 @@ fn main() {
             digit(area[PLACE + 2]),
             b'\n',
         ];
-        io::write_all(1, &line);
+        out.write_all(&line)?;
     }
-    show_followed();
+    show_followed(&mut out)
 }

@@ -1,5 +1,6 @@
 //! Runs a small case: its costs, a value, and the run over its points with different budgets.
 #![tactic(auto)]
+
 ghost use Rattle.std.specs.Prelude.{◌≡◌, ◌≤◌, get_or, replicate, set};
 ghost use Rattle.terms.specs.Costs.{cost_of};
 ghost use Rattle.terms.specs.code.Nodes.{node_table};

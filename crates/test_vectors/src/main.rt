@@ -3,23 +3,43 @@
 //! two texts, the checker's answer (number, text, place, second number, units; the end, the line and the column that it carries; the total weight of each of eight
 //! functions), and what stands in the area afterwards: `unchanged`, `blank`, the lists shown, or `other`.
 #![tactic(auto)]
+
 mod answers;
 mod records;
 
-ghost use Rattle.std.specs.Prelude.{◌≡◌, length};
+ghost use Rattle.std.specs.Prelude.{◌≡◌, ◌≤◌, length, vec_len, IfOk};
 
-use libc::STDIN_FILENO;
+use std::alloc::{AllocError, Global};
+use std::io;
+use std::io::{BufWriter, Read, Write};
 
 // Room for all of standard input.
-fn input_room() -> [u8; 5000000]
-    ensures { 5000000 ≡ length result }
+fn input_room(alloc: Global) -> Result<Vec<u8>, AllocError>
+    ensures { IfOk result (λ room. 5000000 ≡ vec_len room) }
 {
-    [0; 5000000]
+    vec![in alloc; 0; 5000000]
+}
+
+// Reads until the room is full or the input ends, and answers how many bytes that are.
+fn read_full(input: &mut impl Read, room: &mut [u8]) -> io::Result<usize>
+    ensures { IfOk result (λ n. n ≤ length room.new) }
+{
+    let mut done = 0;
+    for _ in 0..u64::MAX {
+        let n = input.read(&mut room[done..])?;
+        if n == 0 {
+            break;
+        }
+        done += n;
+    }
+    Ok(done)
 }
 
 // Reads all of standard input and reports each record of it.
-fn main() {
-    let mut input = input_room();
-    let n = io::read_full(STDIN_FILENO, &mut input);
-    records::report_all(&input[..n]);
+fn main(rt: HostRuntime) -> io::Result<()> {
+    let mut input = input_room(rt.alloc())?;
+    let n = read_full(&mut rt.stdin(), &mut input)?;
+    let mut out = BufWriter::new(rt.alloc(), io::writer(&rt))?;
+    records::report_all(&mut out, &input[..n])?;
+    out.flush()
 }

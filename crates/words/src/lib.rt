@@ -113,8 +113,7 @@ pub fn word_at(text: &[u8], at: usize) -> &[u8]
 }
 
 // The length of the word that starts at an offset of the text, for C: 0 if none starts there.
-#[unsafe(no_mangle)]
-pub extern "C" fn sverdhyll_word(text: &[u8], at: usize) -> usize
+pub fn sverdhyll_word(text: &[u8], at: usize) -> usize
     ensures { result ≡ length (enquired text.now at) }
 {
     let word = word_at(text, at);
@@ -122,8 +121,7 @@ pub extern "C" fn sverdhyll_word(text: &[u8], at: usize) -> usize
 }
 
 // The line and the column of a place of the text, for C: they are put where the caller says.
-#[unsafe(no_mangle)]
-pub extern "C" fn sverdhyll_position(text: &[u8], place: usize, line: &mut u64, column: &mut u64)
+pub fn sverdhyll_position(text: &[u8], place: usize, line: &mut u64, column: &mut u64)
     ensures { Positioned text.now place (record { line = line.exit.now; column = column.new }) }
 {
     let found = position(text, place);
@@ -133,8 +131,7 @@ pub extern "C" fn sverdhyll_position(text: &[u8], place: usize, line: &mut u64, 
 
 // Reads the words of a text for C: returns the answer's number, 0 where the whole text was read, and puts its place and how many words were passed where
 // the caller says.
-#[unsafe(no_mangle)]
-pub extern "C" fn sverdhyll_words(
+pub fn sverdhyll_words(
     text: &[u8],
     bytes: u32,
     words: u32,

@@ -1,10 +1,6 @@
 use mathlib.Core.Bool.{not}
 use mathlib.Core.Path.{ap}
-use Prim.Native.Nat.{ℕ, ◌+◌, ◌*◌, ◌-◌, ◌<◌}
 use native.Mathlib.Omega.{arith}
-use mathlib.Core.Logic.{⊎_elim}
-use mathlib.Core.Path.{subst}
-use lib.ListN.{length}
 use Rattle.following.proofs.Fit.{end_small, inv_start, miss_hole, miss_node, turn_asks, turn_end, turn_here, turn_hole, turn_node, turn_over}
 use Rattle.following.proofs.Fit.{turn_place}
 use Rattle.following.proofs.Whole.{use_asks, use_fails, use_fits, use_gives, use_on}

@@ -1,8 +1,6 @@
 use Rattle.names.proofs.Names.{named_there}
 use mathlib.Core.Path.{refl}
 use native.Mathlib.Omega.{arith}
-use Rattle.names.proofs.table.name_in.Reads as reads
-use Rattle.names.proofs.table.name_in.Lts as lts
 use Rattle.names.proofs.table.name_in.Goals as goal
 
 pub overflow_cast-end : goal.overflow_cast-end

@@ -1,7 +1,5 @@
-use Prim.Native.Nat.{ℕ, ◌<◌, ◌+◌, ◌-◌, ◌*◌}
 use native.Mathlib.Omega.{arith}
-use mathlib.Core.Path.{◌∙◌, subst}
-use lib.ListN.{length}
+use mathlib.Core.Path.{◌∙◌}
 use Rattle.searching.proofs.RuleWalk.{end_small}
 use Rattle.searching.proofs.Whole.{follow_pre, spread_pre, emit_post}
 use Rattle.searching.proofs.Track.{spread_start, spread_end, spread_place, spread_here, spread_over, spread_node, spread_after, spread_asks}

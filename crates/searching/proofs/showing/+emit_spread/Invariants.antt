@@ -1,5 +1,4 @@
 use Prim.Native.Nat.{◌+◌, ◌-◌, ◌*◌}
-use borrow.Author.Rules.{rules}
 use lib.ListN.{length}
 use Rattle.searching.proofs.Track.{Inv}
 use Rattle.searching.proofs.showing.+emit_spread.Given as goal

@@ -1,5 +1,4 @@
 use Prim.Native.Nat.{◌-◌}
-use borrow.Author.Rules.{rules}
 use lib.ListN.{length}
 use Rattle.searching.proofs.Trail.{Inv}
 use Rattle.searching.proofs.showing.follow.Given as goal

@@ -1,4 +1,3 @@
-use Prim.Native.Nat.{◌-◌}
 use native.Mathlib.Omega.{arith}
 use Rattle.steps.proofs.Writing.{after_long, all_written, next_ends, next_within, none_written, one_written, operands_listable, operands_long}
 use Rattle.steps.proofs.Writing.{step_room}

@@ -1,6 +1,4 @@
-use mathlib.Core.Logic.{⊎_elim}
 use native.Mathlib.Omega.{arith}
-use Prim.Native.Nat.{◌-◌}
 use Rattle.term_nodes.proofs.PastLimit.{seek_begins, seek_counts, seek_ends, seek_finds, seek_skips}
 use Rattle.term_nodes.proofs.limits.node_past.Goals as goal
 use Rattle.term_nodes.proofs.limits.node_past.Goals.{else-head-at, then-head-at+else-counted-most}

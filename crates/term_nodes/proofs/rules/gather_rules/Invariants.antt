@@ -1,7 +1,6 @@
 use Prim.Native.Nat.{◌-◌, ◌≤◌}
 use Rattle.forest.specs.Limits.{most_nodes, most_rules}
 use Rattle.term_nodes.proofs.GroupLoop.{GroupsTo}
-use borrow.Author.Rules.{rules}
 use Rattle.term_nodes.proofs.rules.gather_rules.Given as goal
 
 abbrev pub invariant-loop-at : goal.invariant-loop-at
