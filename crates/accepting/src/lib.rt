@@ -1,5 +1,6 @@
 //! The two texts and the derivations of all bodies, through answer 13, in tables and an area that the caller lends.
 #![tactic(auto)]
+
 pub mod area;
 
 ghost use Rattle.std.specs.Prelude.{◌≡◌};

@@ -1,5 +1,6 @@
 //! The check of an evidence file (request E12): its blocks, the texts that it holds, and the lists of rules. Nothing here searches for derivations.
 #![tactic(auto)]
+
 mod lists;
 mod reading;
 

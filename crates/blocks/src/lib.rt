@@ -1,5 +1,6 @@
 //! The blocks of an evidence file: 510 bytes of payload each, and two that hold their sum. What the payload says, and the writing of a file.
 #![tactic(auto)]
+
 pub mod reading;
 pub mod writing;
 

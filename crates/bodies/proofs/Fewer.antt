@@ -21,7 +21,7 @@ operands_fewer ops {i} {c} first held = go (is "_" (item 0 ops)) refl
     go false e = rw e held
 
 -- the nodes of terms, behind a head or not
-pub nodes_fewer : (headed : Bool) {s : Source} {i e : ℕ} {F : Items} → Stands s i F e → i + size (raw_terms headed F) ≤ e
+pub nodes_fewer : {s : Source} (headed : Bool) {i e : ℕ} {F : Items} → Stands s i F e → i + size (raw_terms headed F) ≤ e
 unfolding item raw_terms same_bytes size
 nodes_fewer headed ends = omega arith
 nodes_fewer true (word w rest) = omega (arith, nodes_fewer false rest)

@@ -1,6 +1,7 @@
 //! The two texts: what reading a script and a response to it gives, through answer 12, and what an answer on them carries. Nothing here searches for
 //! derivations.
 #![tactic(auto)]
+
 pub mod answers;
 pub mod lengths;
 pub mod located;

@@ -1,6 +1,7 @@
 //! The checker: a script, a response, a list of points and a budget, and one answer.
 //! The verdict on two texts of right sizes: what reading them, deriving the bodies and evaluating the constraints give, in their order.
 #![tactic(auto)]
+
 pub mod exports;
 mod judge;
 mod reading;

@@ -82,7 +82,7 @@ module _ {text lexemes names : List ℕ} {p : Progress} {i nowhere : ℕ} where
         → (d : Declaring text lexemes names p i nowhere)
         → Declared d names v
     past_limit h e d = subst⁻¹ (λ (w : Verdict). Declared d names w) e
-        (refused d (says_limit allowed nowhere _ i _ _ _ (record { number_is = refl; place_is = limit_is d; found = h })) (λ z. omega arith) (λ z. omega arith))
+        (refused d (says_limit allowed nowhere _ i _ _ (record { number = limit_answer; place = limit; rows = 0 }) (record { number_is = refl; place_is = limit_is d; found = h })) (λ z. omega arith) (λ z. omega arith))
 
     module _ (limited : nowhere ≤ limit) where
       -- There is a row for the variable.
@@ -119,7 +119,7 @@ module _ {text lexemes names : List ℕ} {p : Progress} {i nowhere : ℕ} where
             → (d : Declaring text lexemes names p i nowhere)
             → Declared d after v
         name_faulty h e d = subst⁻¹ (λ (w : Verdict). Declared d after w) e (record {
-          verdict_is = says_name allowed nowhere _ i _ _ _ (omega (arith, limit_is d)) (record { number_is = refl; place_is = name_is d; found = h });
+          verdict_is = says_name allowed nowhere _ i _ _ (record { number = name_answer; place = name; rows = 0 }) (omega (arith, limit_is d)) (record { number_is = refl; place_is = name_is d; found = h });
           names_hold = λ z. absurd (omega arith);
           taken = λ z. variable_taken d (one_more d) (variable_put (adding d) (added (adding d)));
         })
@@ -136,7 +136,7 @@ module _ {text lexemes names : List ℕ} {p : Progress} {i nowhere : ℕ} where
               → (d : Declaring text lexemes names p i nowhere)
               → Declared d after v
           sort_faulty h e d = subst⁻¹ (λ (w : Verdict). Declared d after w) e
-              (refused d (says_sorting allowed nowhere _ i _ _ _ (omega (arith, limit_is d)) (omega (arith, name_is d))
+              (refused d (says_sorting allowed nowhere _ i _ _ (record { number = sort_answer; place = sort; rows = 0 }) (omega (arith, limit_is d)) (omega (arith, name_is d))
               (record { number_is = refl; place_is = sort_is d; found = h })) (λ z. omega arith) (λ z. omega arith))
 
           -- No rule is at fault, since there is none.
@@ -149,7 +149,7 @@ module _ {text lexemes names : List ℕ} {p : Progress} {i nowhere : ℕ} where
               → Declared d after v
           passes sorted e d = subst⁻¹ (λ (w : Verdict). Declared d after w) e (record {
             verdict_is =
-                says_passed allowed nowhere _ i _ _ _ (omega (arith, limit_is d)) (omega (arith, name_is d)) (omega (arith, sort_is d)) (no_rules d) refl;
+                says_passed allowed nowhere _ i _ _ (record { number = 0; place = 0; rows = 0 }) (omega (arith, limit_is d)) (omega (arith, name_is d)) (omega (arith, sort_is d)) (no_rules d) refl;
             names_hold = λ z. names_declared d (one_more d) (variable_put (adding d) (added (adding d)));
             taken = λ z. absurd (omega arith);
           })

@@ -1,6 +1,7 @@
 //! The command that declares a variable: `declare-var`.
 //! The commands that say a term: `define-fun`, `constraint` and `assume`.
 #![tactic(auto)]
+
 pub mod declare_var;
 pub mod define_fun;
 pub mod state;

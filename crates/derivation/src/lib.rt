@@ -4,6 +4,7 @@
 //! `rules` has three numbers for each rule: the node of `forms` where its right side starts, its non-terminal, and its weight.
 //! `forms` and `body` are node tables: the right sides of all rules, and the body.
 #![tactic(auto)]
+
 pub mod masks;
 pub mod matching;
 pub mod productive;

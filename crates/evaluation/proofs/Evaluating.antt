@@ -14,7 +14,6 @@ use Rattle.operators.specs.Operators.{operator_sort}
 use Rattle.operators.specs.Sorts.{AllFit}
 use Rattle.terms.proofs.Bodies.{Says, plain_at, says}
 use Rattle.terms.specs.Costs.{body_cost, cost_of, costs, defined_cost, function_cost}
-use Rattle.terms.specs.Labels.{defined, function, literal, name, operator}
 use Rattle.terms.specs.code.Codes.{cut_value, head_of, kind_of, literal_kind, name_kind, operator_kind}
 use Rattle.terms.specs.code.Nodes.{Plain, code_at, code_of, operands_at, size_at, value_at, value_of}
 use Rattle.terms.specs.Values.{Meaning, defined_value, label_value, meaning_at, numbers_in, sorts_in, value, values_at}

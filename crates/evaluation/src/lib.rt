@@ -1,6 +1,7 @@
 //! The meaning of terms in node tables: what they cost, and their values.
 //! Points, and the run of terms over them within a budget.
 #![tactic(auto)]
+
 pub mod costs;
 pub mod evaluator;
 pub mod points;

@@ -26,6 +26,7 @@ use Rattle.evidence.specs.Evidence.{AuditForC, AuditGiven, Audited, FilePasses, 
 
 -- Where each list derives its body so, and no absent function has one, there is no first that does not.
 pub not_unfollowed : {fs : List Function} {ts : List Terms} {lists : List (List ℕ)} {j : ℕ} → Followed fs ts lists → FirstUnfollowed fs ts lists j → ⊥
+not_unfollowed Followed.no_more u = elim u [ ]
 not_unfollowed (Followed.absent more) (FirstUnfollowed.absent_later u) = not_unfollowed more u
 not_unfollowed (Followed.also s more) (FirstUnfollowed.here n) = n s
 not_unfollowed (Followed.also s more) (FirstUnfollowed.later t u) = not_unfollowed more u

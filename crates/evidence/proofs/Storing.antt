@@ -4,7 +4,7 @@ use native.Mathlib.Omega.{arith}
 use mathlib.Core.Bool.{Bool, true, false, ◌||◌}
 use mathlib.Core.List.{List, [], ◌∷◌, ◌++◌}
 use mathlib.Core.Option.{none as nothing}
-use mathlib.Core.Path.{◌≡◌, refl, ap}
+use mathlib.Core.Path.{◌≡◌, refl, sym, ap, subst}
 use lib.Dec.{eqb}
 use lib.ListN.{get_or, length, length-append, length-replicate, replicate}
 use borrow.Author.Tests.{eq-eqb, ne_eqb}
@@ -121,15 +121,19 @@ each_bounded lists here later (suc i) = later i
 none_bounded : Bounded []
 none_bounded = record { short = omega arith; rules = λ k. omega arith }
 
-followed_bounded : (defs : List Defined) (fs : List Function) (bs : List Body) {lists : List (List ℕ)} → AllAdmitted fs → BodiesFit defs fs bs
-    → Followed fs (terms_of bs) lists → (i : ℕ) → Bounded (get_or lists i [])
+-- Lists that derive bodies that fit are each such.
+followed_bounded : (defs : List Defined) (fs : List Function) (bs : List Body) {ts : List Terms} {lists : List (List ℕ)} → AllAdmitted fs
+    → BodiesFit defs fs bs → Followed fs ts lists → ts ≡ terms_of bs → (i : ℕ) → Bounded (get_or lists i [])
 unfolding AllAdmitted BodiesFit
-followed_bounded defs [] [] admitted fit no_more = λ i. none_bounded
-followed_bounded defs [] [] admitted fit (absent {lists = lists} q) = each_bounded lists none_bounded (followed_bounded defs [] [] admitted fit q)
-followed_bounded defs [] (b ∷ bs) admitted fit q = absurd fit
-followed_bounded defs (f ∷ fs) [] admitted fit q = absurd fit
-followed_bounded defs (f ∷ fs) (b ∷ bs) admitted fit (also {lists = lists} d q) =
-    each_bounded lists (simple_bounded admitted.0 fit.1 d) (followed_bounded defs fs bs admitted.1 fit.2 q)
+followed_bounded defs [] [] admitted fit no_more e = λ i. none_bounded
+followed_bounded defs [] [] admitted fit (absent {lists = lists} q) e = each_bounded lists none_bounded (followed_bounded defs [] [] admitted fit q e)
+followed_bounded defs [] (b ∷ bs) admitted fit q e = absurd fit
+followed_bounded defs (f ∷ fs) [] admitted fit q e = absurd fit
+followed_bounded defs (f ∷ fs) (b ∷ bs) admitted fit (also {t = t} {ts = ts} {lists = lists} d q) e =
+    let same : t ≡ b.term = cc in
+    let others : ts ≡ terms_of bs = cc in
+    let small = subst (λ (x : Terms). size x ≤ most_nodes) (sym same) fit.1 in
+    each_bounded lists (simple_bounded admitted.0 small d) (followed_bounded defs fs bs admitted.1 fit.2 q others)
 
 -- They have so many rules at most.
 pub rules_most : (lists : List (List ℕ)) → ((i : ℕ) → Bounded (get_or lists i [])) → rules_in lists ≤ list_size * length lists
@@ -153,7 +157,7 @@ module _ {limits : Limits} {script response : List ℕ} {k : Known} {bs : List B
   pub lists_bounded : {lists : List (List ℕ)} → Followed (in_script_order k.functions) (terms_of bs) lists → (i : ℕ) → Bounded (get_or lists i [])
   lists_bounded q =
       followed_bounded k.defined (in_script_order k.functions) bs (order_admitted k.functions (script_assured script passing.says).admitted)
-      (response_fits limits k response passing.gives) q
+      (response_fits limits k response passing.gives) q refl
 
   -- There are at most eight functions.
   pub order_few : length (in_script_order k.functions) ≤ most_functions

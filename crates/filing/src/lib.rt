@@ -1,5 +1,6 @@
 //! The writing of an evidence file (request E12): the two texts, and the derivations that are found for their bodies.
 #![tactic(auto)]
+
 ghost use Rattle.std.specs.Prelude.{◌≡◌};
 ghost use Rattle.words.specs.Limits.{response_limits};
 ghost use Rattle.both_texts.specs.code.Both.{Rooms};

@@ -5,7 +5,7 @@ use mathlib.Core.List.{List, [], ◌∷◌, ◌++◌, append_assoc, append_cance
 use lib.ListN.{length}
 use Rattle.forest.specs.Forest.{Forest, count, join, none, tree}
 use Rattle.terms.specs.Labels.{Label, Terms}
-use Rattle.derivation.specs.Derivation.{Fresh, Grammar, Item, Simple, form_of, head_of, non_terminal, s_done, s_leaf, s_rule, s_same, the}
+use Rattle.derivation.specs.Derivation.{Fresh, Grammar, Item, Simple, form_of, head_of, non_terminal, s_done, s_leaf, s_rule, s_same}
 use Rattle.derivation.proofs.Likeness.{Alike, Bare, NotHole, any, any_not_hole, any_not_label, labels}
 use Rattle.derivation.proofs.Simple.{simple_derives, simples, uncons}
 use Rattle.derivation.proofs.Meta.{der_count}

@@ -2,6 +2,7 @@
 //!
 //! `rules`, `forms` and `body` are the tables of crate `derivation`.
 #![tactic(auto)]
+
 ghost use Rattle.std.specs.Prelude.{◌≡◌, ◌<◌, get_or};
 ghost use Rattle.forest.specs.Limits.{most_non_terminals, unused};
 ghost use Rattle.following.specs.code.Follows.{Follows, FollowsPre};

@@ -1,5 +1,5 @@
 -- The nodes of a forest in the order of the text, by cursors.
-use Prim.Native.Nat.{ℕ, zero, suc, ◌+◌}
+use Prim.Native.Nat.{ℕ, zero, suc}
 use mathlib.Core.Path.{◌≡◌, refl, sym, ap, ◌∙◌}
 use mathlib.Core.List.{◌∷◌, ◌++◌, append_assoc}
 use lib.ListN.{drop, length, length-append}

@@ -209,7 +209,7 @@ words_behind front (w ∷ words) =
     let size : length front + length w - length front ≡ length w = omega arith in
     let first : take (length w) (drop (length front) (front ++ (w ++ joined words))) ≡ w = rw (drop-append_seam front, take-append_seam w) in
     let whole : words_in (front ++ (w ++ joined words)) ((length front + length w) ∷ ends_from (length front + length w) words) ≡ words =
-        rw (← append_assoc front w (joined words), ← length-append front w) (words_behind (front ++ w) words) in
+    rw (← append_assoc front w (joined words), ← length-append front w) (words_behind (front ++ w) words) in
     rw (size, first) (ap (λ (l : List (List ℕ)). w ∷ l) whole)
 
 -- and they are the words that it goes through

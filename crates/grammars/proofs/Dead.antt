@@ -2,7 +2,7 @@
 use Prim.Native.Nat.{ℕ, zero, suc, ◌+◌, ◌-◌, ◌*◌, ◌≤◌, ◌<◌}
 use native.Mathlib.Nat.{add-zero, zero-add}
 use native.Mathlib.Omega.{arith}
-use mathlib.Core.Bool.{Bool, true, false}
+use mathlib.Core.Bool.{true, false}
 use mathlib.Core.List.{List}
 use mathlib.Core.Path.{◌≡◌, refl, sym, ◌∙◌, subst}
 use lib.ListN.{length}
@@ -10,14 +10,13 @@ use borrow.Author.Tests.{le-ltb, lt-ltb}
 use native.Mathlib.Decide.{dec_lt}
 use Rattle.forest.specs.Forest.{count, none, tree}
 use Rattle.forest.specs.Lists.{among}
-use Rattle.forest.proofs.Bools.{and_left, and_right}
 use Rattle.derivation.specs.code.Productive.{FirstOut}
-use Rattle.words.specs.Trees.{Lexeme, word_of}
+use Rattle.words.specs.Trees.{word_of}
 use Rattle.lexemes.specs.Lists.{Items, after, inside, item}
 use Rattle.lexemes.specs.code.Standing.{Between, ItemAt, ListAt, Reached, Stands}
 use Rattle.lexemes.specs.code.Table.{next_at, row_width}
 use Rattle.lexemes.proofs.Listed.{from_item, item_room}
-use Rattle.shapes.specs.Shapes.{all, pair_shape}
+use Rattle.shapes.specs.Shapes.{pair_shape}
 use Rattle.written_sorts.proofs.PairParts.{sorted}
 use Rattle.names.specs.Scopes.{View}
 use Rattle.grammars.specs.Grammars.{dead_place, grammar_misfit, listed_misfit}

@@ -6,7 +6,7 @@ use mathlib.Core.Bool.{Bool, true, false, cond}
 use mathlib.Core.List.{List}
 use lib.Dec.{eqb}
 use borrow.Author.Tests.{eq-eqb, eqb-true, ne_eqb}
-use Rattle.forest.specs.Forest.{count, none, tree}
+use Rattle.forest.specs.Forest.{count, tree}
 use Rattle.forest.proofs.Bools.{apart}
 use Rattle.words.specs.Trees.{list}
 use Rattle.lexemes.specs.Lists.{Items}
@@ -17,7 +17,7 @@ use Rattle.lexemes.proofs.Standing.{forward}
 
 module _ {s : Source} where
   -- the items of a list stand from behind its bracket to the one that closes it
-  pub within : {i c e : ℕ} {ops more : Items} → Stands s i (tree (list i c) ops more) e → Stands s (i + 1) ops c
+  pub within : {i j c e : ℕ} {ops more : Items} → Stands s j (tree (list i c) ops more) e → Stands s (i + 1) ops c
   within (word w rest) = apart (sym w.no_list)
   within (bracketed b inner rest) = inner
 

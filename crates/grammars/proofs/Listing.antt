@@ -5,7 +5,7 @@ use native.Mathlib.Omega.{arith}
 use mathlib.Core.Path.{◌≡◌, refl, sym, ap, ◌∙◌, subst}
 use mathlib.Core.Bool.{true}
 use mathlib.Core.List.{List, [], ◌∷◌}
-use Rattle.forest.specs.Forest.{none, tree}
+use Rattle.forest.specs.Forest.{tree}
 use Rattle.forest.proofs.Bools.{and_left, and_right}
 use Rattle.words.specs.Trees.{Lexeme, word_of}
 use Rattle.lexemes.specs.Lists.{Items, item}

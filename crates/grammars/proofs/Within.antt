@@ -1,7 +1,7 @@
 -- Items that stand amid others, and nodes that rise: how many words there are for them.
 use Prim.Native.Nat.{ℕ, zero, suc, ◌+◌, ◌≤◌, ◌<◌}
 use native.Mathlib.Omega.{arith}
-use mathlib.Core.Path.{◌≡◌, refl, sym, ◌∙◌, subst}
+use mathlib.Core.Path.{◌≡◌, refl, sym, ◌∙◌}
 use Rattle.forest.specs.Forest.{Forest, count, none, tree}
 use Rattle.forest.specs.code.Cursors.{size}
 use Rattle.forest.proofs.Bools.{apart}
@@ -20,18 +20,18 @@ pub record Amid (i j f e : ℕ) : Type 0 where
 
 module _ {s : Source} where
   -- items that stand from one word on end before one word
-  one_end : {i e f : ℕ} {F : Items} → Stands s i F e → Stands s i F f → f ≡ e
-  one_end ends ends = refl
-  one_end (word w rest) (word v other) = one_end rest other
-  one_end (bracketed b inner rest) (bracketed d within other) = one_end rest other
-  one_end (word w rest) (bracketed d within other) = apart (sym w.no_list)
-  one_end (bracketed b inner rest) (word v other) = apart (sym v.no_list)
+  one_end : {i j e f : ℕ} {F : Items} → Stands s i F e → Stands s j F f → j ≡ i → f ≡ e
+  one_end ends ends same = same
+  one_end (word w rest) (word v other) same = one_end rest other (omega arith)
+  one_end (bracketed b inner rest) (bracketed d within other) same = one_end rest other refl
+  one_end (word w rest) (bracketed d within other) same = apart (sym w.no_list)
+  one_end (bracketed b inner rest) (word v other) same = apart (sym v.no_list)
 
   -- and they begin at one word
   one_place : {i j e f : ℕ} {l : Lexeme} {ops more : Items} → Stands s i (tree l ops more) e → Stands s j (tree l ops more) f → Amid i j f e
   one_place {i} {j} {e} {f} {l} {ops} {more} stands other =
       let same : j ≡ i = sym (placed other) ∙ placed stands in
-      record { begins = omega arith; ends_there = one_end stands (subst (λ (k : ℕ). Stands s k (tree l ops more) f) same other) }
+      record { begins = omega arith; ends_there = one_end stands other same }
 
   -- the items from one of them on stand behind those before it and end where all of them end
   pub amid : (n : ℕ) {i j e f : ℕ} {F : Items} → Stands s i F e → Stands s j (after n F) f → n < count F → Amid i j f e

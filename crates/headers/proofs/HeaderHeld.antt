@@ -24,7 +24,7 @@ use Rattle.written_sorts.proofs.Walked.{Come, come_behind, come_first, item_come
 use Rattle.names.specs.code.Lookup.{bytes_at, source_of}
 use Rattle.names.specs.code.Table.{function_row, name_in, own_argument_row}
 use Rattle.headers.specs.code.Compare.{Compared, Differs, Held, PairsAt, PairsHeld}
-use Rattle.headers.specs.Tokens.{argument_tokens, closing, header_of, header_tokens, named, sort_tokens, words_in}
+use Rattle.headers.specs.Tokens.{argument_tokens, closing, header_of, header_tokens, sort_tokens, words_in}
 use Rattle.headers.proofs.Held.{held_other, held_same}
 use Rattle.headers.proofs.Worded.{item_then, list_held, name_other, name_same, spread, symbol_spelt}
 

@@ -12,7 +12,7 @@ use Rattle.forest.proofs.Rows.{past}
 use lib.Dec.{ltb}
 use borrow.Author.Tests.{ltb-false, ltb-true}
 use Rattle.words.specs.Trees.{Lexeme, list}
-use Rattle.lexemes.specs.Lists.{Items, is_list, item}
+use Rattle.lexemes.specs.Lists.{Items, is_list}
 use Rattle.lexemes.specs.code.Table.{close_code, code_at, code_of, next_at, open_code, row_width}
 use Rattle.lexemes.specs.code.Standing.{Source, Stands, bracketed, ends, word}
 use Rattle.lexemes.proofs.ByCode.{code_pos, front_code}

@@ -1,6 +1,7 @@
 //! The table of lexemes: six numbers for each word, its code, the word past it or past the list that it begins, its value, where it starts and ends in its
 //! text, and its width. A word past the end of a table has zeros.
 #![tactic(auto)]
+
 pub mod codes;
 pub mod items;
 pub mod numbering;

@@ -11,7 +11,6 @@ use lib.Dec.{eqb, ltb}
 use borrow.Author.Tests.{eqb-false, eqb-true, ltb-false, ltb-true}
 use Rattle.operators.specs.Sorts.{max_width}
 use Rattle.names.specs.Scopes.{View, named_sorts}
-use Rattle.names.specs.Earlier.{Declared}
 use Rattle.names.specs.code.Lookup.{Kept, Names, SameRows, Sees}
 use Rattle.names.specs.code.Table.{
   declared_from,

@@ -1,5 +1,5 @@
 -- The test of one new name.
-use Prim.Native.Nat.{ℕ, ◌+◌, ◌-◌}
+use Prim.Native.Nat.{ℕ, ◌-◌}
 use Prim.Native.String.{String}
 use native.Mathlib.Nat.{zero-add}
 use native.Mathlib.Omega.{arith}
@@ -22,7 +22,7 @@ use Rattle.lexemes.specs.code.Standing.{Stands, WordIs}
 use Rattle.lexemes.specs.code.Codes.{first_operator_code, other_code, set_logic_code}
 use Rattle.lexemes.specs.code.Table.{code_at, symbol_code}
 use Rattle.lexemes.proofs.ByCode.{code_for, front_range}
-use Rattle.written_sorts.proofs.Walked.{placed, symbol_word, word_is}
+use Rattle.written_sorts.proofs.Walked.{symbol_word, word_is}
 use Rattle.forest.specs.Search.{place_in}
 use Rattle.names.specs.Scopes.{is_named}
 use Rattle.names.specs.code.Lookup.{bytes_at, source_of}

@@ -68,6 +68,7 @@ last_found (d ∷ more) w n h =
 pub none_later : (ds : List Declared) (w : ℕ) (n : List ℕ) {d : Declared} → Memᴰ d ds → same_bytes d.name n ≡ true → d.at < w
     → d.at ≤ last_before ds w n
 unfolding last_before
+none_later [] w n m same h = elim m [ ]
 none_later (e ∷ more) w n {d} (Memᴰ.head q) same h = rw (← q, same, lt-ltb d.at w h) (omega arith)
 none_later (e ∷ more) w n {d} (Memᴰ.tail m) same h = omega (arith, none_later more w n m same h)
 

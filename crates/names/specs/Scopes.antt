@@ -1,6 +1,6 @@
 -- Names in scope, and what they stand for.
 use Rattle.forest.specs.Search.{place_in}
-use Rattle.std.specs.Prelude.{ℕ, ◌+◌, ◌^◌, Bool, true, false, cond, ◌&&◌, ◌||◌, List, [], ◌∷◌, ◌++◌, map, leb, ltb, get_or}
+use Rattle.std.specs.Prelude.{ℕ, ◌^◌, Bool, false, cond, ◌&&◌, ◌||◌, List, [], ◌∷◌, ◌++◌, map, leb, ltb, get_or}
 use Rattle.std.proofs.Math.Option.{Option, none as nothing, some}
 use Rattle.forest.specs.Forest.{Forest, none, tree}
 use Rattle.forest.specs.Lists.{same_bytes, spelling}

@@ -1,6 +1,7 @@
 //! Names in scope: a table of them, what a symbol stands for, and the forms that terms say.
 //! New names: whether one is reserved or taken, where a name that is taken was declared, and the names of arguments and non-terminals put in scope.
 #![tactic(auto)]
+
 pub mod earlier;
 pub mod forms;
 mod meanings;

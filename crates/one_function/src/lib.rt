@@ -1,5 +1,6 @@
 //! One function of the tables that hold a script and a response: its grammar and its body, as the search for a derivation and the check of one are handed them.
 #![tactic(auto)]
+
 ghost use Rattle.std.specs.Prelude.{◌≡◌, ◌+◌, ◌*◌, ◌≤◌, length};
 ghost use Rattle.terms.specs.code.Nodes.{row_width};
 ghost use Rattle.one_function.specs.code.OneFunction.{rows_from};

@@ -1,5 +1,5 @@
 -- The number of the operator that a word names, by the search for the word among the names of the operators.
-use Rattle.std.proofs.Common.{◌≡◌, ℕ, ◌+◌, ◌≤◌, List, [], ◌∷◌, map, sym, refl, ◌∙◌}
+use Rattle.std.proofs.Common.{◌≡◌, ℕ, ◌+◌, ◌≤◌, List, [], ◌∷◌, sym, refl, ◌∙◌}
 use Rattle.forest.specs.Search.{place_in}
 use Rattle.forest.specs.code.Search.{TablesOf, words_in}
 use Rattle.forest.proofs.Searching.{place_bound, tables_words}

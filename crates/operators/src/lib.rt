@@ -1,5 +1,6 @@
 //! Values of the operators on numbers of a width from 1 to 64, and the operator table.
 #![tactic(auto)]
+
 pub mod operators;
 pub mod rules;
 mod signed;

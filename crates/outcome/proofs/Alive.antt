@@ -199,12 +199,12 @@ record MetStands (source : Source) (nowhere at : ℕ) (c : Items) : Type 0 where
   ahead : close < nowhere
 
 -- Every command that is met does.
-met_stands : {source : Source} {i nowhere at : ℕ} {k known : Known} {items c : Items} → Met nowhere k items known at c → Stands source i items nowhere
+met_stands : {source : Source} {nowhere i at : ℕ} {k known : Known} {items c : Items} → Met nowhere k items known at c → Stands source i items nowhere
     → MetStands source nowhere at c
 met_stands (first l) (word w rest) = apart (sym w.no_list ∙ l)
 met_stands (first l) (bracketed {c = close} b inner rest) = record { close = close; stands = inner; ahead = omega (arith, forward rest) }
 met_stands (later l e m) (word w rest) = apart (sym w.no_list ∙ l)
-met_stands (later l e m) (bracketed b inner rest) = met_stands m rest
+met_stands {i = i} (later l e m) (bracketed {c = close} b inner rest) = met_stands {i = close + 1} m rest
 
 -- What a command that is met and refused gives ends the reading.
 met_read : {nowhere at number place second : ℕ} {k known : Known} {items c : Items} → Met nowhere k items known at c
@@ -259,7 +259,7 @@ record Caused (nowhere : ℕ) (k : Known) (c : Items) (word second : ℕ) : Type
   none_second : second ≡ 0
 
 -- It is a `synth-fun`, and why it is refused is said.
-grammar_caused : {nowhere word second : ℕ} (k : Known) (at : ℕ) (c : Items) → 0 < nowhere → Below nowhere c
+grammar_caused : {nowhere : ℕ} (k : Known) (at : ℕ) (c : Items) {word second : ℕ} → 0 < nowhere → Below nowhere c
     → Gives nowhere k at c (refused grammar_answer word second) → Caused nowhere k c word second
 grammar_caused k at c some_word below (another-number other) = absurd (other.no-grammar refl)
 grammar_caused {nowhere} k at c some_word below (a_grammar limited h) =

@@ -221,6 +221,7 @@ reserved_none ds w n all h = none_spelt ds w n (reserved_unnamed ds n all h)
 -- A name is one of those that it is a member of.
 member_named : (ds : List Declared) (n : List ℕ) {d : Declared} → Memᴰ d ds → same_bytes d.name n ≡ true → is_named (spellings ds) n ≡ true
 unfolding is_named
+member_named [] n m same = elim m [ ]
 member_named (e ∷ more) n (Memᴰ.head q) same = rw (← q, same) refl
 member_named (e ∷ more) n (Memᴰ.tail m) same = rw (member_named more n m same) (or_yes (same_bytes e.name n))
   where
@@ -232,6 +233,7 @@ member_named (e ∷ more) n (Memᴰ.tail m) same = rw (member_named more n m sam
 pub earlier_only : (ds : List Declared) (w : ℕ) (n : List ℕ) {d : Declared} → Apart (spellings ds) → Memᴰ d ds → same_bytes d.name n ≡ true
     → d.at < w → last_before ds w n ≡ d.at
 unfolding Apart last_before
+earlier_only [] w n all m same h = elim m [ ]
 earlier_only (e ∷ more) w n {d} all (Memᴰ.head q) same h =
     let is : d.name ≡ n = same_bytes_lem d.name n same in
     let others : is_named (spellings more) n ≡ false = rw (← is, q) all.1 in

@@ -85,6 +85,7 @@ bool_append scope (t ∷ ts) us a b = (a.0, bool_append scope ts us a.1 b)
 -- Each of them is Bool.
 of_stated : (scope : Scope) (ts : List Terms) {t : Terms} → AllBool scope ts → Memᴰ t ts → termSorts scope t ≡ some (0 ∷ [])
 unfolding AllBool
+of_stated scope [] all m = elim m [ ]
 of_stated scope (u ∷ others) all (Memᴰ.head e) = subst (λ (x : Terms). termSorts scope x ≡ some (0 ∷ [])) (sym e) all.0
 of_stated scope (u ∷ others) all (Memᴰ.tail m) = of_stated scope others all.1 m
 

@@ -68,17 +68,22 @@ thirteen : {k : Known} {bs : List Body} {o : Outcome} → Split k bs o → (Deri
 thirteen (derived d other) e = absurd (e d)
 thirteen (not_all no_derivation is) e = is
 
--- 13 names the first body that has none; no other stage answers it.
+-- 13 names the first body that has none; no other verdict is 13.
+named_judged : {script response points : List ℕ} {budget : ℕ} {area : List ℕ} {k : Known} {bs : List Body} {o : Outcome} {a w : List ℕ}
+    → Passing script response points area k bs → Judgement response k bs points budget o a w → o.number ≡ 13 → NoDerivation script response points area o
+named_judged {k = k} {bs} p (underived {b = b} u) is =
+    record { k = k; bs = bs; b = b; passing = p; first = u; place = refl; none_derived = not_derived u }
+named_judged p (points_refused s e) is = absurd (omega arith)
+named_judged {points = points} {budget} {k = k} {bs} p (evaluated {n = n} s e) is =
+    let r = ran_with k (terms_of bs) points n budget in
+    absurd (ran_other budget r.held r.ran is)
+
+-- No other stage answers it.
 named : {script response points : List ℕ} {budget : ℕ} {area : List ℕ} {o : Outcome} {a w : List ℕ}
     → Checked script response points budget area o a w → o.number ≡ 13 → NoDerivation script response points area o
 named {script} {response} {points} {area = area} (missized e) is = let h = missized_one script response points area e in absurd (omega arith)
 named (texts_refused n t) is = let h = refused_number t in absurd (omega arith)
-named (judged {k = k} {bs = bs} p (underived {b = b} u)) is =
-    record { k = k; bs = bs; b = b; passing = p; first = u; place = refl; none_derived = not_derived u }
-named (judged p (points_refused s e)) is = absurd (omega arith)
-named {points = points} {budget} (judged {k = k} {bs = bs} p (evaluated {n = n} s e)) is =
-    let r = ran_with k (terms_of bs) points n budget in
-    absurd (ran_other budget r.held r.ran is)
+named (judged p v) is = named_judged p v is
 
 -- "Within the stated limits, a well-sorted response passes the grammar check exactly when each body has a derivation from its function's grammar .. "No
 -- derivation" is said only when none of any length exists."
@@ -92,6 +97,17 @@ exact c =
       refused_underived = named c;
     }
 
+-- What stands in the lent areas after a verdict.
+judged_derives : {script response points : List ℕ} {budget : ℕ} {area : List ℕ} {k : Known} {bs : List Body} {o : Outcome} {a w : List ℕ}
+    → Passing script response points area k bs → Judgement response k bs points budget o a w → AreaStated script response points area o a w
+judged_derives {script} {response} {points} {area = area} p (underived u) =
+    shows_none (not_showing (omega arith)) (sym (sized_area script response points area p.sized)) refl
+judged_derives {script} {response} {points} {area = area} p (points_refused s e) =
+    shows_none (not_showing (omega arith)) (sym (sized_area script response points area p.sized)) refl
+judged_derives {points = points} {budget} {k = k} {bs} p (evaluated {lists = lists} {n = n} s e) =
+    shows (run_showing budget (ran_with k (terms_of bs) points n budget))
+    (record { k = k; bs = bs; lists = lists; passing = p; shown = s; is = refl; weigh = refl })
+
 -- "what stands in the lent areas afterwards is fixed", and so are the totals.
 pub shown_derives : {script response points : List ℕ} {budget : ℕ} {area : List ℕ} {o : Outcome} {a w : List ℕ}
     → Checked script response points budget area o a w → AreaStated script response points area o a w
@@ -101,13 +117,7 @@ shown_derives {script} {response} {points} {area = area} (missized e) =
 shown_derives {script} {response} {points} {area = area} (texts_refused n t) =
     let h = refused_number t in
     shows_none (not_showing (omega arith)) (sym (sized_area script response points area n)) refl
-shown_derives {script} {response} {points} {area = area} (judged p (underived u)) =
-    shows_none (not_showing (omega arith)) (sym (sized_area script response points area p.sized)) refl
-shown_derives {script} {response} {points} {area = area} (judged p (points_refused s e)) =
-    shows_none (not_showing (omega arith)) (sym (sized_area script response points area p.sized)) refl
-shown_derives {points = points} {budget} (judged {k = k} {bs = bs} p (evaluated {lists = lists} {n = n} s e)) =
-    shows (run_showing budget (ran_with k (terms_of bs) points n budget))
-    (record { k = k; bs = bs; lists = lists; passing = p; shown = s; is = refl; weigh = refl })
+shown_derives (judged p v) = judged_derives p v
 
 -- Of derived bodies and points that pass the answer is 0, 14 or 15.
 pub verdict_showing : {response : List ℕ} {k : Known} {bs : List Body} {points : List ℕ} {budget n : ℕ} {o : Outcome} {a w : List ℕ}

@@ -44,6 +44,7 @@ rising_from (d ∷ more) i j h r = (omega (arith, r.0), r.1)
 -- None of them is before it.
 rising_past : (ds : List Declared) (i : ℕ) {d : Declared} → Rising i ds → Memᴰ d ds → i ≤ d.at
 unfolding Rising
+rising_past [] i r m = elim m [ ]
 rising_past (e ∷ more) i r (Memᴰ.head q) = omega (arith, r.0, ap (λ (d : Declared). d.at) q)
 rising_past (e ∷ more) i r (Memᴰ.tail m) = omega (arith, r.0, rising_past more (e.at + 1) r.1 m)
 
@@ -118,6 +119,7 @@ new_rise c shape stands (another t) = rw (t.declares, t.defines, t.synthesizes) 
 -- So the earlier declaration of one of them is that of its spelling.
 first-at : (ds new : List Declared) (i : ℕ) {d : Declared} → Rising i new → Memᴰ d new → earlier ds new d.at ≡ last_before ds d.at d.name
 unfolding Rising earlier
+first-at ds [] i r m = elim m [ ]
 first-at ds (e ∷ more) i {d} r (Memᴰ.head q) = rw (← q, eq-eqb d.at d.at refl) refl
 first-at ds (e ∷ more) i {d} r (Memᴰ.tail m) =
     let past = rising_past more (e.at + 1) r.1 m in
@@ -130,6 +132,7 @@ kept : (front ds : List Declared) {w : ℕ} {d : Declared} → d.at < w → Mem�
 unfolding declared_before
 kept (e ∷ front) ds h (Memᴰ.head q) = Memᴰ.head q
 kept (e ∷ front) ds h (Memᴰ.tail m) = Memᴰ.tail (kept front ds h m)
+kept [] [] h m = elim m [ ]
 kept [] (e ∷ ds) {w} {d} h (Memᴰ.head q) = rw (← q, lt-ltb d.at w h) (Memᴰ.head refl)
 kept [] (e ∷ ds) {w} {d} h (Memᴰ.tail m) = go (ltb e.at w) (kept [] ds h m)
   where
@@ -206,7 +209,7 @@ module _ (nowhere : ℕ) {w at : ℕ} (k : Known) (c : Items) (s : InScope k at)
 -- ---- a script
 
 -- What a command gives that is refused by 7.
-second_stated : {source : Source} {nowhere at close word earlier : ℕ} (k : Known) (c : Items) → InScope k at → Stands source (at + 1) c close
+second_stated : {source : Source} {nowhere at close : ℕ} (k : Known) (c : Items) {word earlier : ℕ} → InScope k at → Stands source (at + 1) c close
     → Gives nowhere k at c (refused name_answer word earlier) → SecondStated k c word earlier
 second_stated k c s stands (another-number other) = absurd (other.no_name refl)
 second_stated {nowhere = nowhere} k c s stands (a_name shape) = stated nowhere k c s (omega arith) shape stands

@@ -104,6 +104,7 @@ module _ (counts : Counts) (nowhere : ℕ) where
 -- The rules of each of the functions are sorted.
 of_function : {defs : List Defined} (fs : List Function) {f : Function} → AllRulesSorted defs fs → Memᴰ f fs → RulesSorted defs f
 unfolding AllRulesSorted
+of_function [] all m = elim m [ ]
 of_function {defs} (g ∷ others) all (Memᴰ.head e) = subst (RulesSorted defs) (sym e) all.0
 of_function (g ∷ others) all (Memᴰ.tail m) = of_function others all.1 m
 

@@ -103,15 +103,20 @@ pub units : {script response points : List ℕ} {budget : ℕ} {area : List ℕ}
     → Passing script response points area k bs → Checked script response points budget area o a w → UnitsStated k (terms_of bs) points budget o
 units p c = verdict_units (of_passing p c)
 
+-- The units of a verdict outside 0, 14 and 15.
+judged_none : {response : List ℕ} {k : Known} {bs : List Body} {points : List ℕ} {budget : ℕ} {o : Outcome} {a w : List ℕ}
+    → Judgement response k bs points budget o a w → (Showing o.number → ⊥) → o.units ≡ 0
+judged_none (underived u) h = omega arith
+judged_none (points_refused s e) h = omega arith
+judged_none {k = k} {bs} {points} {budget} (evaluated {n = n} s e) h =
+    absurd (h (run_showing budget (ran_with k (terms_of bs) points n budget)))
+
 -- "0 outside 0, 14 and 15".
 pub no_units : {script response points : List ℕ} {budget : ℕ} {area : List ℕ} {o : Outcome} {a w : List ℕ}
     → Checked script response points budget area o a w → (Showing o.number → ⊥) → o.units ≡ 0
 no_units {script} {response} {points} {area = area} (missized e) h = (missized_one script response points area e).units
 no_units (texts_refused n t) h = (refused_number t).units
-no_units (judged p (underived u)) h = omega arith
-no_units (judged p (points_refused s e)) h = omega arith
-no_units {points = points} {budget} (judged {k = k} {bs = bs} p (evaluated {n = n} s e)) h =
-    absurd (h (run_showing budget (ran_with k (terms_of bs) points n budget)))
+no_units (judged p v) h = judged_none v h
 
 -- "Constraints are evaluated at the given points in the stated order"; "At each point the assumptions are evaluated first, in script order, up to the first
 -- false one, which skips the point's constraints." (E1)

@@ -1,5 +1,6 @@
 //! The reader of responses: one `define-fun` for each synthesized function, each refusal at its place, and the bodies of a response that passes.
 #![tactic(auto)]
+
 pub mod answers;
 mod functions;
 mod outlines;

@@ -1,5 +1,6 @@
 //! The runner of lists of steps: a controller with a stack of 256 values. What it takes and gives for C stands here.
 #![tactic(auto)]
+
 mod running;
 mod stack;
 

@@ -2,6 +2,7 @@
 //! The table of signatures: ten numbers for each `define-fun`, synthesized function and non-terminal, how many arguments it has, its sort, and the sorts of its
 //! arguments.
 #![tactic(auto)]
+
 pub mod answers;
 pub mod places;
 pub mod signatures;

@@ -1,5 +1,6 @@
 //! The reader of scripts: one command after the other, each refusal at its place, and the tables of a script that passes.
 #![tactic(auto)]
+
 pub mod command;
 mod progress;
 pub mod scripts;

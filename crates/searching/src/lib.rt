@@ -2,6 +2,7 @@
 //!
 //! `rules`, `forms` and `body` are the tables of crate `derivation`.
 #![tactic(auto)]
+
 ghost use Rattle.std.specs.Prelude.{◌≡◌, ◌+◌, ◌*◌, ◌≤◌, length, replicate};
 ghost use Rattle.std.proofs.lemmas.List.Edits.{sets};
 ghost use Rattle.searching.specs.code.Derive.{Decides, DerivePre};

@@ -4,11 +4,10 @@ use native.Mathlib.Omega.{arith}
 use mathlib.Core.Path.{◌≡◌, refl, sym, ap, ap₂, ◌∙◌}
 use mathlib.Core.Bool.{Bool, true, false, ◌&&◌, ◌||◌, cond, not, or-false}
 use mathlib.Core.List.{List}
-use lib.Dec.{eqb, leb}
+use lib.Dec.{eqb}
 use borrow.Author.Tests.{le-leb, lt-leb, not-false, not-true}
 use Rattle.forest.specs.Forest.{count, tree}
 use Rattle.forest.proofs.Bools.{and_left}
-use Rattle.words.specs.Trees.{Lexeme}
 use Rattle.lexemes.specs.Lists.{Items, after, is, is_key, is_numeral, is_list, item}
 use Rattle.lexemes.specs.code.Codes.{bang_code, weight_code}
 use Rattle.lexemes.specs.code.Table.{code_at, code_of, next_at, numeral_code, open_code}

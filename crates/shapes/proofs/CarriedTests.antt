@@ -9,7 +9,7 @@ use borrow.Author.Tests.{eqb-true, ne_eqb}
 use Rattle.forest.specs.Forest.{count}
 use Rattle.lexemes.specs.code.Codes.{bang_code, bit_vec_code, bv_code, exists_code, extract_code, forall_code, let_code, other_code, set_logic_code, synth_fun_code}
 use Rattle.lexemes.specs.code.Codes.{underscore_code}
-use Rattle.lexemes.specs.Lists.{after, is}
+use Rattle.lexemes.specs.Lists.{after}
 use Rattle.lexemes.specs.code.Table.{code_at, numeral_code}
 use Rattle.lexemes.specs.code.Standing.{ListAt}
 use Rattle.lexemes.proofs.ByCode.{code_for, front_constant, front_word, front_words, front_code}

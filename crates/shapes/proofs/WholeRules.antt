@@ -1,20 +1,20 @@
 -- What is not carried where whole rules may be begun by `!`: the last of a list's items, and those before it.
-use Prim.Native.Nat.{ℕ, zero, suc, ◌+◌, ◌-◌, ◌≤◌, ◌<◌}
+use Prim.Native.Nat.{ℕ, zero, suc, ◌+◌, ◌-◌, ◌<◌}
 use native.Mathlib.Omega.{arith}
 use mathlib.Core.Path.{◌≡◌, refl, sym, ap, ap₂, ◌∙◌, subst}
-use mathlib.Core.Bool.{Bool, true, false, ◌&&◌, ◌||◌, cond, not}
+use mathlib.Core.Bool.{Bool, true, false, ◌&&◌, ◌||◌, not}
 use mathlib.Core.List.{List}
 use lib.Dec.{eqb}
 use borrow.Author.Tests.{eqb-true, not-false, not-true}
 use Rattle.forest.specs.Forest.{count, none, tree}
-use Rattle.forest.proofs.Bools.{and_left, and_right, apart}
+use Rattle.forest.proofs.Bools.{and_left, and_right}
 use Rattle.words.specs.Trees.{Lexeme, word_of}
 use Rattle.lexemes.specs.Lists.{Items, after, inside, is, is_list, item}
 use Rattle.lexemes.specs.code.Codes.{synth_fun_code}
 use Rattle.lexemes.specs.code.Table.{code_at, next_at, open_code}
 use Rattle.lexemes.specs.code.Standing.{Between, ItemAt, ListAt, Reached, Source, Stands, bracketed, ends, word}
 use Rattle.lexemes.proofs.ByCode.{code_for, front_word, list_code}
-use Rattle.lexemes.proofs.Listed.{alone, as_item, as_list, at_item, between, first_code_lem, from_item, is-list, list_from, no_list}
+use Rattle.lexemes.proofs.Listed.{alone, as_list, at_item, between, first_code_lem, from_item, is-list, list_from, no_list}
 use Rattle.shapes.specs.Carried.{any_of, any_uncarried, before, command_uncarried, ends_in_list, group_uncarried, last_by, rule_uncarried, uncarried_start}
 use Rattle.shapes.specs.Shapes.{is_annotated}
 use Rattle.shapes.specs.code.Lists.{EndsInList, ItemOf}

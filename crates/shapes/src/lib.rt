@@ -1,5 +1,6 @@
 //! Shapes of commands, answer 5, and what is not carried, answer 6.
 #![tactic(auto)]
+
 pub mod annotations;
 pub mod carried;
 pub mod commands;

@@ -1,5 +1,5 @@
 -- The stack controller (E11): what each step does, and how a list of steps ends. A stack is a list of values, the newest first.
-use Rattle.std.specs.Prelude.{ℕ, ◌+◌, ◌-◌, ◌/◌, Bool, true, false, cond, ◌&&◌, List, [], ◌∷◌, ◌++◌, eqb, leb, ltb, drop, get_or, length, take}
+use Rattle.std.specs.Prelude.{ℕ, ◌+◌, ◌-◌, ◌/◌, Bool, cond, ◌&&◌, List, [], ◌∷◌, ◌++◌, eqb, leb, ltb, drop, get_or, length, take}
 use Rattle.std.proofs.Math.Option.{Option, none as nothing, some}
 use Rattle.forest.specs.Forest.{nodes_of, none, tree}
 use Rattle.operators.specs.Operators.{operator_sort, operator_value}

@@ -1,5 +1,6 @@
 //! Steps for a small stack controller, and the list of steps of a body.
 #![tactic(auto)]
+
 pub mod list;
 
 use terms::Value;

@@ -47,7 +47,7 @@ module _ {text lexemes names raw places forms : List ℕ} {p : Progress} {i nowh
   pub full_refused : most_functions ≤ p.functions → Synthesized d names raw places forms (record { number = limit_answer; place = i; rows = 0 })
   full_refused full =
       refused_so d (omega arith) (λ e. absurd (omega arith))
-      (says_limit allowed nowhere d.of.known i d.of.here.command (After d.of) _
+      (says_limit allowed nowhere d.of.known i d.of.here.command (After d.of) (record { number = limit_answer; place = i; rows = 0 })
       (record { number_is = refl; place_is = command_first d.of full; found = command_word d.of.here })) refl refl
 
   -- There are fewer.
@@ -86,7 +86,7 @@ module _ {text lexemes names raw places forms : List ℕ} {p : Progress} {i nowh
           → Synthesized d names rawAfter placesAfter forms (record { number = limit_answer; place = place; rows = 0 })
       limit_refused past =
           refused_so d (omega arith) (λ e. absurd (omega arith))
-          (says_limit allowed nowhere d.of.known i d.of.here.command (After d.of) _
+          (says_limit allowed nowhere d.of.known i d.of.here.command (After d.of) (record { number = limit_answer; place = place; rows = 0 })
           (record { number_is = refl; place_is = omega (arith, limit_found); found = past })) (gathered grammar_at).raw_long refl
 
       -- Nothing is.
@@ -165,7 +165,7 @@ module _ {text lexemes names raw places forms : List ℕ} {p : Progress} {g : Ga
     pub names_refused : place < nowhere → Synthesized s.given namesAfter rawAfter places formsAfter (record { number = name_answer; place = place; rows = 0 })
     names_refused fault =
         refused_so s.given (omega arith) (λ e. (found unnamed_here).taken)
-        (says_name allowed nowhere s.given.of.known i s.given.of.here.command (After s.given.of) _ s.limited
+        (says_name allowed nowhere s.given.of.known i s.given.of.here.command (After s.given.of) (record { number = name_answer; place = place; rows = 0 }) s.limited
         (record { number_is = refl; place_is = (found unnamed_here).place_is; found = fault })) raw_kept forms_kept
 
     -- None is, and the sorts may be tested.

@@ -74,7 +74,7 @@ module _ {text lexemes names raw places forms : List ℕ} {p : Progress} {g : Ga
       → Synthesized s.given names raw placesAfter forms (record { number = sort_answer; place = place; rows = 0 })
   sorts_refused found =
       refused_so s.given (omega arith) (λ e. absurd (omega arith))
-      (says_sorting allowed nowhere s.given.of.known i s.given.of.here.command (After s.given.of) _ s.limited s.named
+      (says_sorting allowed nowhere s.given.of.known i s.given.of.here.command (After s.given.of) (record { number = sort_answer; place = place; rows = 0 }) s.limited s.named
       (record { number_is = refl; place_is = sorts_are; found = found })) s.raw_long (forms_long s)
 
   module _ (fine : nowhere ≤ place) {misfit : ℕ}
@@ -89,11 +89,11 @@ module _ {text lexemes names raw places forms : List ℕ} {p : Progress} {g : Ga
     listed_is = by-lists (comparing_here s listed blank tested)
 
     -- its grammar is at fault
-    refused_at : {r : ℕ} → r ≡ grammar_misfit nowhere (view_of s.given.of.known s.given.of.here.command) s.given.of.here.command → r < nowhere
+    refused_at : (r : ℕ) → r ≡ grammar_misfit nowhere (view_of s.given.of.known s.given.of.here.command) s.given.of.here.command → r < nowhere
         → {placesAfter : List ℕ} → Synthesized s.given names raw placesAfter forms (record { number = grammar_answer; place = r; rows = 0 })
-    refused_at is found =
+    refused_at r is found =
         refused_so s.given (omega arith) (λ e. absurd (omega arith))
-        (says_grammar allowed nowhere s.given.of.known i s.given.of.here.command (After s.given.of) _ s.limited s.named sorts_pass
+        (says_grammar allowed nowhere s.given.of.known i s.given.of.here.command (After s.given.of) (record { number = grammar_answer; place = r; rows = 0 }) s.limited s.named sorts_pass
         (record { number_is = refl; place_is = is ∙ sym (grammar_is s.given.of); found = found })) s.raw_long (forms_long s)
 
     -- in what it lists
@@ -101,7 +101,7 @@ module _ {text lexemes names raw places forms : List ℕ} {p : Progress} {g : Ga
         → Synthesized s.given names raw placesAfter forms (record { number = grammar_answer; place = misfit; rows = 0 })
     lists_refused found =
         let c = s.given.of.here.command in
-        refused_at (listed_is ∙ sym (misfit_listed (view_of s.given.of.known c) c (rw listed_is at found))) found
+        refused_at misfit (listed_is ∙ sym (misfit_listed (view_of s.given.of.known c) c (rw listed_is at found))) found
 
     module _ (right : nowhere ≤ misfit) where
       -- what it lists is in order
@@ -124,12 +124,12 @@ module _ {text lexemes names raw places forms : List ℕ} {p : Progress} {g : Ga
         -- a non-terminal derives no term
         pub dead_refused : dead < nowhere
             → Synthesized s.given names raw placesAfter forms (record { number = grammar_answer; place = dead; rows = 0 })
-        dead_refused found = refused_at misfit_is found
+        dead_refused found = refused_at dead misfit_is found
 
         -- nothing is at fault
         pub all-passed : nowhere ≤ dead → Synthesized s.given names raw placesAfter forms (record { number = 0; place = 0; rows = g.row })
         all-passed alive = record {
-          verdict_is = says_passed allowed nowhere s.given.of.known i s.given.of.here.command (After s.given.of) _ s.limited s.named
+          verdict_is = says_passed allowed nowhere s.given.of.known i s.given.of.here.command (After s.given.of) (record { number = 0; place = 0; rows = g.row }) s.limited s.named
               sorts_pass (rw (misfit_is ∙ sym (grammar_is s.given.of)) at alive) refl;
           names_hold = λ e. s.names_hold;
           taken = λ e. absurd (omega arith);

@@ -1,5 +1,6 @@
 //! The command that says a function and its grammar: `synth-fun`.
 #![tactic(auto)]
+
 pub mod command;
 pub mod name_tests;
 mod rows;

@@ -86,7 +86,7 @@ module _ {s : Source} where
 
   module _ {P : (i e : ℕ) → List Ruled → Type 0} (gathers : Gathers s P) where
     -- it holds of the rules of a group and of those behind them
-    rules_hold : (A : ℕ) {i m e : ℕ} {F : Items} {later : List Ruled} → Stands s i F m → all rule_shape F ≡ true → code_at s.lexemes m ≡ close_code → m ≤ e
+    rules_hold : (A : ℕ) {F : Items} {i m e : ℕ} {later : List Ruled} → Stands s i F m → all rule_shape F ≡ true → code_at s.lexemes m ≡ close_code → m ≤ e
         → P m e later → P i e (rules_of A F ++ later)
     unfolding all rules_of
     rules_hold A {F = none} ends shape closed h held = held
@@ -94,7 +94,7 @@ module _ {s : Source} where
         let rest = (here refl stands).rest in
         let others = and_right (rule_shape l ops) (all rule_shape more) shape in
         gathers.one_more A (by_itself refl stands) (and_left (rule_shape l ops) (all rule_shape more) shape) (unweighted rest others closed)
-        (omega (arith, forward rest)) (rules_hold A rest others closed h held)
+        (omega (arith, forward rest)) (rules_hold A {F = more} rest others closed h held)
 
     -- it holds of the rules of all groups
     pub groups_hold : {i e : ℕ} {F : Items} → Stands s i F e → all group_shape F ≡ true → (A : ℕ) → P i e (rules_in A F)

@@ -7,7 +7,7 @@ use mathlib.Core.List.{List, [], ◌∷◌, ◌++◌}
 use lib.Dec.{leb}
 use lib.ListN.{length}
 use borrow.Author.Tests.{le-leb}
-use Rattle.forest.specs.Forest.{join, nodes_of, none, tree}
+use Rattle.forest.specs.Forest.{join, none, tree}
 use Rattle.forest.specs.code.Cursors.{size}
 use Rattle.forest.proofs.Laws.{join_assoc, join_none, size_join}
 use Rattle.derivation.specs.code.Rules.{rule_width}
@@ -130,16 +130,19 @@ module _ {s : Source} where
   terms_fit false (bracketed {ops = ops} b inner rest) =
       omega (arith, terms_fit false rest, terms_fit true inner, operands_fit ops (is "_" (item 0 ops)) refl)
 
-  -- nor has the second item of a list, or what stands for it
+  -- nor has the first of some items, or what stands for it
+  first_fits : {k c : ℕ} {ops : Items} → Stands s k ops c → k + size (raw_term (item 0 ops) (inside 0 ops)) ≤ suc c
+  unfolding inside item raw_terms same_bytes size
+  first_fits ends = omega arith
+  first_fits (word v rest) = omega (arith, terms_fit false (word v ends), forward rest)
+  first_fits (bracketed d held rest) = omega (arith, terms_fit false (bracketed d held ends), forward rest)
+
+  -- nor has the second item of a list
   second_fits : {j c : ℕ} {ops : Items} → Stands s j ops c → j + size (raw_term (item 1 ops) (inside 1 ops)) ≤ suc c
   unfolding inside item raw_terms same_bytes size
   second_fits ends = omega arith
-  second_fits (word w ends) = omega arith
-  second_fits (word w (word v rest)) = omega (arith, terms_fit false (word v ends), forward rest)
-  second_fits (word w (bracketed b inner rest)) = omega (arith, terms_fit false (bracketed b inner ends), forward rest)
-  second_fits (bracketed b inner ends) = omega (arith, forward inner)
-  second_fits (bracketed b inner (word v rest)) = omega (arith, forward inner, terms_fit false (word v ends), forward rest)
-  second_fits (bracketed b inner (bracketed d held rest)) = omega (arith, forward inner, terms_fit false (bracketed d held ends), forward rest)
+  second_fits (word w rest) = omega (arith, first_fits rest)
+  second_fits (bracketed b inner rest) = omega (arith, forward inner, first_fits rest)
 
   -- nor has a rule that is a term
   term_rule_fits : {i e : ℕ} {l : Lexeme} {ops : Items} → Stands s i (tree l ops none) e → i + size (raw_term_rule l ops) ≤ e

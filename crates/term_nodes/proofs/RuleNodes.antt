@@ -1,5 +1,5 @@
 -- The nodes of a rule: one where it is `(Constant σ)` or `(Variable σ)`, else those of a term.
-use Prim.Native.Nat.{ℕ, ◌+◌, ◌-◌, ◌*◌, ◌≤◌, ◌<◌}
+use Prim.Native.Nat.{ℕ, ◌+◌, ◌*◌, ◌≤◌, ◌<◌}
 use native.Mathlib.Omega.{arith}
 use mathlib.Core.Path.{◌≡◌, refl, sym, ap, ◌∙◌, subst}
 use mathlib.Core.Bool.{Bool, true, false, not}
@@ -9,12 +9,11 @@ use lib.ListN.{length, drop}
 use lib.Seq.{length-sets, sets}
 use Rattle.forest.specs.Forest.{Node, count, nodes_of, none, tree}
 use Rattle.forest.specs.code.Cursors.{size}
-use Rattle.forest.specs.Tables.{rows}
 use Rattle.forest.proofs.Laws.{size_join}
 use Rattle.forest.proofs.Nodes.{length_nodes, nodes_join}
 use Rattle.words.specs.Trees.{word_of}
 use Rattle.lexemes.specs.Lists.{inside, is, item}
-use Rattle.lexemes.specs.code.Standing.{ItemAt, Source, Stands, ends, word}
+use Rattle.lexemes.specs.code.Standing.{ItemAt, Source, Stands, ends}
 use Rattle.lexemes.specs.code.Table.{next_at, row_width as lexemeWidth}
 use Rattle.lexemes.proofs.Standing.{here}
 use Rattle.shapes.specs.Shapes.{is_pattern}

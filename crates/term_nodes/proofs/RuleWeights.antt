@@ -2,15 +2,15 @@
 use Prim.Native.Nat.{ℕ, ◌+◌, ◌-◌, ◌≤◌, ◌<◌, min}
 use native.Mathlib.Omega.{arith}
 use mathlib.Core.Path.{◌≡◌, refl, sym, ap, ◌∙◌}
-use mathlib.Core.Bool.{Bool, true, false, cond, not, ◌&&◌, and-false}
+use mathlib.Core.Bool.{Bool, true, false, not, ◌&&◌, and-false}
 use mathlib.Core.List.{List, [], ◌∷◌}
 use lib.Dec.{eqb, leb, ltb}
 use borrow.Author.Tests.{eq-eqb, eqb-true, ltb-false, ltb-true, ne_eqb, not-false, not-true}
 use Rattle.forest.specs.Forest.{count, none, tree}
 use Rattle.forest.specs.Lists.{same_bytes}
 use Rattle.forest.proofs.Bools.{and_left, and_right, apart}
-use Rattle.words.specs.Trees.{Lexeme, keyword, list, literal, numeral, symbol, word_of}
-use Rattle.lexemes.specs.Lists.{Items, after, inside, is, is_among, is_key, is_list, is_numeral, item, numeral_of}
+use Rattle.words.specs.Trees.{Lexeme, keyword, list, literal, numeral, symbol}
+use Rattle.lexemes.specs.Lists.{Items, inside, is, is_key, is_list, is_numeral, item, numeral_of}
 use Rattle.lexemes.specs.code.Codes.{bang_code}
 use Rattle.lexemes.specs.code.Standing.{Between, ItemAt, ListAt, Reached, Source, Stands, bracketed, ends, value_of, word}
 use Rattle.lexemes.specs.code.Table.{code_at, code_of, next_at, numeral_code, value_at}

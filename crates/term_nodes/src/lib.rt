@@ -2,6 +2,7 @@
 //! how many operands it has, and how many nodes its tree has. A node past the end of a table has zeros.
 //! The rules that a grammar lists: their nodes, gathered one after the other, where each starts and its non-terminal; and the limits on them.
 #![tactic(auto)]
+
 pub mod gather;
 pub mod limits;
 pub mod rule_limits;

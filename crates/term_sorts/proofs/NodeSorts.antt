@@ -11,7 +11,7 @@ use Rattle.forest.proofs.Bools.{apart}
 use Rattle.forest.proofs.Nodes.{node_at}
 use Rattle.forest.proofs.Rows.{row_at}
 use Rattle.forest.specs.Forest.{Forest, count, nodes_of, none, tree}
-use Rattle.forest.specs.code.Cursors.{from, size}
+use Rattle.forest.specs.code.Cursors.{from}
 use Rattle.forest.specs.code.Rows.{number_at}
 use Rattle.forest.specs.Tables.{rows}
 use Rattle.derivation.proofs.Reading.{ItemSays}

@@ -4,6 +4,7 @@
 //! each non-terminal: how many arguments it has, its sort, and the sorts of its arguments. A sort that may be missing is a number: 0 where it is, else one
 //! more than the sort, which is at most 64, so that a byte holds the number.
 #![tactic(auto)]
+
 mod calls;
 mod nodes;
 mod operands;

@@ -1,5 +1,6 @@
 //! Terms in node tables: four numbers for each node. A node past the end of a table has zeros.
 #![tactic(auto)]
+
 pub mod codes;
 
 ghost use Rattle.std.specs.Prelude.{◌≡◌};

@@ -1,5 +1,6 @@
 //! Texts: a script and a response, from their bytes to a refusal at its offset or to the tables of what they say.
 #![tactic(auto)]
+
 mod lexed;
 mod response_words;
 pub mod responses;

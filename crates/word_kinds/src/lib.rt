@@ -1,5 +1,6 @@
 //! Words by their bytes: what a word is, or why it is refused.
 #![tactic(auto)]
+
 mod bytes;
 pub mod decimals;
 pub mod kinds;

@@ -2,6 +2,7 @@
 //! What the reader of words takes and gives: the limits of a text, what is found in it, and the word table.
 //! The words of a text: where they start and end, what is wrong with them, and the rows of the word table.
 #![tactic(auto)]
+
 pub mod answers;
 pub mod links;
 pub mod positions;

@@ -10,7 +10,7 @@ use Rattle.forest.specs.Forest.{count}
 use Rattle.forest.proofs.Bools.{and_left, and_right}
 use Rattle.forest.specs.Lists.{same_bytes}
 use Rattle.lexemes.specs.Reserved.{is_one_of}
-use Rattle.words.specs.Trees.{Lexeme, list}
+use Rattle.words.specs.Trees.{Lexeme}
 use Rattle.lexemes.specs.Lists.{Items, inside, is_among, is_list, is_symbol, item}
 use Rattle.lexemes.specs.code.Table.{next_at}
 use Rattle.lexemes.specs.code.Standing.{ItemAt, ListAt}

@@ -1,5 +1,6 @@
 //! Sorts as they are written: which sort an item says, and what is wrong with it.
 #![tactic(auto)]
+
 pub mod headers;
 pub mod places;
 

@@ -14,13 +14,13 @@ pub slice_bounds-script-end : goal.slice_bounds-script-end
 slice_bounds-script-end c = omega (arith, (c.length_answer-long.ensures.short c.if-long-ne-ACCEPTED.false).0, c.script_room-script.ensures)
 
 pub slice_bounds-answer_copied-end : goal.slice_bounds-answer_copied-end
-slice_bounds-answer_copied-end c = sym (length-take-le _ _ (array-borrow-prefix-script c))
+slice_bounds-answer_copied-end c = sym (length-take-le _ _ (omega (arith, (c.length_answer-long.ensures.short c.if-long-ne-ACCEPTED.false).0, c.script_room-script.ensures)))
 
 pub slice_bounds-response-end : goal.slice_bounds-response-end
 slice_bounds-response-end c = omega (arith, (c.length_answer-long.ensures.short c.if-long-ne-ACCEPTED.false).1, c.response_room-response.ensures)
 
 pub slice_bounds-answer_copied-end-2 : goal.slice_bounds-answer_copied-end-2
-slice_bounds-answer_copied-end-2 c = sym (length-take-le _ _ (array-borrow-prefix-response c))
+slice_bounds-answer_copied-end-2 c = sym (length-take-le _ _ (omega (arith, (c.length_answer-long.ensures.short c.if-long-ne-ACCEPTED.false).1, c.response_room-response.ensures)))
 
 pub answer_copied-requires : goal.answer_copied-requires
-answer_copied-requires c = rooms_right _ c.file_fault-block.ensures c.blocks_in.ensures c.if-block-blocks_in.false c.script_length-script_size.ensures c.response_length-response_size.ensures c.length_answer-long.ensures c.if-long-ne-ACCEPTED.false (length-take-le _ _ (array-borrow-prefix-script c)) (length-take-le _ _ (array-borrow-prefix-response c))
+answer_copied-requires c = rooms_right _ c.file_fault-block.ensures c.blocks_in.ensures c.if-block-blocks_in.false c.script_length-script_size.ensures c.response_length-response_size.ensures c.length_answer-long.ensures c.if-long-ne-ACCEPTED.false (length-take-le _ _ (omega (arith, (c.length_answer-long.ensures.short c.if-long-ne-ACCEPTED.false).0, c.script_room-script.ensures))) (length-take-le _ _ (omega (arith, (c.length_answer-long.ensures.short c.if-long-ne-ACCEPTED.false).1, c.response_room-response.ensures)))

@@ -1,5 +1,4 @@
 use Rattle.blocks.proofs.Search.{search_end, search_found, search_more, search_start}
-use Prim.Native.Nat.{◌-◌}
 use native.Mathlib.Omega.{arith}
 use Rattle.blocks.proofs.first_wrong.Goals as goal
 

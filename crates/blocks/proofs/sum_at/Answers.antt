@@ -1,5 +1,4 @@
 use Rattle.blocks.proofs.Adding.{sum_end, sum_more, sum_start, term_small}
-use Prim.Native.Nat.{◌-◌}
 use native.Mathlib.Omega.{arith}
 use Rattle.blocks.proofs.sum_at.Goals as goal
 

@@ -1,13 +1,10 @@
 use mathlib.Core.Bool.{not}
 use mathlib.Core.Path.{ap}
-use Prim.Native.Nat.{ℕ, ◌+◌, ◌*◌, ◌-◌, ◌<◌}
 use native.Mathlib.Omega.{arith}
-use mathlib.Core.Logic.{⊎_elim}
-use mathlib.Core.Path.{subst}
-use lib.ListN.{length}
 use Rattle.following.proofs.Fit.{end_small, inv_start, miss_hole, miss_node, turn_asks, turn_end, turn_here, turn_hole, turn_node, turn_over}
 use Rattle.following.proofs.Fit.{turn_place}
 use Rattle.following.proofs.Whole.{use_asks, use_fails, use_fits, use_gives, use_on}
+use Rattle.following.proofs.+fit_rule_use_rule.Goals.{fit_rule-else-code_at-eq-NON_TERMINAL+else-not-alike, fit_rule-then-code_at-eq-NON_TERMINAL+else-not-found}
 use Rattle.following.proofs.+fit_rule_use_rule.Goals as goal
 
 pub fit_rule-overflow_add-end : goal.fit_rule-overflow_add-end
@@ -20,8 +17,7 @@ pub fit_rule-use_rule-found-requires : goal.fit_rule-use_rule-found-requires
 fit_rule-use_rule-found-requires t c = let loop = c.loop-place in
     let asks = turn_asks loop.invariant c.loop-place-test.true c.code_at.ensures c.if-code_at-eq-NON_TERMINAL.true
     c.value_at.ensures in
-    let less = subst (λ (x : ℕ). 2 * (length c.args.list.now - loop.next) < x) c.requires.0 (omega (arith, loop.invariant.after, loop.invariant.within)) in
-    (less, asks)
+    (omega (arith, loop.invariant.after, loop.invariant.within), asks)
 
 pub fit_rule-returns-then-not-found : goal.fit_rule-returns-then-not-found
 fit_rule-returns-then-not-found t c =
@@ -57,10 +53,10 @@ fit_rule-loop-place-preserved t c =
     let inv = c.loop-place.invariant in
     let more = c.loop-place-test.true in
     let code = c.code_at.ensures in
-    ⊎_elim
-    (λ w. rw (w.6, w.7) (turn_hole inv more code w.0.taken w.1.ensures w.2.ensures w.4.left w.5.ensures))
-    (λ w. rw (w.3, w.4) (turn_node inv more code w.0.left w.1.ensures w.2.left))
-    c.if-code_at-eq-NON_TERMINAL.branch
+    elim c.if-code_at-eq-NON_TERMINAL.branch [
+      | fit_rule-then-code_at-eq-NON_TERMINAL+else-not-found w ↦ rw (w.here-is, w.next-is) (turn_hole inv more code w.if-code_at-eq-NON_TERMINAL.true w.value_at.ensures w.use_rule-found.ensures w.if-not-found.false w.size_at-here.ensures)
+      | fit_rule-else-code_at-eq-NON_TERMINAL+else-not-alike w ↦ rw (w.here-is, w.next-is) (turn_node inv more code w.if-code_at-eq-NON_TERMINAL.false w.alike.ensures (ap not w.if-not-alike.false))
+    ]
 
 pub fit_rule-returns : goal.fit_rule-returns
 fit_rule-returns t c = search turn_end
@@ -74,9 +70,7 @@ use_rule-returns-then-not-last t c = use_fails c.follow_chain-last.ensures c.if-
 pub use_rule-fit_rule-requires : goal.use_rule-fit_rule-requires
 use_rule-fit_rule-requires t c = let chain = c.follow_chain-last.ensures in
     let on = use_on chain c.if-not-last.false c.requires in
-    let less =
-    subst (λ (x : ℕ). 2 * (length c.args.list.now - c.follow_chain-last.result.at) + 1 < x) c.requires.0 (omega arith) in
-    (less, use_fits chain c.if-not-last.false c.requires)
+    (omega arith, use_fits chain c.if-not-last.false c.requires)
 
 pub use_rule-returns : goal.use_rule-returns
 use_rule-returns t c = use_gives c.follow_chain-last.ensures c.if-not-last.false c.fit_rule.ensures

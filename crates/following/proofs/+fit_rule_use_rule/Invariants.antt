@@ -1,5 +1,4 @@
 use Prim.Native.Nat.{◌+◌, ◌*◌, ◌-◌}
-use borrow.Author.Rules.{rules}
 use lib.ListN.{length}
 use Rattle.following.proofs.Fit.{Inv}
 use Rattle.following.proofs.+fit_rule_use_rule.Given as goal

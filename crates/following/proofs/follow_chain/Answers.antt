@@ -2,7 +2,6 @@ use mathlib.Core.Bool.{not}
 use mathlib.Core.Path.{ap}
 use Rattle.following.proofs.Chain.{inv_start, turn_end, turn_more, turn_no, turn_room}
 use native.Mathlib.Omega.{arith}
-use Prim.Native.Nat.{◌-◌}
 use Rattle.following.proofs.follow_chain.Goals as goal
 
 pub loop-nonterminal-init : goal.loop-nonterminal-init

@@ -1,6 +1,5 @@
 use Rattle.following.proofs.Chain.{Inv}
 use lib.ListN.{length}
-use borrow.Author.Rules.{rules}
 use Prim.Native.Nat.{◌-◌}
 use Rattle.following.proofs.follow_chain.Given as goal
 

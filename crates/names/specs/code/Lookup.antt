@@ -1,5 +1,5 @@
 -- What the parts of the look-up of names have in common.
-use Rattle.std.specs.Prelude.{ℕ, ◌+◌, ◌-◌, ◌*◌, ◌≤◌, ◌<◌, ◌^◌, false, ◌||◌, List, ◌≡◌, length}
+use Rattle.std.specs.Prelude.{ℕ, ◌+◌, ◌*◌, ◌≤◌, ◌<◌, ◌^◌, false, ◌||◌, List, ◌≡◌, length}
 use Rattle.std.proofs.Math.Option.{Option}
 use Rattle.forest.specs.Limits.{most_defined, most_functions, most_non_terminals}
 use Rattle.word_kinds.specs.Limits.{numeral_digits}

@@ -1,5 +1,5 @@
 -- What the search for the first fault of the rules of a grammar asks and gives.
-use Rattle.std.specs.Prelude.{ℕ, ◌≤◌, ◌+◌, List, [], ◌∷◌, ◌++◌, ◌≡◌, get_or, length}
+use Rattle.std.specs.Prelude.{ℕ, ◌≤◌, List, [], ◌∷◌, ◌++◌, ◌≡◌, get_or, length}
 use Rattle.forest.specs.Forest.{Forest, none, tree}
 use Rattle.operators.specs.Sorts.{max_width}
 use Rattle.term_sorts.specs.code.Forms.{sort_column}

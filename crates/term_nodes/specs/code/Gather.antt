@@ -2,7 +2,6 @@
 use Rattle.std.specs.Prelude.{ℕ, ◌+◌, ◌-◌, ◌*◌, ◌≤◌, cond, false, true, List, ◌++◌, ◌≡◌, length}
 use Rattle.forest.specs.Forest.{Forest, join, none, tree}
 use Rattle.forest.specs.code.Cursors.{size}
-use Rattle.forest.specs.Tables.{rows}
 use Rattle.words.specs.Trees.{Lexeme}
 use Rattle.lexemes.specs.Lists.{Items, is, is_list, item}
 use Rattle.lexemes.specs.code.Standing.{Source, Stands}

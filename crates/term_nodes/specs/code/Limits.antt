@@ -4,7 +4,6 @@ use Rattle.operators.specs.Sorts.{max_width}
 use Rattle.lexemes.specs.code.Codes.{long_decimal_code}
 use Rattle.forest.specs.Forest.{Forest, join, nodes_of}
 use Rattle.forest.specs.code.Cursors.{size}
-use Rattle.lexemes.specs.Lists.{is}
 use Rattle.lexemes.specs.code.Standing.{Source}
 use Rattle.term_nodes.specs.Terms.{Raw, constants_past, node_word, word_past}
 use Rattle.term_nodes.specs.code.Table.{is_constant_head, uncounted_table}

@@ -3,7 +3,6 @@ use Rattle.std.specs.Prelude.{ℕ, zero, suc, ◌+◌, List, [], ◌∷◌, ◌+
 use Rattle.forest.specs.Forest.{Forest, Node, nodes_of, tree}
 use Rattle.forest.specs.code.Cursors.{from, size}
 use Rattle.forest.specs.Tables.{rows}
-use Rattle.lexemes.specs.Lists.{is}
 use Rattle.term_nodes.specs.Terms.{Raw}
 use Rattle.term_nodes.specs.code.Table.{raw_row, raw_table, uncounted, uncounted_table}
 

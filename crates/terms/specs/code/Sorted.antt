@@ -1,7 +1,6 @@
 -- Functions whose bodies have their sorts.
 use Rattle.std.specs.Prelude.{List, [], ◌∷◌, map, ◌≡◌}
 use Rattle.std.proofs.Math.Option.{some}
-use Rattle.terms.specs.Labels.{defined}
 use Rattle.terms.specs.Sorts.{Signature, Scope, sorts_of, Definition}
 
 -- The signatures of definitions.

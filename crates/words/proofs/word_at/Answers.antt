@@ -1,5 +1,4 @@
 use native.Mathlib.Omega.{arith}
-use Prim.Native.Nat.{◌-◌}
 use Rattle.words.proofs.Offsets.{end_past, end_within, found_inside, found_is, found_none, seek_begins, seek_goes, seek_inside, seek_less}
 use Rattle.words.proofs.word_at.Goals as goal
 

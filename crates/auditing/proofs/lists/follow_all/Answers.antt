@@ -1,8 +1,5 @@
-use mathlib.Core.Bool.{not}
-use mathlib.Core.Path.{ap}
 use Prim.Native.Nat.{◌-◌}
 use native.Mathlib.Omega.{arith}
-use borrow.Author.Tests.{not-false, not-true}
 use Rattle.auditing.proofs.FollowTurns.{going_done, going_fails, going_start, going_turn}
 use Rattle.auditing.proofs.lists.follow_all.Goals as goal
 

@@ -5,12 +5,6 @@ use Rattle.auditing.proofs.reading.audit_in.Goals as goal
 pub read_texts-told-requires : goal.read_texts-told-requires
 read_texts-told-requires c = lent c.response_limits-limits.ensures c.no_names-names.ensures c.no_places-places.ensures c.requires.rooms
 
-pub shape_of-nodes-then-told-ne-ACCEPTED : goal.shape_of-nodes-then-told-ne-ACCEPTED
-shape_of-nodes-then-told-ne-ACCEPTED c = c.read_texts-told.auto.1.1.1.1.1.0
-
-pub shape_of-forms-then-told-ne-ACCEPTED : goal.shape_of-forms-then-told-ne-ACCEPTED
-shape_of-forms-then-told-ne-ACCEPTED c = c.read_texts-told.auto.1.1.1.1.1.1.0
-
 pub returns-then-told-ne-ACCEPTED : goal.returns-then-told-ne-ACCEPTED
 returns-then-told-ne-ACCEPTED c = text_refused c.response_limits-limits.ensures c.requires.file_texts c.read_texts-told.ensures c.if-told-ne-ACCEPTED.true
 

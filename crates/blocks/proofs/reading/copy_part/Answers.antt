@@ -1,7 +1,6 @@
 use Rattle.blocks.proofs.Again.{payload_length}
 use Rattle.blocks.proofs.Copying.{copy_end, copy_more, copy_start}
 use native.Mathlib.Omega.{arith}
-use Prim.Native.Nat.{◌-◌}
 use Rattle.blocks.proofs.reading.copy_part.Goals as goal
 
 pub loop-i-init : goal.loop-i-init

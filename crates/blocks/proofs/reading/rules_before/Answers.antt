@@ -1,6 +1,5 @@
 use Rattle.blocks.proofs.Lengths.{add_end, add_more, add_start}
 use native.Mathlib.Omega.{arith}
-use Prim.Native.Nat.{◌-◌}
 use Rattle.blocks.proofs.reading.rules_before.Goals as goal
 
 pub loop-k-init : goal.loop-k-init

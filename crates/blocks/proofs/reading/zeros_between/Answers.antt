@@ -1,6 +1,5 @@
 use Rattle.blocks.proofs.Filling.{zero_end, zero_more, zero_other, zero_start}
 use native.Mathlib.Omega.{arith}
-use Prim.Native.Nat.{◌-◌}
 use Rattle.blocks.proofs.reading.zeros_between.Goals as goal
 
 pub loop-place-init : goal.loop-place-init

@@ -1,5 +1,4 @@
 use Rattle.blocks.proofs.Putting.{bytes_end, bytes_fit, bytes_on, bytes_start}
-use Prim.Native.Nat.{◌-◌}
 use native.Mathlib.Omega.{arith}
 use Rattle.blocks.proofs.writing.put_bytes.Goals as goal
 

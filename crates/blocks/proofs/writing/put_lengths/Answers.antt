@@ -1,5 +1,4 @@
 use Rattle.blocks.proofs.Putting.{lengths_end, lengths_fit, lengths_on, lengths_start}
-use Prim.Native.Nat.{◌-◌}
 use native.Mathlib.Omega.{arith}
 use Rattle.blocks.proofs.writing.put_lengths.Goals as goal
 

@@ -1,5 +1,4 @@
 use Rattle.blocks.proofs.Putting.{list_within, lists_end, lists_fit, lists_on, lists_start}
-use Prim.Native.Nat.{◌-◌}
 use native.Mathlib.Omega.{arith}
 use Rattle.blocks.proofs.writing.put_lists.Goals as goal
 

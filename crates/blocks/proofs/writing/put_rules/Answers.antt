@@ -1,5 +1,4 @@
 use Rattle.blocks.proofs.Putting.{rules_end, rules_fit, rules_on, rules_start}
-use Prim.Native.Nat.{◌-◌}
 use native.Mathlib.Omega.{arith}
 use Rattle.blocks.proofs.writing.put_rules.Goals as goal
 

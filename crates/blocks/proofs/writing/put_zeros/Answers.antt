@@ -1,5 +1,4 @@
 use Rattle.blocks.proofs.Putting.{zeros_end, zeros_fit, zeros_on, zeros_start}
-use Prim.Native.Nat.{◌-◌}
 use native.Mathlib.Omega.{arith}
 use Rattle.blocks.proofs.writing.put_zeros.Goals as goal
 

@@ -1,6 +1,6 @@
 use lib.ListN.{drop}
 use Rattle.blocks.proofs.Putting.{shown_most, sum_end, sum_more, sum_start}
-use Prim.Native.Nat.{◌*◌, ◌-◌}
+use Prim.Native.Nat.{◌*◌}
 use native.Mathlib.Omega.{arith}
 use Rattle.blocks.proofs.writing.rules_in.Goals as goal
 

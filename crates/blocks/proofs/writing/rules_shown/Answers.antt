@@ -1,5 +1,4 @@
 use Rattle.blocks.proofs.Putting.{count_end, count_found, count_more, count_start}
-use Prim.Native.Nat.{◌-◌}
 use native.Mathlib.Omega.{arith}
 use Rattle.blocks.proofs.writing.rules_shown.Goals as goal
 

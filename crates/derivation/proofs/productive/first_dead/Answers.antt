@@ -1,5 +1,4 @@
 use Rattle.derivation.proofs.PassLoops.{dead_here, dead_low, dead_none, dead_on, dead_start}
-use Prim.Native.Nat.{◌-◌}
 use native.Mathlib.Omega.{arith}
 use Rattle.derivation.proofs.productive.first_dead.Goals as goal
 

@@ -1,6 +1,5 @@
 use Rattle.derivation.proofs.PassLoops.{DeadInv}
 use Prim.Native.Nat.{◌-◌}
-use borrow.Author.Rules.{rules}
 use Rattle.derivation.proofs.productive.first_dead.Given as goal
 
 abbrev pub invariant-loop-nonterminal : goal.invariant-loop-nonterminal

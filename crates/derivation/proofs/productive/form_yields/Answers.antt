@@ -1,5 +1,4 @@
 use native.Mathlib.Omega.{arith}
-use Prim.Native.Nat.{◌-◌}
 use Rattle.derivation.proofs.YieldWalk.{end_small, inv_start, turn_asks, turn_end, turn_fails, turn_on, turn_place}
 use Rattle.derivation.proofs.productive.form_yields.Goals as goal
 

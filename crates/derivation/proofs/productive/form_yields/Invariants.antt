@@ -1,4 +1,3 @@
-use borrow.Author.Rules.{rules}
 use Prim.Native.Nat.{◌-◌}
 use Rattle.derivation.proofs.YieldWalk.{Inv}
 use Rattle.derivation.proofs.productive.form_yields.Given as goal

@@ -1,5 +1,4 @@
 use native.Mathlib.Omega.{arith}
-use Prim.Native.Nat.{◌-◌}
 use mathlib.Core.Path.{refl}
 use Rattle.derivation.proofs.YieldWalk.{sort_here, sort_none, sort_on}
 use Rattle.derivation.proofs.productive.has_sort.Goals as goal

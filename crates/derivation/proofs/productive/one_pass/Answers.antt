@@ -1,5 +1,4 @@
 use Rattle.derivation.proofs.PassLoops.{pass_done, pass_start, turn_grown, turn_rule}
-use Prim.Native.Nat.{◌-◌}
 use native.Mathlib.Omega.{arith}
 use Rattle.derivation.proofs.productive.one_pass.Goals as goal
 

@@ -1,6 +1,5 @@
 use Rattle.derivation.proofs.PassLoops.{PassInv}
 use Prim.Native.Nat.{◌-◌}
-use borrow.Author.Rules.{rules}
 use Rattle.derivation.proofs.productive.one_pass.Given as goal
 
 abbrev pub invariant-loop-rule : goal.invariant-loop-rule

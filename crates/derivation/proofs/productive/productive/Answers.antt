@@ -1,5 +1,4 @@
 use Rattle.derivation.proofs.PassLoops.{pass_adds, pass_adds_none, passes_done, passes_start}
-use Prim.Native.Nat.{◌-◌}
 use native.Mathlib.Omega.{arith}
 use Rattle.derivation.proofs.productive.productive.Goals as goal
 

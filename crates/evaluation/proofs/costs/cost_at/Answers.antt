@@ -1,6 +1,4 @@
 use mathlib.Core.Path.{◌∙◌}
-use mathlib.Core.Logic.{⊎_elim}
-use Prim.Native.Nat.{◌-◌}
 use native.Mathlib.Omega.{arith}
 use Rattle.evaluation.proofs.CostTurns.{ends_within, size_some, sum_body, sum_end, sum_other, sum_start}
 use Rattle.evaluation.proofs.costs.cost_at.Goals as goal
@@ -49,7 +47,10 @@ loop-j-preserved c = let code = c.code_at.ensures in
       λ e.
           let r = c.loop-j.invariant.2 e in
           let h = c.loop-j-test.true in
-          elim c.if-place-lt-BODIES.branch [ then-place-lt-BODIES w ↦ sum_body e r h code value place w.0.taken w.1.ensures w.2.ensures (w.4 ∙ w.3.ensures) | else-place-lt-BODIES w ↦ sum_other e r h code value place w.0.left w.1 ],
+          elim c.if-place-lt-BODIES.branch [
+            | then-place-lt-BODIES w ↦ sum_body e r h code value place w.if-place-lt-BODIES.true w.number_in.ensures w.saturating.ensures (w.sum-is ∙ w.saturating-sum.ensures)
+            | else-place-lt-BODIES w ↦ sum_other e r h code value place w.if-place-lt-BODIES.false w.sum-is
+          ],
     )
 
 pub returns : goal.returns

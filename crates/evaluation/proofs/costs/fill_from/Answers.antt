@@ -1,6 +1,5 @@
 use lib.ListN.{length-set}
 use mathlib.Core.Path.{◌≡◌}
-use Prim.Native.Nat.{◌-◌}
 use native.Mathlib.Omega.{arith}
 use Rattle.evaluation.proofs.Prices.{cost_priced, fill_more, fill_start}
 use Rattle.evaluation.proofs.costs.fill_from.Goals as goal

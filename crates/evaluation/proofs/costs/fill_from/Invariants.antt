@@ -6,7 +6,7 @@ use Prim.Native.Nat.{◌≤◌, ◌-◌}
 use Rattle.evaluation.proofs.costs.fill_from.Given as goal
 
 abbrev pub invariant-loop-k : goal.invariant-loop-k
-invariant-loop-k l =     (length l.costs ≡ no_place) × (l.k ≤ l.count) × ((e : Filling l.nodes l.bodies l.initial.costs l.base l.count) → FilledTo l.initial.costs l.costs l.base l.k e.price)
+invariant-loop-k l = (length l.costs ≡ no_place) × (l.k ≤ l.count) × ((e : Filling l.nodes l.bodies l.initial.costs l.base l.count) → FilledTo l.initial.costs l.costs l.base l.k e.price)
 
 abbrev pub decreases-loop-k : goal.decreases-loop-k
 decreases-loop-k l = l.count - l.k

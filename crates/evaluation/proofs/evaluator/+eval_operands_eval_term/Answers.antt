@@ -1,6 +1,5 @@
 use Rattle.evaluation.proofs.Evaluating.{after_long, body_evaluable, body_long, body_result, left_some, literal_value, name_value, name_within}
 use Rattle.evaluation.proofs.Evaluating.{operands_evaluable, operator_ready, operator_result, pushed_within, term_within}
-use Prim.Native.Nat.{◌-◌}
 use native.Mathlib.Omega.{arith}
 use Rattle.evaluation.proofs.Operands.{all_done, none_done, one_done, operand_evaluable, operand_place, operand_room, operand_size, operand_within}
 use Rattle.evaluation.proofs.evaluator.+eval_operands_eval_term.Goals as goal

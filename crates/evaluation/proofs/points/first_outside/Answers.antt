@@ -1,4 +1,5 @@
-use Prim.Native.Nat.{◌-◌}
+use mathlib.Core.Bool.{not}
+use mathlib.Core.Path.{ap}
 use native.Mathlib.Omega.{arith}
 use native.Mathlib.Nat.{mod-lt}
 use Rattle.evaluation.proofs.PointLists.{none_before, none_outside, outside_here, outside_later}
@@ -20,13 +21,13 @@ pub fits-requires : goal.fits-requires
 fits-requires c = c.requires.small _
 
 pub returns-then-not-fits : goal.returns-then-not-fits
-returns-then-not-fits c = outside_here c.loop-i.invariant (omega arith) c.fits2.ensures c.if-not-fits.true
+returns-then-not-fits c = outside_here c.loop-i.invariant (omega arith) c.fits.ensures (ap not c.if-not-fits.true)
 
 pub loop-i-smaller : goal.loop-i-smaller
 loop-i-smaller c = omega arith
 
 pub loop-i-preserved : goal.loop-i-preserved
-loop-i-preserved c = outside_later c.loop-i.invariant (omega arith) c.fits2.ensures c.if-not-fits.false
+loop-i-preserved c = outside_later c.loop-i.invariant (omega arith) c.fits.ensures (ap not c.if-not-fits.false)
 
 pub returns : goal.returns
 returns c = none_outside c.loop-i.invariant (omega arith)

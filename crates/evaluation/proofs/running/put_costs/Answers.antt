@@ -1,7 +1,7 @@
 use Rattle.evaluation.proofs.TermCosts.{prices_more, prices_start}
 use mathlib.Core.Path.{◌≡◌}
 use native.Mathlib.Omega.{arith}
-use Prim.Native.Nat.{◌+◌, ◌-◌}
+use Prim.Native.Nat.{◌+◌}
 use Rattle.evaluation.proofs.running.put_costs.Goals as goal
 
 pub overflow_add-end : goal.overflow_add-end
@@ -20,7 +20,7 @@ pub offset_bounds-prices-k : goal.offset_bounds-prices-k
 offset_bounds-prices-k c = omega (arith, c.requires.terms_costing.within)
 
 pub bounds-prices-k : goal.bounds-prices-k
-bounds-prices-k c = let e = c.requires in omega (arith, e.0.within, e.1, c.loop-k.invariant.2.as_long)
+bounds-prices-k c = let e = c.requires in omega (arith, e.terms_costing.within, e.prices_len, c.loop-k.invariant.2.as_long)
 
 pub overflow_add-k : goal.overflow_add-k
 overflow_add-k c = omega arith
@@ -31,7 +31,7 @@ loop-k-smaller c = omega arith
 pub loop-k-preserved : goal.loop-k-preserved
 loop-k-preserved c = let e = c.requires in
     let r = c.loop-k.invariant in
-    (omega arith, omega arith, prices_more r.2 r.0 (omega (arith, e.0.within, e.1)) c.cost_at-cost.ensures)
+    (omega arith, omega arith, prices_more r.2 r.0 (omega (arith, e.terms_costing.within, e.prices_len)) c.cost_at-cost.ensures)
 
 pub shape_of-prices : goal.shape_of-prices
 shape_of-prices c = c.loop-k.invariant.2.as_long

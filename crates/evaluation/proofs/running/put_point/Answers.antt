@@ -1,5 +1,4 @@
 use native.Mathlib.Omega.{arith}
-use Prim.Native.Nat.{◌-◌}
 use mathlib.Core.Path.{refl}
 use Rattle.evaluation.proofs.Fronts.{put_all, put_one}
 use Rattle.evaluation.proofs.running.put_point.Goals as goal

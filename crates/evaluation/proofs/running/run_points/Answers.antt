@@ -1,10 +1,11 @@
+use mathlib.Core.Bool.{not}
 use Rattle.evaluation.proofs.PointRuns.{point_within, points-end, points_start, stated_costing, here_held, last_long, no_points}
 use Rattle.evaluation.proofs.PointRuns.{point_passed, point_room, point_runnable, point_stopped}
 use Rattle.evaluation.specs.code.Running.{stack_size}
 use lib.ListN.{length, length-replicate}
 use native.Mathlib.Omega.{arith}
 use mathlib.Core.Path.{sym, ap, ◌∙◌}
-use Prim.Native.Nat.{ℕ, ◌-◌}
+use Prim.Native.Nat.{ℕ}
 use Rattle.evaluation.proofs.running.run_points.Goals as goal
 
 pub point_count-count-requires : goal.point_count-count-requires
@@ -70,7 +71,7 @@ pub overflow_add-held : goal.overflow_add-held
 overflow_add-held c = let e = c.requires in
     let r = c.loop-point.invariant in
     let there = c.loop-point-test.true in
-    let one = here_held e (r.1 e) c.point_count-count.ensures there c.run_point-here.new.1.1.1.1.0 c.term_costs-prices.ensures r.0 c.put_point.ensures
+    let one = here_held e (r.1 e) c.point_count-count.ensures there c.run_point-here.new.stack c.term_costs-prices.ensures r.0 c.put_point.ensures
     c.left_of-left.ensures c.run_point-here.ensures in
     omega (arith, (r.1 e).few, one, there)
 
@@ -80,8 +81,8 @@ all_passed-requires c = tt
 pub returns-then-not-all_passed : goal.returns-then-not-all_passed
 returns-then-not-all_passed c = λ e.
     let r = c.loop-point.invariant in
-    point_stopped e (r.1 e) c.point_count-count.ensures c.loop-point-test.true c.run_point-here.new.1.1.1.1.0 c.term_costs-prices.ensures r.0 c.put_point.ensures
-    c.left_of-left.ensures c.run_point-here.ensures c.all_passed.ensures c.if-not-all_passed.true
+    point_stopped e (r.1 e) c.point_count-count.ensures c.loop-point-test.true c.run_point-here.new.stack c.term_costs-prices.ensures r.0 c.put_point.ensures
+    c.left_of-left.ensures c.run_point-here.ensures c.all_passed.ensures (ap not c.if-not-all_passed.true)
 
 pub overflow_add-point : goal.overflow_add-point
 overflow_add-point c = omega arith
@@ -96,10 +97,10 @@ loop-point-preserved c = let r = c.loop-point.invariant in
     let told = c.term_costs-prices.ensures in
     let put = c.put_point.ensures in
     let left = c.left_of-left.ensures in
-    let last = c.run_point-here.new.1.1.1.1.0 in
+    let last = c.run_point-here.new.stack in
     let got = c.run_point-here.ensures in (
       let e = c.requires in last_long e (r.1 e) counted there last told r.0 put left got,
-      λ e. point_passed e (r.1 e) counted there last told r.0 put left got c.all_passed.ensures c.if-not-all_passed.false,
+      λ e. point_passed e (r.1 e) counted there last told r.0 put left got c.all_passed.ensures (ap not c.if-not-all_passed.false),
     )
 
 pub returns : goal.returns

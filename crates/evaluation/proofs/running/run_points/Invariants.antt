@@ -6,7 +6,7 @@ use Prim.Native.Nat.{◌-◌}
 use Rattle.evaluation.proofs.running.run_points.Given as goal
 
 abbrev pub invariant-loop-point : goal.invariant-loop-point
-invariant-loop-point l =     (length l.stack ≡ stack_size) × ((e : PointsRunnable l.nodes l.bodies l.costs l.places l.stated l.sorts l.numbers) → PointsLeft e l.budget l.run l.point)
+invariant-loop-point l = (length l.stack ≡ stack_size) × ((e : PointsRunnable l.nodes l.bodies l.costs l.places l.stated l.sorts l.numbers) → PointsLeft e l.budget l.run l.point)
 
 abbrev pub decreases-loop-point : goal.decreases-loop-point
-decreases-loop-point l =     l.count - l.point
+decreases-loop-point l = l.count - l.point

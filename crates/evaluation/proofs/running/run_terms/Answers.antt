@@ -1,6 +1,5 @@
 use Rattle.evaluation.proofs.Runs.{next_front, term_ended, term_evaluable, term_false, term_true, terms_end, terms_start, turn_within}
 use native.Mathlib.Omega.{arith}
-use Prim.Native.Nat.{◌-◌}
 use Rattle.evaluation.proofs.running.run_terms.Goals as goal
 
 pub overflow_add-end : goal.overflow_add-end

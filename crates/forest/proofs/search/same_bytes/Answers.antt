@@ -1,5 +1,4 @@
 use native.Mathlib.Omega.{arith}
-use Prim.Native.Nat.{◌-◌}
 use mathlib.Core.Path.{refl}
 use Rattle.forest.proofs.Searching.{all_alike, lengths_differ, other_byte, same_byte}
 use Rattle.forest.proofs.search.same_bytes.Goals as goal

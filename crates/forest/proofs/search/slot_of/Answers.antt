@@ -1,5 +1,4 @@
 use native.Mathlib.Omega.{arith}
-use Prim.Native.Nat.{◌-◌}
 use Rattle.forest.proofs.Searching.{slot_begins, slot_ends, slot_goes}
 use Rattle.forest.proofs.search.slot_of.Goals as goal
 

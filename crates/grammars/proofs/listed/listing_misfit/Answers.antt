@@ -2,7 +2,6 @@ use Rattle.grammars.proofs.Listing.{groups_list, listing_group, listing_long, li
 use Rattle.lexemes.proofs.Along.{along_less}
 use Rattle.lexemes.proofs.Listed.{as_item, item_ahead, list_room}
 use native.Mathlib.Omega.{arith}
-use Prim.Native.Nat.{◌-◌}
 use Rattle.grammars.proofs.listed.listing_misfit.Goals as goal
 
 pub overflow_sub-close : goal.overflow_sub-close

@@ -1,7 +1,6 @@
 use Prim.Native.Nat.{min}
 use mathlib.Core.Path.{ap, ap₂, ◌∙◌}
 use Rattle.term_faults.specs.Faults.{term_fault}
-use borrow.Author.Rules.{rules}
 use Rattle.grammars.proofs.read.grammar_sorts.Goals as goal
 
 pub returns : goal.returns

@@ -1,6 +1,5 @@
 use Rattle.headers.proofs.PairsHeld.{pass_end, pass_few, pass_many, pass_other, pass_pair, pass_start, pass_turn}
 use Rattle.lexemes.proofs.Along.{along_less}
-use Prim.Native.Nat.{◌-◌}
 use native.Mathlib.Omega.{arith}
 use Rattle.headers.proofs.compare.pairs_differ.Goals as goal
 

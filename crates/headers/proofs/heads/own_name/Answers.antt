@@ -2,14 +2,6 @@ use Rattle.headers.proofs.HeadParts.{bytes_fit, head_room, word_fits}
 use Rattle.headers.proofs.Named.{name_here, own_fits, own_named, result-sort, sort_small}
 use native.Mathlib.Omega.{arith}
 use borrow.Author.Rules.{rules}
-use Rattle.headers.proofs.heads.own_name.Reads as reads
-use Rattle.headers.proofs.heads.own_name.Lts as lts
-use Rattle.headers.proofs.heads.own_row.Reads as own-row-reads
-use Rattle.lexemes.proofs.next_at.Reads as next-at-reads
-use Rattle.names.proofs.new.new_name.Reads as new-name-reads
-use Rattle.names.proofs.spelled.bytes_at.Reads as bytes-at-reads
-use Rattle.names.proofs.table.put_name.Reads as put-name-reads
-use Rattle.written_sorts.proofs.places.sort_of.Reads as sort-of-reads
 use Rattle.headers.proofs.heads.own_name.Goals as goal
 
 pub overflow_add-at : goal.overflow_add-at

@@ -1,5 +1,4 @@
 use Rattle.lexemes.proofs.Along.{count_start, count_turn, count_end, along_ahead, along_less, along_room}
-use Prim.Native.Nat.{◌-◌}
 use native.Mathlib.Omega.{arith}
 use Rattle.lexemes.proofs.items.count_items.Goals as goal
 

@@ -1,5 +1,5 @@
 use Rattle.lexemes.proofs.Along.{passed_end, passed_less, passed_start, passed_turn, to_pass}
-use Prim.Native.Nat.{◌+◌, ◌-◌, ◌≤◌}
+use Prim.Native.Nat.{◌+◌, ◌≤◌}
 use native.Mathlib.Omega.{arith}
 use Rattle.lexemes.proofs.items.item_at.Goals as goal
 

@@ -1,5 +1,4 @@
 use native.Mathlib.Omega.{arith}
-use Prim.Native.Nat.{◌-◌}
 use Rattle.lexemes.proofs.Filling.{filling_begins, filling_ends, filling_goes, row_room, word_end, word_start}
 use Rattle.lexemes.proofs.numbering.number_words.Goals as goal
 

@@ -1,9 +1,5 @@
 use Rattle.names.proofs.EarlierRows.{row_begins, row_found, row_none, row_turn}
 use native.Mathlib.Omega.{arith}
-use Prim.Native.Nat.{◌-◌}
-use Rattle.names.proofs.earlier.find_row.Reads as reads
-use Rattle.names.proofs.earlier.find_row.Lts as lts
-use Rattle.names.proofs.table.word_in.Reads as word-in-reads
 use Rattle.names.proofs.earlier.find_row.Goals as goal
 
 pub loop-k-init : goal.loop-k-init

@@ -1,8 +1,5 @@
 use Rattle.names.proofs.EarlierRows.{RowLeft}
 use Prim.Native.Nat.{◌-◌}
-use Rattle.names.proofs.earlier.find_row.Reads as reads
-use Rattle.names.proofs.earlier.find_row.Lts as lts
-use Rattle.names.proofs.table.word_in.Reads as word-in-reads
 use Rattle.names.proofs.earlier.find_row.Given as goal
 
 abbrev pub invariant-loop-k : goal.invariant-loop-k

@@ -1,9 +1,5 @@
 use Rattle.names.proofs.EarlierRows.{last_begins, last_ends, last_turn}
 use native.Mathlib.Omega.{arith}
-use Prim.Native.Nat.{◌-◌}
-use Rattle.names.proofs.earlier.last_of.Reads as reads
-use Rattle.names.proofs.earlier.last_of.Lts as lts
-use Rattle.names.proofs.earlier.later_of.Reads as later-of-reads
 use Rattle.names.proofs.earlier.last_of.Goals as goal
 
 pub loop-k-init : goal.loop-k-init

@@ -1,8 +1,5 @@
 use Rattle.names.proofs.EarlierRows.{LastLeft}
 use Prim.Native.Nat.{◌-◌}
-use Rattle.names.proofs.earlier.last_of.Reads as reads
-use Rattle.names.proofs.earlier.last_of.Lts as lts
-use Rattle.names.proofs.earlier.later_of.Reads as later-of-reads
 use Rattle.names.proofs.earlier.last_of.Given as goal
 
 abbrev pub invariant-loop-k : goal.invariant-loop-k

@@ -1,7 +1,4 @@
 use Rattle.names.proofs.EarlierRows.{last_of_parts}
-use Rattle.names.proofs.earlier.last_of_all.Reads as reads
-use Rattle.names.proofs.earlier.last_of_all.Lts as lts
-use Rattle.names.proofs.earlier.last_of.Reads as last-of-reads
 use Rattle.names.proofs.earlier.last_of_all.Goals as goal
 
 pub returns : goal.returns

@@ -1,7 +1,4 @@
 use Rattle.names.proofs.EarlierRows.{is_argument, is_listed, is_own}
-use Rattle.names.proofs.earlier.new_row.Reads as reads
-use Rattle.names.proofs.earlier.new_row.Lts as lts
-use Rattle.names.proofs.earlier.find_row.Reads as find-row-reads
 use Rattle.names.proofs.earlier.new_row.Goals as goal
 
 pub returns-then-itself-lt-ROWS : goal.returns-then-itself-lt-ROWS

@@ -1,4 +1,3 @@
-use Prim.Native.Nat.{◌-◌}
 use native.Mathlib.Omega.{arith}
 use Rattle.names.proofs.NodeTurns.{all_written, begins, node_here, turn}
 use Rattle.names.proofs.forms.write_forms.Goals as goal

@@ -1,4 +1,3 @@
-use Prim.Native.Nat.{◌-◌}
 use native.Mathlib.Omega.{arith}
 use Rattle.lexemes.proofs.Along.{along_less, along_room}
 use Rattle.names.proofs.PairTurns.{go_end, go_long, go_name, go_pair, go_room, go_start, go_turn}

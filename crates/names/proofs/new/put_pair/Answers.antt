@@ -1,11 +1,6 @@
 use Rattle.names.proofs.Pair.{bytes_fit, next_fits, pair_put, pair_room, sort_here, sort_small}
 use native.Mathlib.Omega.{arith}
 use borrow.Author.Rules.{rules}
-use Rattle.names.proofs.new.put_pair.Reads as reads
-use Rattle.names.proofs.new.put_pair.Lts as lts
-use Rattle.names.proofs.spelled.bytes_at.Reads as bytes-at-reads
-use Rattle.names.proofs.table.put_name.Reads as put-name-reads
-use Rattle.written_sorts.proofs.places.sort_of.Reads as sort-of-reads
 use Rattle.names.proofs.new.put_pair.Goals as goal
 
 pub overflow_add-at : goal.overflow_add-at

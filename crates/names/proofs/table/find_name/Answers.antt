@@ -1,4 +1,3 @@
-use Prim.Native.Nat.{◌-◌}
 use native.Mathlib.Omega.{arith}
 use Rattle.names.proofs.Names.{found, not_found, passed_by, unsearched}
 use Rattle.names.proofs.table.find_name.Goals as goal

@@ -2,10 +2,6 @@ use Rattle.forest.specs.Lists.{same_bytes}
 use mathlib.Core.Path.{ap, ◌∙◌}
 use mathlib.Core.List.{List}
 use Prim.Native.Nat.{ℕ}
-use Rattle.names.proofs.table.is_name.Reads as reads
-use Rattle.names.proofs.table.is_name.Lts as lts
-use Rattle.forest.proofs.search.same_bytes.Reads as same-bytes-reads
-use Rattle.names.proofs.table.name_in.Reads as name-in-reads
 use Rattle.names.proofs.table.is_name.Goals as goal
 
 pub returns : goal.returns

@@ -1,12 +1,9 @@
 use Rattle.names.proofs.Names.{name_byte, row_written, unwritten, written, zero_byte}
 use Rattle.names.specs.code.Table.{row_width}
 use native.Mathlib.Omega.{arith}
-use mathlib.Core.Logic.{⊎_elim}
 use lib.ListN.{length-set}
 use mathlib.Core.Path.{◌∙◌}
-use Prim.Native.Nat.{◌*◌, ◌-◌}
-use Rattle.names.proofs.table.put_name.Reads as reads
-use Rattle.names.proofs.table.put_name.Lts as lts
+use Prim.Native.Nat.{◌*◌}
 use Rattle.names.proofs.table.put_name.Goals as goal
 use Rattle.names.proofs.table.put_name.Goals.{else-k-word, then-k-word}
 

@@ -1,8 +1,6 @@
 use Rattle.names.proofs.Names.{Writing}
 use Rattle.names.specs.code.Table.{longest}
 use Prim.Native.Nat.{◌-◌}
-use Rattle.names.proofs.table.put_name.Reads as reads
-use Rattle.names.proofs.table.put_name.Lts as lts
 use Rattle.names.proofs.table.put_name.Given as goal
 
 abbrev pub invariant-loop-k : goal.invariant-loop-k

@@ -1,8 +1,6 @@
 use Rattle.names.specs.code.Table.{row_width}
 use Prim.Native.Nat.{◌+◌, ◌*◌}
 use native.Mathlib.Omega.{arith}
-use Rattle.names.proofs.table.word_in.Reads as reads
-use Rattle.names.proofs.table.word_in.Lts as lts
 use Rattle.names.proofs.table.word_in.Goals as goal
 
 pub overflow_cast-result : goal.overflow_cast-result

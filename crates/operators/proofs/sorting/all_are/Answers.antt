@@ -1,4 +1,4 @@
-use Rattle.std.proofs.Common.{◌-◌, refl, arith}
+use Rattle.std.proofs.Common.{refl, arith}
 use Rattle.operators.proofs.SortTests.{are_done, are_fails, are_turn}
 use Rattle.operators.proofs.sorting.all_are.Goals as goal
 

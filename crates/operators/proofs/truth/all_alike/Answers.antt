@@ -1,4 +1,4 @@
-use Rattle.std.proofs.Common.{◌-◌, arith}
+use Rattle.std.proofs.Common.{arith}
 use Rattle.operators.proofs.Many.{chain_broken, chain_done, chain_starts, chain_turn}
 use Rattle.operators.proofs.truth.all_alike.Goals as goal
 

@@ -1,4 +1,4 @@
-use Rattle.std.proofs.Common.{◌-◌, refl, arith}
+use Rattle.std.proofs.Common.{refl, arith}
 use Rattle.operators.proofs.Many.{pair_done, pair_fails, pair_turn}
 use Rattle.operators.proofs.truth.all_differ.Goals as goal
 

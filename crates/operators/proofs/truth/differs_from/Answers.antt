@@ -1,4 +1,4 @@
-use Rattle.std.proofs.Common.{◌-◌, refl, arith}
+use Rattle.std.proofs.Common.{refl, arith}
 use Rattle.operators.proofs.Many.{each_done, each_fails, each_turn}
 use Rattle.operators.proofs.truth.differs_from.Goals as goal
 

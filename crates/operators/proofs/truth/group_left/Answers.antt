@@ -1,4 +1,4 @@
-use Rattle.std.proofs.Common.{◌-◌, arith}
+use Rattle.std.proofs.Common.{arith}
 use Rattle.operators.proofs.Many.{left_done, left_starts, left_turn}
 use Rattle.operators.proofs.truth.group_left.Goals as goal
 

@@ -1,6 +1,5 @@
 use mathlib.Core.Bool.{not}
 use mathlib.Core.Path.{ap}
-use Prim.Native.Nat.{◌-◌}
 use native.Mathlib.Omega.{arith}
 use Rattle.runner.proofs.Runs.{bad_here, bad_later, bad_none, none_bad}
 use Rattle.runner.proofs.running.first_bad.Goals as goal

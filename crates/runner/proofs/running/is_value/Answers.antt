@@ -5,4 +5,4 @@ pub returns-then-sort-gt-MAX_WIDTH : goal.returns-then-sort-gt-MAX_WIDTH
 returns-then-sort-gt-MAX_WIDTH c = no_sort c.args.sort c.args.number c.if-sort-gt-MAX_WIDTH.true
 
 pub returns : goal.returns
-returns c = value_told c.args.sort c.args.number c.if-sort-gt-MAX_WIDTH.false c.fits2.ensures
+returns c = value_told c.args.sort c.args.number c.if-sort-gt-MAX_WIDTH.false c.fits.ensures

@@ -1,4 +1,3 @@
-use Prim.Native.Nat.{◌-◌}
 use native.Mathlib.Omega.{arith}
 use mathlib.Core.Path.{sym, ◌∙◌}
 use Rattle.runner.proofs.Runs.{not_alone, prepared, reached_none, step_done, step_refused, value_alone}

@@ -62,4 +62,4 @@ pub returns : goal.returns
 returns c =
     let given = c.args in
     let sorts = sorts_from given.names.now given.first given.arguments in
-    all_written c.loop-k.invariant (omega arith) ∙ row_written given.places.now sorts (signature_width * given.row) given.arguments given.result
+    all_written c.loop-k.invariant (omega arith) ∙ row_written given.places.now sorts (signature_width * given.row) given.arguments given.res

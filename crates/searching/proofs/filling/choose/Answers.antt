@@ -1,7 +1,6 @@
 use Rattle.searching.proofs.Uses.{search_start, search_rule, search_better, search_not, search_end}
 use native.Mathlib.Omega.{arith}
 use borrow.Author.Rules.{rules}
-use Prim.Native.Nat.{◌-◌}
 use Rattle.searching.proofs.filling.choose.Goals as goal
 
 pub loop-i-init : goal.loop-i-init

@@ -1,5 +1,4 @@
 use Rattle.searching.proofs.Uses.{Search}
-use borrow.Author.Rules.{rules}
 use Prim.Native.Nat.{◌-◌}
 use lib.ListN.{length}
 use Rattle.searching.proofs.filling.choose.Given as goal

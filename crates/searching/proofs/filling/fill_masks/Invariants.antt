@@ -1,4 +1,3 @@
-use borrow.Author.Rules.{rules}
 use Rattle.searching.proofs.Sweep.{Inv}
 use Rattle.searching.proofs.filling.fill_masks.Given as goal
 

@@ -1,4 +1,3 @@
-use Prim.Native.Nat.{◌-◌}
 use native.Mathlib.Omega.{arith}
 use Rattle.searching.proofs.Uses.{price_start, price_asks, price_chain, price_plain, price_nothing, price_end}
 use Rattle.searching.proofs.filling.price_rules.Goals as goal

@@ -1,5 +1,4 @@
 use Prim.Native.Nat.{◌-◌}
-use borrow.Author.Rules.{rules}
 use Rattle.searching.proofs.Uses.{Inv}
 use Rattle.searching.proofs.filling.price_rules.Given as goal
 

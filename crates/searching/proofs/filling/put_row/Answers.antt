@@ -1,5 +1,4 @@
 use Rattle.searching.proofs.Copying.{copied_start, copied_step, copied_end}
-use Prim.Native.Nat.{◌-◌}
 use native.Mathlib.Omega.{arith}
 use Rattle.searching.proofs.filling.put_row.Goals as goal
 

@@ -1,4 +1,3 @@
-use Prim.Native.Nat.{◌-◌}
 use native.Mathlib.Omega.{arith}
 use Rattle.searching.proofs.Members.{state_start, node_done, member_low, more_members, rule_small, state_step}
 use Rattle.searching.proofs.filling.settle.Goals as goal

@@ -1,5 +1,4 @@
 use Prim.Native.Nat.{◌-◌}
-use borrow.Author.Rules.{rules}
 use Rattle.derivation.proofs.Count.{cnt}
 use Rattle.searching.proofs.Members.{State}
 use Rattle.derivation.specs.code.Masks.{has}

@@ -1,6 +1,5 @@
 use mathlib.Core.Bool.{not}
 use mathlib.Core.Path.{ap}
-use Prim.Native.Nat.{◌-◌}
 use native.Mathlib.Omega.{arith}
 use Rattle.searching.proofs.RuleWalk.{end_small}
 use Rattle.searching.proofs.Pricing.{inv_start, miss_hole, miss_node, turn_end, turn_here, turn_hole, turn_low, turn_node, turn_over, turn_place}

@@ -1,5 +1,4 @@
 use Prim.Native.Nat.{◌-◌}
-use borrow.Author.Rules.{rules}
 use Rattle.searching.proofs.Pricing.{Inv}
 use Rattle.searching.proofs.matching.rank_of.Given as goal
 

@@ -1,7 +1,5 @@
-use Prim.Native.Nat.{ℕ, ◌<◌, ◌+◌, ◌-◌, ◌*◌}
 use native.Mathlib.Omega.{arith}
-use mathlib.Core.Path.{◌∙◌, subst}
-use lib.ListN.{length}
+use mathlib.Core.Path.{◌∙◌}
 use Rattle.searching.proofs.RuleWalk.{end_small}
 use Rattle.searching.proofs.Whole.{follow_pre, spread_pre, emit_post}
 use Rattle.searching.proofs.Track.{spread_start, spread_end, spread_place, spread_here, spread_over, spread_node, spread_after, spread_asks}
@@ -14,11 +12,10 @@ emit-follow-end-requires t c = follow_pre c.requires
 pub emit-spread-requires : goal.emit-spread-requires
 emit-spread-requires t c =
     let followed = c.follow-end.ensures (follow_pre c.requires) in
-    let less = subst (λ (x : ℕ). 2 * (length c.args.body.now - c.args.node) < x) c.requires.0 (omega arith) in
-    (less, spread_pre c.requires followed)
+    (omega arith, spread_pre c.requires followed)
 
 pub emit-shape_of-shown : goal.emit-shape_of-shown
-emit-shape_of-shown t c = c.spread.auto.1.1.1.1.1.1.0 ∙ c.follow-end.auto.1.1.1.1.1.0
+emit-shape_of-shown t c = c.spread.auto.shown ∙ c.follow-end.auto.shown
 
 pub emit-returns : goal.emit-returns
 emit-returns t c = λ e.
@@ -43,8 +40,7 @@ spread-emit-next-requires t c =
     let code = c.code_at.ensures in
     let hole = c.if-code_at-eq-NON_TERMINAL.true in
     let after = spread_after loop.invariant taken code hole in
-    let less = subst (λ (x : ℕ). 2 * (length c.args.body.now - loop.here) + 1 < x) c.requires.0 (omega arith) in
-    (less, spread_asks loop.invariant taken code hole c.value_at.ensures)
+    (omega arith, spread_asks loop.invariant taken code hole c.value_at.ensures)
 
 pub spread-overflow_add-here : goal.spread-overflow_add-here
 spread-overflow_add-here t c =
@@ -71,7 +67,7 @@ spread-loop-place-preserved-then-code_at-eq-NON_TERMINAL t c =
     c.loop-place-test.true
     c.code_at.ensures c.if-code_at-eq-NON_TERMINAL.true
     c.value_at.ensures c.emit-next.ensures c.size_at-here.ensures
-    c.emit-next.auto.1.1.1.1.1.1.0
+    c.emit-next.auto.shown
 
 pub spread-overflow_add-here-else-code_at-eq-NON_TERMINAL : goal.spread-overflow_add-here-else-code_at-eq-NON_TERMINAL
 spread-overflow_add-here-else-code_at-eq-NON_TERMINAL t c = omega (arith, spread_here c.loop-place.invariant c.loop-place-test.true)

@@ -1,5 +1,4 @@
 use Prim.Native.Nat.{◌+◌, ◌-◌, ◌*◌}
-use borrow.Author.Rules.{rules}
 use lib.ListN.{length}
 use Rattle.searching.proofs.Track.{Inv}
 use Rattle.searching.proofs.showing.+emit_spread.Given as goal
@@ -11,7 +10,7 @@ abbrev pub decreases-spread : goal.decreases-spread
 decreases-spread l = 2 * (length l.body.now - l.node)
 
 abbrev pub invariant-spread-loop-place : goal.invariant-spread-loop-place
-invariant-spread-loop-place l =     Inv l.rules l.forms l.body l.choices l.node l.rule l.initial.shown l.at l.end l.shown l.place l.here l.next
+invariant-spread-loop-place l = Inv l.rules l.forms l.body l.choices l.node l.rule l.initial.shown l.at l.end l.shown l.place l.here l.next
 
 abbrev pub decreases-spread-loop-place : goal.decreases-spread-loop-place
-decreases-spread-loop-place l =     l.end - l.place
+decreases-spread-loop-place l = l.end - l.place

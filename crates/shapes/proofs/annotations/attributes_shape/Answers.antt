@@ -1,4 +1,3 @@
-use Prim.Native.Nat.{◌-◌}
 use Rattle.shapes.proofs.Annotated.{attributes_end, attributes_less, attributes_miss, attributes_start, attributes_turn}
 use Rattle.shapes.proofs.annotations.attributes_shape.Goals as goal
 

@@ -1,6 +1,5 @@
 use Rattle.lexemes.proofs.Pending.{list_given}
 use Rattle.shapes.proofs.CarriedWalks.{uncarried_begin, uncarried_end, uncarried_enter, uncarried_found, uncarried_word}
-use Prim.Native.Nat.{◌-◌}
 use native.Mathlib.Omega.{arith}
 use Rattle.shapes.proofs.carried.any_uncarried.Goals as goal
 

@@ -1,5 +1,4 @@
 use Rattle.shapes.proofs.Every.{every_end, every_item, every_less, every_miss, every_start, every_turn}
-use Prim.Native.Nat.{◌-◌}
 use Rattle.shapes.proofs.sorts.all_pairs.Goals as goal
 
 pub loop-at-init : goal.loop-at-init

@@ -1,7 +1,6 @@
 use Rattle.lexemes.proofs.Listed.{as_item}
 use Rattle.lexemes.proofs.Pending.{list_given, skip_less}
 use Rattle.shapes.proofs.TermWalk.{terms_behind, terms_end, terms_keyword, terms_less, terms_miss, terms_skip, terms_start, terms_word}
-use Prim.Native.Nat.{◌-◌}
 use native.Mathlib.Omega.{arith}
 use Rattle.shapes.proofs.terms.term_shapes.Goals as goal
 

@@ -1,4 +1,3 @@
-use Prim.Native.Nat.{◌-◌}
 use Rattle.shapes.proofs.AnyOf.{any_end, any_found, any-item, any_less, any_start, any_turn}
 use Rattle.shapes.proofs.whole_rules.groups_uncarried.Goals as goal
 

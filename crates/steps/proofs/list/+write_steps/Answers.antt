@@ -1,32 +1,7 @@
-use Prim.Native.Nat.{◌-◌}
 use native.Mathlib.Omega.{arith}
 use Rattle.steps.proofs.Writing.{after_long, all_written, next_ends, next_within, none_written, one_written, operands_listable, operands_long}
 use Rattle.steps.proofs.Writing.{step_room}
 use Rattle.steps.proofs.list.+write_steps.Goals as goal
-
-pub +write-steps-spec : {M : Type 1} → statement M
-+write-steps-spec =
-  close
-  μ-write-steps
-  λ t.
-  write-steps-lts.spec
-  (calls t)
-  (write-steps-at t)
-  write-steps.Post
-  write-steps-Inv-loop
-  write-steps-μ-loop
-  (write-steps-loop-holds t)
-  (write-steps-size-at-requires t)
-  (write-steps-add-past t)
-  (write-steps-add-write-steps t)
-  (write-steps-write-steps-requires t)
-  (write-steps-step-of-requires t)
-  (write-steps-put-step-requires t)
-  (write-steps-add-place t)
-  (write-steps-loop-less t)
-  (write-steps-loop-again t)
-  (write-steps-same-length t)
-  (write-steps-returns t)
 
 pub loop-node-init : goal.loop-node-init
 loop-node-init t c = (omega arith, λ e. none_written e)
@@ -80,7 +55,7 @@ loop-node-preserved t c = (
   λ e. one_written e (c.loop-node.invariant.1 e)
       c.loop-node-test.true
       c.size_at.ensures
-      c.write_steps-place.ensures c.step_of_lem.ensures
+      c.write_steps-place.ensures c.step_of.ensures
       c.put_step.ensures,
 )
 

@@ -1,4 +1,3 @@
-use Prim.Native.Nat.{◌-◌}
 use native.Mathlib.Omega.{arith}
 use Rattle.steps.proofs.Uses.{none_here, none_uses, none_yet, one_uses}
 use Rattle.steps.proofs.list.uses_defined.Goals as goal

@@ -1,7 +1,6 @@
 use mathlib.Core.Path.{refl}
 use Rattle.term_faults.proofs.RulesLoop.{heads, passing_begins, passing_ends, passing_goes, root_here}
 use native.Mathlib.Omega.{arith}
-use Prim.Native.Nat.{◌-◌}
 use Rattle.term_faults.proofs.grammars.rules_misfit.Goals as goal
 
 pub loop-rule-init : goal.loop-rule-init

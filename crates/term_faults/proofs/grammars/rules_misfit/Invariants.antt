@@ -1,5 +1,4 @@
 use Rattle.term_faults.proofs.RulesLoop.{Passing}
-use borrow.Author.Rules.{rules}
 use Prim.Native.Nat.{◌-◌}
 use Rattle.term_faults.proofs.grammars.rules_misfit.Given as goal
 

@@ -1,5 +1,4 @@
 use Rattle.term_nodes.proofs.GatheringWalk.{walk_ahead, walk_begins, walk_closes, walk_ends, walk_goes, walk_term}
-use Prim.Native.Nat.{◌-◌}
 use native.Mathlib.Omega.{arith}
 use Rattle.term_nodes.proofs.gather.gather_terms.Goals as goal
 

@@ -1,4 +1,3 @@
-use Prim.Native.Nat.{◌-◌}
 use native.Mathlib.Omega.{arith}
 use Rattle.term_nodes.proofs.ConstantLimits.{look_begins, look_ends, look_goes}
 use Rattle.term_nodes.proofs.limits.constants_past.Goals as goal

@@ -1,9 +1,7 @@
-use mathlib.Core.Logic.{⊎_elim}
 use native.Mathlib.Omega.{arith}
-use Prim.Native.Nat.{◌-◌}
 use Rattle.term_nodes.proofs.PastLimit.{seek_begins, seek_counts, seek_ends, seek_finds, seek_skips}
 use Rattle.term_nodes.proofs.limits.node_past.Goals as goal
-use Rattle.term_nodes.proofs.limits.node_past.Goals.{else-head-at, then-head-at}
+use Rattle.term_nodes.proofs.limits.node_past.Goals.{else-head-at, then-head-at+else-counted-most}
 
 pub loop-node-init : goal.loop-node-init
 loop-node-init c = search seek_begins
@@ -21,7 +19,7 @@ pub loop-node-smaller : goal.loop-node-smaller
 loop-node-smaller c = omega arith
 
 pub loop-node-preserved : goal.loop-node-preserved
-loop-node-preserved c = elim c.if-head-at.branch [ then-head-at w ↦ search seek_counts | else-head-at w ↦ search seek_skips ]
+loop-node-preserved c = elim c.if-head-at.branch [ then-head-at+else-counted-most w ↦ search seek_counts | else-head-at w ↦ search seek_skips ]
 
 pub returns : goal.returns
 returns c = search seek_ends

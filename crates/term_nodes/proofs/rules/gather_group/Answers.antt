@@ -1,4 +1,3 @@
-use Prim.Native.Nat.{◌-◌}
 use Rattle.lexemes.proofs.Along.{along_less}
 use Rattle.term_nodes.proofs.Onward.{raw_kept, rules_kept}
 use Rattle.term_nodes.proofs.RuleLoop.{rule_next, rules_end, rules_start, rules_turn}

@@ -1,4 +1,3 @@
-use Prim.Native.Nat.{◌-◌}
 use native.Mathlib.Omega.{arith}
 use Rattle.lexemes.proofs.Along.{along_less, along_room}
 use Rattle.term_nodes.proofs.Onward.{raw_kept, rules_kept}

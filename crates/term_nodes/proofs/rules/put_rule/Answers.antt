@@ -3,7 +3,6 @@ use Rattle.derivation.specs.code.Rules.{rule_width}
 use Rattle.term_nodes.proofs.OneRule.{row_written}
 use lib.ListN.{length-set}
 use native.Mathlib.Omega.{arith}
-use borrow.Author.Rules.{rules}
 use Rattle.term_nodes.proofs.rules.put_rule.Goals as goal
 
 pub bounds-rules-row-2 : goal.bounds-rules-row-2

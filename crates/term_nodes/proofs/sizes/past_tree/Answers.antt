@@ -1,5 +1,4 @@
 use native.Mathlib.Omega.{arith}
-use Prim.Native.Nat.{◌-◌}
 use Rattle.term_nodes.proofs.Counting.{node_fits, passes_begins, passes_ends, passes_goes, step_fits}
 use Rattle.term_nodes.proofs.sizes.past_tree.Goals as goal
 

@@ -1,4 +1,3 @@
-use Prim.Native.Nat.{◌-◌}
 use Rattle.term_nodes.proofs.RuleWeights.{weigh_end, weigh_item, weigh_less, weigh_start, weigh_turn}
 use Rattle.term_nodes.proofs.weights.attributes_past.Goals as goal
 

@@ -1,5 +1,4 @@
 use Rattle.term_sorts.proofs.Arguments.{fitting_begins, fitting_ends, fitting_fails, fitting_few, fitting_goes, fitting_room, fitting_some}
-use Prim.Native.Nat.{◌-◌}
 use native.Mathlib.Omega.{arith}
 use Rattle.term_sorts.proofs.calls.arguments_fit.Goals as goal
 

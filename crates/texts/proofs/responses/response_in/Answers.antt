@@ -20,12 +20,12 @@ overflow_mul-count c =
 pub slice_bounds-read_response-end : goal.slice_bounds-read_response-end
 slice_bounds-read_response-end c =
     let w = worded_in refl c.read_lexemes-reading.ensures c.number_of.ensures c.if-number_of-ne0.false c.passed_of-count.ensures in
-    omega (arith, c.read_lexemes-reading.auto.1.1.0, c.requires.row_each.room _ w.few w.short)
+    omega (arith, c.read_lexemes-reading.auto.lexemes, c.requires.row_each.room _ w.few w.short)
 
 pub slice_bounds-read_response-end-2 : goal.slice_bounds-read_response-end-2
 slice_bounds-read_response-end-2 c =
     let w = worded_in refl c.read_lexemes-reading.ensures c.number_of.ensures c.if-number_of-ne0.false c.passed_of-count.ensures in
-    simp length-take (omega (arith, c.read_lexemes-reading.auto.1.1.0, c.requires.row_each.room _ w.few w.short))
+    simp length-take (omega (arith, c.read_lexemes-reading.auto.lexemes, c.requires.row_each.room _ w.few w.short))
 
 pub read_response-verdict-requires : goal.read_response-verdict-requires
 read_response-verdict-requires c =

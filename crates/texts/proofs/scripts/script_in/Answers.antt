@@ -20,12 +20,12 @@ overflow_mul-count c =
 pub slice_bounds-read_script-end : goal.slice_bounds-read_script-end
 slice_bounds-read_script-end c =
     let w = worded_in c.script_limits.ensures c.read_lexemes-reading.ensures c.number_of.ensures c.if-number_of-ne0.false c.passed_of-count.ensures in
-    omega (arith, c.read_lexemes-reading.auto.1.1.0, c.requires.row_each.room _ w.few w.short)
+    omega (arith, c.read_lexemes-reading.auto.lexemes, c.requires.row_each.room _ w.few w.short)
 
 pub slice_bounds-read_script-end-2 : goal.slice_bounds-read_script-end-2
 slice_bounds-read_script-end-2 c =
     let w = worded_in c.script_limits.ensures c.read_lexemes-reading.ensures c.number_of.ensures c.if-number_of-ne0.false c.passed_of-count.ensures in
-    simp length-take (omega (arith, c.read_lexemes-reading.auto.1.1.0, c.requires.row_each.room _ w.few w.short))
+    simp length-take (omega (arith, c.read_lexemes-reading.auto.lexemes, c.requires.row_each.room _ w.few w.short))
 
 pub read_script-step-requires : goal.read_script-step-requires
 read_script-step-requires c =
@@ -38,7 +38,7 @@ step_in-requires c =
     placed w
 
 pub shape_of-lexemes : goal.shape_of-lexemes
-shape_of-lexemes c = c.read_lexemes-reading.auto.1.1.0
+shape_of-lexemes c = c.read_lexemes-reading.auto.lexemes
 
 pub returns : goal.returns
 returns c =

@@ -4,7 +4,7 @@ use Rattle.verdicts.proofs.DeriveTurns.{Going}
 use Rattle.verdicts.proofs.derive.derive_all.Given as goal
 
 abbrev pub invariant-loop-function : goal.invariant-loop-function
-invariant-loop-function l =     (q : Derivable l.places l.nodes l.forms l.progress l.initial.shown l.initial.totals) → Going q l.shown l.totals l.function
+invariant-loop-function l = (q : Derivable l.places l.nodes l.forms l.progress l.initial.shown l.initial.totals) → Going q l.shown l.totals l.function
 
 abbrev pub decreases-loop-function : goal.decreases-loop-function
 decreases-loop-function l = l.progress.functions - l.function

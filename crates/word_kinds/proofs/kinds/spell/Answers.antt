@@ -1,5 +1,4 @@
 use native.Mathlib.Nat.{pow-zero}
-use Prim.Native.Nat.{◌-◌}
 use native.Mathlib.Omega.{arith}
 use mathlib.Core.Path.{refl}
 use Rattle.word_kinds.proofs.Digits.{below_goes, spell_add, spell_ends, spell_goes, spell_more, spell_mul}

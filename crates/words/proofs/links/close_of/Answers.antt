@@ -1,4 +1,3 @@
-use Prim.Native.Nat.{◌-◌}
 use Rattle.words.proofs.Chains.{inside_begins, inside_closes, inside_ends, inside_goes, inside_less}
 use Rattle.words.proofs.links.close_of.Goals as goal
 

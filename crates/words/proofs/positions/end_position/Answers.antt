@@ -1,6 +1,4 @@
 use Rattle.words.proofs.Lines.{count_begins, count_byte, count_ends, count_line}
-use Prim.Native.Nat.{◌-◌}
-use mathlib.Core.Logic.{⊎_elim}
 use native.Mathlib.Omega.{arith}
 use Rattle.words.proofs.positions.end_position.Goals as goal
 use Rattle.words.proofs.positions.end_position.Goals.{else-text-i-eq-LINE_END, then-text-i-eq-LINE_END}

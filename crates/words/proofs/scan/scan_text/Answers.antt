@@ -1,4 +1,3 @@
-use Prim.Native.Nat.{◌-◌}
 use native.Mathlib.Omega.{arith}
 use Rattle.words.proofs.Offsets.{end_past, end_within, next_less}
 use Rattle.words.proofs.ScanTurns.{scan_begins, scan_ends, scan_goes, scan_stops, word_fits}

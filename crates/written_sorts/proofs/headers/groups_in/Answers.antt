@@ -3,7 +3,6 @@ use Rattle.written_sorts.proofs.Least.{seek_end, seek_item, seek_start, seek_tur
 use Rattle.lexemes.proofs.Along.{along_less}
 use Rattle.lexemes.proofs.Listed.{item_ahead, item_room}
 use native.Mathlib.Omega.{arith}
-use Prim.Native.Nat.{◌-◌}
 use Rattle.written_sorts.proofs.headers.groups_in.Goals as goal
 
 pub overflow_sub-close : goal.overflow_sub-close

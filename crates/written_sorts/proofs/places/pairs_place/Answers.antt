@@ -2,7 +2,6 @@ use Rattle.written_sorts.proofs.PairParts.{pair_place_lem, pair_sort}
 use Rattle.written_sorts.proofs.Least.{seek_end, seek_item, seek_start, seek_turn}
 use Rattle.lexemes.proofs.Along.{along_less, along_room}
 use native.Mathlib.Omega.{arith}
-use Prim.Native.Nat.{◌-◌}
 use Rattle.written_sorts.proofs.places.pairs_place.Goals as goal
 
 pub loop-at-init : goal.loop-at-init
