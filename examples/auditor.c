@@ -1,6 +1,6 @@
 /* Checks an evidence file, and prints the verdict: auditor FILE. It needs the check alone, which has no search in it:
 
-     rt staticlib auditing
+     tools/staticlib auditing
      tools/link target/auditor examples/auditor.c target/staticlib/libauditing.a
      tools/run target/auditor examples/swap.evidence
 

@@ -7,7 +7,7 @@
    1.59 MiB; sverdhyll_read, which evaluates nothing, and sverdhyll_run take less. A thread of 2 MiB suffices for each call; one of 1 MiB does not for every input,
    and a call that needs more than there is ends the program.
 
-   Which static library has which function (`rt staticlib NAME` makes target/staticlib/libNAME.a; link one of them):
+   Which static library has which function (`tools/staticlib NAME` makes target/staticlib/libNAME.a; link one of them):
 
      libchecker.a   sverdhyll_answer, sverdhyll_check, sverdhyll_read, sverdhyll_word, sverdhyll_position, sverdhyll_steps, sverdhyll_run,
                     sverdhyll_write_evidence, sverdhyll_check_evidence

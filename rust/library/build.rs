@@ -23,7 +23,7 @@ fn main() {
             "cargo:rustc-env=SVERDHYLL_LIBRARY={}",
             digest::sha256(&bytes)
         ),
-        Err(error) => panic!("{library}: {error}; ./sverdhyll or rt staticlib checker makes it"),
+        Err(error) => panic!("{library}: {error}; ./sverdhyll or tools/staticlib checker makes it"),
     }
     println!("cargo:rustc-link-search=native={here}/../../target/staticlib");
     println!("cargo:rustc-link-lib=static:-bundle=checker");

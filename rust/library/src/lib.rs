@@ -21,7 +21,7 @@
 //! # Ok::<(), std::io::Error>(())
 //! ```
 //!
-//! A package elsewhere uses it by its path, once `./sverdhyll` or `rt staticlib checker` has made the static library in this tree:
+//! A package elsewhere uses it by its path, once `./sverdhyll` or `tools/staticlib checker` has made the static library in this tree:
 //!
 //! ```toml
 //! [dependencies]
