@@ -1,8 +1,8 @@
-use Rattle.std.proofs.Common.{◌-◌, length, sym, arith, length-set, length-take-le, ltb-true}
+use Rattle.std.proofs.Common.{◌-◌, length, sym, arith, length-set, length-take-le}
 use Rattle.test_report.proofs.hex.decode.Goals as goal
 
 pub loop-i-preserved : goal.loop-i-preserved
-loop-i-preserved c = (simp length-set (omega (arith, ltb-true c.loop-i.i (length c.loop-i.bytes) c.if-i-bytes.true)), simp length-set (omega arith))
+loop-i-preserved c = (simp length-set (omega (arith, c.if-i-bytes.true)), simp length-set (omega arith))
 
 pub returns-else-i-bytes : goal.returns-else-i-bytes
 returns-else-i-bytes c = (omega arith, sym (length-take-le _ _ (omega arith)))

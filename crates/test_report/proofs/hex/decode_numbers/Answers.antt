@@ -1,12 +1,12 @@
-use Rattle.std.proofs.Common.{◌-◌, length, sym, arith, length-set, length-take-le, ltb-true}
+use Rattle.std.proofs.Common.{◌-◌, length, sym, arith, length-set, length-take-le}
 use Rattle.test_report.proofs.hex.decode_numbers.Goals as goal
 
 pub loop-at-smaller : goal.loop-at-smaller
-loop-at-smaller c = omega (arith, ltb-true c.loop-at.i (length c.loop-at.numbers) c.if-i-numbers.true)
+loop-at-smaller c = omega (arith, c.if-i-numbers.true)
 
 pub loop-at-preserved : goal.loop-at-preserved
 loop-at-preserved c =
-    (omega arith, (simp length-set (omega (arith, ltb-true c.loop-at.i (length c.loop-at.numbers) c.if-i-numbers.true)), simp length-set (omega arith)))
+    (omega arith, (simp length-set (omega (arith, c.if-i-numbers.true)), simp length-set (omega arith)))
 
 pub returns-else-i-numbers : goal.returns-else-i-numbers
 returns-else-i-numbers c = (omega arith, sym (length-take-le _ _ (omega arith)))
