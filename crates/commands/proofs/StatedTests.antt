@@ -7,7 +7,7 @@ use mathlib.Core.Bool.{Bool, true, false, cond}
 use mathlib.Core.List.{List}
 use lib.Dec.{eqb}
 use lib.ListN.{drop, length, set}
-use lib.Seq.{drop-set-lt, length-sets, sets}
+use lib.Seq.{drop-set-lt, length-sets}
 use borrow.Author.Tests.{eqb-true}
 use Rattle.forest.specs.Forest.{count, join, nodes_of}
 use Rattle.forest.specs.Lists.{same_bytes}

@@ -24,7 +24,7 @@ use Rattle.script.specs.declared.Verdict.{Verdict}
 use Rattle.script.proofs.Answered.{body_held, body_places, grammars_kept, node_put, offset_put, other_place}
 use Rattle.script.proofs.OneTermMore.{Grown, stands_wider, term_stands}
 use Rattle.script.proofs.TermsOfForms.{term_plain, term_size, term_table, term_tree}
-use Rattle.script.specs.Response.{Answered, judged_body, refused, response_view, with_body}
+use Rattle.script.specs.Response.{Answered, judged_body, response_view, with_body}
 use Rattle.response.specs.code.Responding.{OneMore}
 use Rattle.response.specs.code.Functions.{Answering, Comparing, Matched, Taken, body_of, matched}
 use Rattle.response.specs.code.Outlines.{ListIn, Outlined, body_at, outlined}

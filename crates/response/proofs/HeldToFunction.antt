@@ -10,7 +10,7 @@ use borrow.Author.Tests.{le-ltb, lt-ltb}
 use Rattle.forest.specs.Forest.{Node, nodes_of}
 use Rattle.forest.specs.code.Cursors.{size}
 use Rattle.forest.specs.code.Rows.{number_at}
-use Rattle.words.specs.Trees.{Lexeme, list}
+use Rattle.words.specs.Trees.{Lexeme}
 use Rattle.lexemes.specs.Lists.{Items, inside, item}
 use Rattle.lexemes.specs.code.Standing.{ListAt, Stands}
 use Rattle.lexemes.proofs.Listed.{as_item}

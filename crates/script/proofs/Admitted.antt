@@ -5,7 +5,7 @@ use mathlib.Core.List.{List, [], ◌∷◌}
 use mathlib.Core.Option.{some}
 use mathlib.Core.Path.{◌≡◌}
 use lib.ListN.{get_or, length, length-map}
-use Rattle.forest.specs.Forest.{Forest, count, join, none, tree}
+use Rattle.forest.specs.Forest.{Forest, join, none, tree}
 use Rattle.forest.specs.Limits.{most_nodes, most_non_terminals, most_rules}
 use Rattle.derivation.specs.Derivation.{Grammar, Item, any_argument, any_literal, form_of, head_of, most_weight, non_terminal, the, weight_of}
 use Rattle.derivation.specs.Sorts.{FormScope, form_sorts}

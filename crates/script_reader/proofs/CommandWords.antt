@@ -5,7 +5,7 @@ use mathlib.Core.List.{List}
 use mathlib.Core.Path.{◌≡◌, refl, sym, ap, ◌∙◌}
 use lib.Dec.{eqb}
 use Rattle.forest.specs.Limits.{script_words}
-use Rattle.lexemes.specs.Lists.{after, close_of, is}
+use Rattle.lexemes.specs.Lists.{after, close_of}
 use Rattle.lexemes.specs.code.Table.{code_at, next_at}
 use Rattle.lexemes.specs.code.Standing.{ListAt}
 use Rattle.lexemes.specs.code.Codes.{assume_code, check_synth_code, constraint_code, declare_var_code, define_fun_code, set_feature_code, set_logic_code, synth_fun_code}

@@ -13,7 +13,7 @@ use Rattle.lexemes.specs.Lists.{Items}
 use Rattle.lexemes.specs.code.Table.{code_at, next_at, open_code}
 use Rattle.lexemes.specs.code.Standing.{ItemAt, Stands}
 use Rattle.lexemes.proofs.Listed.{at_item, is-list, item_ahead, list_from, no_list}
-use Rattle.lexemes.proofs.Standing.{forward, here, none_left, some_left}
+use Rattle.lexemes.proofs.Standing.{forward, none_left, some_left}
 use Rattle.term_nodes.proofs.TermWords.{first_of}
 use Rattle.terms.specs.code.Nodes.{AllPlain, node_table}
 use Rattle.evaluation.specs.code.Tables.{BodiesAt}

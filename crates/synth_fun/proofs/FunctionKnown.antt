@@ -7,7 +7,7 @@ use lib.ListN.{length}
 use Rattle.words.specs.Trees.{word_of}
 use Rattle.lexemes.specs.Lists.{Items, inside, is, item, name_of}
 use Rattle.written_sorts.specs.Written.{sort_of}
-use Rattle.names.specs.Scopes.{Function, named_sorts}
+use Rattle.names.specs.Scopes.{Function}
 use Rattle.names.specs.New.{named_by}
 use Rattle.grammars.specs.Grammars.{grammar_in}
 use Rattle.script.specs.Script.{Known, arguments_of, known_after, view_of}

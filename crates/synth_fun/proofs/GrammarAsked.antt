@@ -1,21 +1,19 @@
 -- The grammar of a `synth-fun` without a fault in its sorts and in what it lists, in the tables: which of its non-terminals derive a term may be asked.
-use Prim.Native.Nat.{ℕ, ◌+◌, ◌-◌, ◌*◌, ◌≤◌, ◌<◌, min}
+use Prim.Native.Nat.{ℕ, ◌+◌, ◌-◌, ◌*◌, ◌≤◌}
 use native.Mathlib.Omega.{arith}
 use mathlib.Core.List.{List}
 use mathlib.Core.Path.{◌≡◌, sym, ap, ◌∙◌, subst}
-use lib.ListN.{drop, length, take}
-use Rattle.forest.specs.Limits.{most_non_terminals, most_rules}
+use lib.ListN.{drop, take}
 use Rattle.derivation.specs.Productive.{productive}
 use Rattle.derivation.specs.code.Admitted.{Admitted}
 use Rattle.derivation.specs.code.Productive.{AsksDead, FindsDead}
 use Rattle.terms.specs.code.Nodes.{row_width as nodeWidth}
-use Rattle.lexemes.specs.Lists.{Items, inside}
-use Rattle.names.specs.Scopes.{View}
+use Rattle.lexemes.specs.Lists.{inside}
 use Rattle.names.proofs.PairNames.{named_long}
 use Rattle.term_nodes.specs.declared.Gathered.{Gathered}
 use Rattle.grammars.specs.Grammars.{dead_place, grammar_in, listed_misfit}
 use Rattle.grammars.specs.Listing.{dead_misfit}
-use Rattle.script.specs.Script.{Known, view_of}
+use Rattle.script.specs.Script.{view_of}
 use Rattle.script.specs.code.Signatures.{Listed}
 use Rattle.script.specs.declared.Progress.{Progress}
 use Rattle.script.proofs.Admitted.{grammar_admitted}
@@ -23,7 +21,6 @@ use Rattle.script.proofs.TableParts.{part_whole}
 use Rattle.script.proofs.WordsBelow.{command_below, command_word}
 use Rattle.synth_fun.specs.code.Rows.{Put}
 use Rattle.synth_fun.specs.code.SortTests.{Deriving, Unsorted}
-use Rattle.synth_fun.specs.code.Synthesizing.{forms_said, ruled_by}
 use Rattle.synth_fun.specs.declared.Header.{Header}
 use Rattle.synth_fun.proofs.FunctionHeld.{arguments_counted, forms_grammar, places_long, rules_counted, rules_grammar, sorts_grammar}
 use Rattle.synth_fun.proofs.SortsSought.{forms_room, limits}

@@ -6,8 +6,7 @@ use mathlib.Core.Path.{◌≡◌, refl, sym, ap, ap₂, ◌∙◌, subst}
 use mathlib.Core.List.{List, [], ◌∷◌, ◌++◌, append_assoc}
 use lib.ListN.{drop, get_or, length, length-drop, length-map, take}
 use lib.Seq.{drop_at, drop-drop, length-sets, length-take-le, sets, sets-eq, take_all}
-use Rattle.forest.specs.Forest.{Node, count, nodes_of, none, tree}
-use Rattle.operators.specs.Sorts.{max_width}
+use Rattle.forest.specs.Forest.{Node, count, nodes_of}
 use Rattle.terms.specs.code.Nodes.{row_width as nodeWidth}
 use Rattle.term_sorts.specs.code.Forms.{sort_column}
 use Rattle.term_sorts.specs.code.Signatures.{RowsAre, SortsAre, non_terminal_signature}
@@ -20,7 +19,6 @@ use Rattle.names.specs.code.Lookup.{source_of}
 use Rattle.names.specs.code.Table.{non_terminal_row, sort_in, sorts_from}
 use Rattle.names.specs.Unknown.{unknown_in}
 use Rattle.names.specs.New.{named_by, new_pairs}
-use Rattle.names.specs.code.New.{AllNarrow}
 use Rattle.written_sorts.specs.code.Headers.{HeaderAt}
 use Rattle.written_sorts.specs.Written.{grammar_sorts, header_place}
 use Rattle.written_sorts.specs.declared.Fault.TheVariants.{Empty, Unknown}

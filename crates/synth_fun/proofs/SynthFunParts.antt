@@ -1,5 +1,5 @@
 -- A `synth-fun` that stands in a text: its parts, its tests by themselves, and what it keeps to within its limits.
-use Prim.Native.Nat.{ℕ, ◌+◌, ◌-◌, ◌≤◌, ◌<◌, min}
+use Prim.Native.Nat.{ℕ, ◌+◌, ◌≤◌, ◌<◌, min}
 use native.Mathlib.Omega.{arith}
 use mathlib.Core.Path.{◌≡◌, refl, sym, ◌∙◌}
 use mathlib.Core.Bool.{true}
@@ -11,7 +11,7 @@ use Rattle.forest.specs.Forest.{count}
 use Rattle.forest.specs.code.Cursors.{size}
 use Rattle.forest.proofs.Bools.{and_right}
 use Rattle.operators.specs.Sorts.{max_width}
-use Rattle.lexemes.specs.Lists.{Items, inside, is, is_list, is_symbol, item, name_of}
+use Rattle.lexemes.specs.Lists.{Items, inside, is_list, is_symbol, item, name_of}
 use Rattle.lexemes.specs.code.Table.{code_of, next_at}
 use Rattle.lexemes.proofs.ByCode.{code_for, symbol-code, word_code}
 use Rattle.lexemes.proofs.Standing.{forward, here}

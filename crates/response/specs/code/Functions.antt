@@ -5,7 +5,7 @@ use Rattle.forest.specs.Forest.{tree}
 use Rattle.words.specs.Trees.{list, word_of}
 use Rattle.terms.specs.code.Nodes.{row_width as nodeWidth}
 use Rattle.derivation.specs.code.Tables.{form_table}
-use Rattle.lexemes.specs.Lists.{Items, inside, is, item}
+use Rattle.lexemes.specs.Lists.{Items, inside, item}
 use Rattle.lexemes.specs.code.Table.{next_at}
 use Rattle.term_nodes.specs.Terms.{raw_term}
 use Rattle.names.specs.Scopes.{Defined, Function, forms_of}

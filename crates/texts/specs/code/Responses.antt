@@ -9,7 +9,7 @@ use Rattle.script.specs.code.Places.{functions_place}
 use Rattle.script.specs.declared.Progress.{Progress}
 use Rattle.script.specs.declared.Verdict.{Verdict}
 use Rattle.response.specs.code.Answers.{BodiesHeld}
-use Rattle.script.specs.Outcome.{ResponseOutcome, faulty, given, response_within}
+use Rattle.script.specs.Outcome.{ResponseOutcome, given, response_within}
 
 -- The tables hold what a script says, and there is a row for each word that a response can have within limits, among the nodes behind those of the script; the
 -- limits allow no more words than document 01.

@@ -6,7 +6,7 @@ use Rattle.names.specs.code.Lookup.{Names}
 use Rattle.script.specs.code.Tables.{TablesHold}
 use Rattle.script.specs.code.Places.{places_length}
 use Rattle.script_reader.specs.declared.Step.{Step}
-use Rattle.script.specs.Outcome.{ScriptOutcome, faulty, offset_of, said, script_outcome, second_of}
+use Rattle.script.specs.Outcome.{ScriptOutcome, offset_of, said, script_outcome, second_of}
 use Rattle.words.specs.Limits.{script_limits}
 use Rattle.texts.specs.code.Texts.{RowEach}
 

@@ -2,11 +2,6 @@ use Rattle.commands.proofs.VariablePut.{bytes_fit, sort_small, variable_added, w
 use Rattle.commands.proofs.VariableItems.{sort_here, sort_room}
 use native.Mathlib.Omega.{arith}
 use borrow.Author.Rules.{rules}
-use Rattle.commands.proofs.declare_var.add_variable.Reads as reads
-use Rattle.commands.proofs.declare_var.add_variable.Lts as lts
-use Rattle.names.proofs.spelled.bytes_at.Reads as bytes-at-reads
-use Rattle.names.proofs.table.put_name.Reads as put-name-reads
-use Rattle.written_sorts.proofs.places.sort_of.Reads as sort-of-reads
 use Rattle.commands.proofs.declare_var.add_variable.Goals as goal
 
 pub overflow_add-at : goal.overflow_add-at

@@ -1,13 +1,6 @@
 use Rattle.commands.proofs.VariableTests.{adding, name_faulty, passes, past_limit, sort_faulty}
 use Rattle.commands.proofs.VariableItems.{sort_here, sort_room, variable_here}
 use native.Mathlib.Omega.{arith}
-use Rattle.commands.proofs.declare_var.declare_var.Reads as reads
-use Rattle.commands.proofs.declare_var.declare_var.Lts as lts
-use Rattle.commands.proofs.declare_var.add_variable.Reads as add-variable-reads
-use Rattle.commands.proofs.declare_var.limit_place.Reads as limit-place-reads
-use Rattle.commands.proofs.declare_var.name_place.Reads as name-place-reads
-use Rattle.script.proofs.answers.verdict.Reads as verdict-reads
-use Rattle.written_sorts.proofs.places.sort_place.Reads as sort-place-reads
 use Rattle.commands.proofs.declare_var.declare_var.Goals as goal
 
 pub limit_place-limit-requires : goal.limit_place-limit-requires

@@ -1,7 +1,6 @@
 use Rattle.response.proofs.ItemRead.{base_room}
 use Rattle.response.proofs.ListRead.{first_ahead, going_start, going_turn, item_asked, item_less, item_low, item_stops, list_short, list_whole}
 use Rattle.response.proofs.ListRead.{more_behind}
-use Prim.Native.Nat.{◌-◌}
 use borrow.Author.Rules.{rules}
 use native.Mathlib.Omega.{arith}
 use Rattle.response.proofs.answers.read_list.Goals as goal

@@ -1,6 +1,6 @@
 use Rattle.names.specs.code.Table.{sorts_from}
 use Rattle.term_sorts.specs.code.Signatures.{signature_width}
-use Prim.Native.Nat.{◌*◌, ◌-◌}
+use Prim.Native.Nat.{◌*◌}
 use mathlib.Core.Path.{◌∙◌}
 use lib.ListN.{length-set}
 use native.Mathlib.Omega.{arith}

@@ -1,4 +1,3 @@
-use Prim.Native.Nat.{◌-◌}
 use native.Mathlib.Omega.{arith}
 use Rattle.script.proofs.SortsPut.{all_sorted, sort_put, sort_signing, unsorted}
 use Rattle.script.proofs.signatures.put_sorts.Goals as goal

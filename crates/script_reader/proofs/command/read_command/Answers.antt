@@ -1,15 +1,5 @@
 use Rattle.script_reader.proofs.CommandReading.{few_after, in_shape, read_misplaced, read_tested, read_uncarried, refused_here, word_near}
 use native.Mathlib.Omega.{arith}
-use Rattle.script_reader.proofs.command.read_command.Reads as reads
-use Rattle.script_reader.proofs.command.read_command.Lts as lts
-use Rattle.lexemes.proofs.code_at.Reads as code-at-reads
-use Rattle.script_reader.proofs.command.test_command.Reads as test-command-reads
-use Rattle.script_reader.proofs.progress.answer.Reads as answer-reads
-use Rattle.script_reader.proofs.progress.out_of_place.Reads as out-of-place-reads
-use Rattle.script_reader.proofs.progress.step_by.Reads as step-by-reads
-use Rattle.script_reader.proofs.taken.second_of.Reads as second-of-reads
-use Rattle.shapes.proofs.carried.not_carried.Reads as not-carried-reads
-use Rattle.shapes.proofs.commands.command_shape.Reads as command-shape-reads
 use Rattle.script_reader.proofs.command.read_command.Goals as goal
 
 pub returns-then-not_carried : goal.returns-then-not_carried

@@ -1,9 +1,5 @@
 use Rattle.script_reader.specs.declared.Step.{Step}
 use mathlib.Core.Path.{ap, sym, ◌∙◌}
-use Rattle.script_reader.proofs.progress.step_by.Reads as reads
-use Rattle.script_reader.proofs.progress.step_by.Lts as lts
-use Rattle.script_reader.proofs.progress.answer.Reads as answer-reads
-use Rattle.script_reader.proofs.progress.said.Reads as said-reads
 use Rattle.script_reader.proofs.progress.step_by.Goals as goal
 
 pub returns-then-verdict-ne0 : goal.returns-then-verdict-ne0

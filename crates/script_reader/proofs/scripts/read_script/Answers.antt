@@ -1,5 +1,4 @@
 use mathlib.Core.Path.{◌∙◌}
-use Prim.Native.Nat.{◌-◌}
 use Rattle.script_reader.proofs.ScriptWalk.{command_at, walk_end, walk_less, walk_start, walk_stop, walk_turn, walk_word}
 use Rattle.script_reader.proofs.scripts.read_script.Goals as goal
 

@@ -1,10 +1,6 @@
 use Rattle.lexemes.proofs.Listed.{list_room}
 use Rattle.headers.proofs.HeadParts.{arguments_ahead, arguments_room, items_between}
 use native.Mathlib.Omega.{arith}
-use Rattle.script_reader.proofs.taken.arguments_in.Reads as reads
-use Rattle.script_reader.proofs.taken.arguments_in.Lts as lts
-use Rattle.lexemes.proofs.items.count_items.Reads as count-items-reads
-use Rattle.lexemes.proofs.next_at.Reads as next-at-reads
 use Rattle.script_reader.proofs.taken.arguments_in.Goals as goal
 
 pub overflow_add-at : goal.overflow_add-at

@@ -1,13 +1,6 @@
 use Rattle.script_reader.proofs.TakenByCode.{no_place, variable_listed, variable_place, word_low}
 use Rattle.script_reader.proofs.TakenByCode.{definition_header, definition_listed, definition_place, function_at, function_listed, function_place}
 use native.Mathlib.Omega.{arith}
-use Rattle.script_reader.proofs.taken.taken_place.Reads as reads
-use Rattle.script_reader.proofs.taken.taken_place.Lts as lts
-use Rattle.lexemes.proofs.code_at.Reads as code-at-reads
-use Rattle.names.proofs.earlier.earlier_place.Reads as earlier-place-reads
-use Rattle.script_reader.proofs.taken.arguments_in.Reads as arguments-in-reads
-use Rattle.script_reader.proofs.taken.scope_within.Reads as scope-within-reads
-use Rattle.synth_fun.proofs.name_tests.header_of.Reads as header-of-reads
 use Rattle.script_reader.proofs.taken.taken_place.Goals as goal
 
 pub overflow_add-command : goal.overflow_add-command
