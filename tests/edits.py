@@ -164,7 +164,8 @@ def proved_in(path, folder):
         return [in_module(modules, last)]
     sources = [os.path.join(folder, "src", *modules) + ".rt"] if modules else [os.path.join(folder, "src", name) for name in ("lib.rt", "main.rt")]
     codes = [text_of(source) for source in sources if os.path.isfile(source)]
-    return [in_module(modules, name) for code in codes for _, name, cycle in functions_of(code) if cycle == last[1:]]
+    several = [in_module(modules, name) for code in codes for _, name, cycle in functions_of(code) if cycle == last[1:]]
+    return several or [in_module(modules, last[1:])]
 
 
 def refusals(log, folder):
