@@ -1,8 +1,8 @@
 -- The file of two texts of bytes is a file of bytes.
-use Prim.Native.Nat.{ℕ, zero, suc, ◌-◌, ◌/◌, ◌%◌, ◌<◌}
+use Prim.Native.Nat.{ℕ, zero, suc, ◌-◌, ◌/◌, ◌%◌}
 use native.Mathlib.Omega.{arith}
 use mathlib.Core.List.{List, [], ◌∷◌, ◌++◌}
-use lib.ListN.{drop, get_or, length, replicate, take}
+use lib.ListN.{drop, length, replicate, take}
 use lib.Seq.{get_or-drop}
 use Rattle.forest.specs.Tables.{rows}
 use Rattle.blocks.specs.Blocks.{block_of, cut_into, file_of, filled, framed, low, pay_size, payload_of, sum_of}

@@ -6,7 +6,7 @@ use Rattle.words.specs.declared.Limits.{Limits}
 use Rattle.script.specs.Script.{Known}
 use Rattle.script.specs.Response.{Body, in_script_order}
 use Rattle.outcome.specs.Accepted.{Accepted, Declined, texts_refused, underived}
-use Rattle.outcome.specs.Derived.{FirstUnderived, terms_of}
+use Rattle.outcome.specs.Derived.{FirstUnderived}
 use Rattle.outcome.specs.declared.Outcome.{Outcome}
 use Rattle.outcome.proofs.Deriving.{first_only, not_derived, shown_derived}
 use Rattle.outcome.proofs.Stages.{not_both, one-pass, one_refused}
