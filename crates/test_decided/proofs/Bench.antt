@@ -36,7 +36,7 @@ use Rattle.words.specs.Trees.{levels_at, levels_before, trees_from}
 use Rattle.words.specs.Words.{bytes_at, word_at, words_of}
 use Rattle.written_sorts.specs.Written.{least_in}
 use Rattle.forest.proofs.Bools.{and_left, and_right}
-use Rattle.terms.specs.Labels.{Label, Terms, literal, name}
+use Rattle.terms.specs.Labels.{Label, Terms, literal}
 use Rattle.terms.specs.Costs.{costs as summedCosts, defined_cost}
 use Rattle.terms.specs.code.Nodes.{code_of, value_of}
 use Rattle.terms.proofs.Bench.{d0, d1, d2}

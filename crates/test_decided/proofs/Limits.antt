@@ -1,16 +1,11 @@
 -- "The limit itself passes; one more is refused": texts at the limits on commands, arguments, non-terminals, rules, nodes, operands, weights, and digits and widths of
 -- constants and one past them, computed from the definitions. A place is a word.
-use Prim.Native.Nat.{ℕ}
-use Prim.Native.String.{String}
 use mathlib.Core.List.{List, [], ◌∷◌, map}
 use mathlib.Core.Path.{◌≡◌, refl}
-use lib.ListN.{length}
-use Rattle.forest.specs.Lists.{spelling}
 use Rattle.derivation.specs.Least.{total_of}
 use Rattle.derivation.specs.Productive.{form_yields, one_pass, passes}
 use Rattle.derivation.specs.Sorts.{form_sorts, item_sort}
 use Rattle.forest.specs.Forest.{count, join, nodes_of}
-use Rattle.forest.specs.Limits.{allowed}
 use Rattle.forest.specs.Lists.{same_bytes}
 use Rattle.forest.specs.Search.{place_in}
 use Rattle.grammars.specs.Grammars.{dead_place}
@@ -25,8 +20,8 @@ use Rattle.names.specs.Unknown.{unknown_in}
 use Rattle.operators.specs.Operators.{named, operator_at, operator_of, operator_sort, operators}
 use Rattle.operators.specs.Sorts.{sort_by}
 use Rattle.operators.specs.Values.{chained, group_left, group_right, pairwise, with_each}
-use Rattle.script.specs.Response.{Answered, answered, bodies, in_script_order, judged_all, judged_body, judged_extra, refused as refusedBody}
-use Rattle.script.specs.Script.{grammar_place, judged, Known, known_after, limit_place, name_place, new_names, nothing_known, passed, Read, read_all, refused, sorting_place, terms_in, tested}
+use Rattle.script.specs.Response.{answered, in_script_order, judged_all, judged_body, judged_extra}
+use Rattle.script.specs.Script.{grammar_place, judged, known_after, limit_place, name_place, new_names, read_all, sorting_place, terms_in, tested}
 use Rattle.shapes.specs.Carried.{any_of, any_uncarried, before, command_uncarried, is_not_carried}
 use Rattle.shapes.specs.Shapes.{all, attributes_shape, command_shape, term_shapes}
 use Rattle.term_faults.specs.Faults.{rule_misfit, term_fault}
@@ -39,7 +34,7 @@ use Rattle.words.specs.Spans.{run_end, starts_from, word_end, word_starts}
 use Rattle.words.specs.Trees.{levels_at, levels_before, trees_from}
 use Rattle.words.specs.Words.{bytes_at, word_at, words_of}
 use Rattle.written_sorts.specs.Written.{least_in}
-use Rattle.test_decided.proofs.Readings.{Reading, bodies_answer, both_answer, defined, row, texts_answer}
+use Rattle.test_decided.proofs.Readings.{Reading, defined, row}
 
 -- The limit on operands constraint.
 abbrev operands_constraint_texts : List Reading

@@ -25,7 +25,7 @@ use Rattle.operators.specs.Operators.{named, operator_at, operator_of, operator_
 use Rattle.operators.specs.Sorts.{sort_by}
 use Rattle.operators.specs.Values.{chained, group_left, group_right, pairwise, with_each}
 use Rattle.script.specs.Response.{Answered, answered, bodies, in_script_order, judged_all, judged_body, judged_extra, refused as refusedBody}
-use Rattle.script.specs.Script.{grammar_place, judged, Known, known_after, limit_place, name_place, new_names, nothing_known, passed, Read, read_all, refused, sorting_place, terms_in, tested}
+use Rattle.script.specs.Script.{grammar_place, judged, known_after, limit_place, name_place, new_names, nothing_known, passed, Read, read_all, refused, sorting_place, terms_in, tested}
 use Rattle.shapes.specs.Carried.{any_of, any_uncarried, before, command_uncarried, is_not_carried}
 use Rattle.shapes.specs.Shapes.{all, attributes_shape, command_shape, term_shapes}
 use Rattle.term_faults.specs.Faults.{rule_misfit, term_fault}

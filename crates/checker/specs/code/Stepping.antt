@@ -11,16 +11,13 @@ use Rattle.script.specs.Script.{Known}
 use Rattle.script.specs.declared.Progress.{Progress}
 use Rattle.script.specs.Response.{Body, in_script_order}
 use Rattle.script.specs.Outcome.{given, response_outcome, said, script_outcome}
-use Rattle.script.specs.code.Answers.{points_answer}
 use Rattle.outcome.specs.Checked.{Checked, size_answer}
-use Rattle.outcome.specs.Derived.{blank_area, no_totals, terms_of}
+use Rattle.outcome.specs.Derived.{blank_area, terms_of}
 use Rattle.outcome.specs.Located.{AnswerGiven}
 use Rattle.outcome.specs.StepList.{FunctionAt, StepList, step_numbers}
 use Rattle.outcome.specs.declared.Answer.{Answer}
-use Rattle.outcome.specs.declared.Weighed.{Weighed}
 use Rattle.outcome.specs.code.Held.{Held}
 use Rattle.both_texts.specs.code.Both.{BothHeld}
-use Rattle.verdicts.specs.code.Evaluate.{Evaluable, Evaluates}
 use Rattle.accepting.specs.code.Bodies.{AllDerived}
 use Rattle.accepting.specs.declared.TextsWeighed.{TextsWeighed}
 use Rattle.checker.specs.declared.stepping.Listed.{Listed}

@@ -1,4 +1,4 @@
-use Rattle.std.proofs.Common.{◌-◌, sym, ◌∙◌, rules}
+use Rattle.std.proofs.Common.{sym, ◌∙◌, rules}
 use Rattle.test_operators.proofs.further.Goals as goal
 
 pub sort_of-requires : goal.sort_of-requires

@@ -1,4 +1,4 @@
-use Rattle.std.proofs.Common.{◌-◌, arith}
+use Rattle.std.proofs.Common.{arith}
 use Rattle.test_operators.proofs.pairs.Goals as goal
 
 pub loop-k-init : goal.loop-k-init

@@ -1,5 +1,4 @@
 use native.Mathlib.Omega.{arith}
-use Prim.Native.Nat.{◌-◌}
 use Rattle.outcome.proofs.Areas.{unshown_same}
 use Rattle.accepting.proofs.Blanking.{blanking_begins, blanking_ends, blanking_goes}
 use Rattle.accepting.proofs.area.blank_area.Goals as goal

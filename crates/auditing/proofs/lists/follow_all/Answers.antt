@@ -1,4 +1,3 @@
-use Prim.Native.Nat.{◌-◌}
 use native.Mathlib.Omega.{arith}
 use Rattle.auditing.proofs.FollowTurns.{going_done, going_fails, going_start, going_turn}
 use Rattle.auditing.proofs.lists.follow_all.Goals as goal

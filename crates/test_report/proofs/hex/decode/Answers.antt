@@ -1,4 +1,4 @@
-use Rattle.std.proofs.Common.{◌-◌, length, sym, arith, length-set, length-take-le}
+use Rattle.std.proofs.Common.{sym, arith, length-set, length-take-le}
 use Rattle.test_report.proofs.hex.decode.Goals as goal
 
 pub loop-i-preserved : goal.loop-i-preserved
