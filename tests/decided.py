@@ -262,6 +262,17 @@ def places():
 
 # The files
 
+def in_use(text):
+    """A file's text without the imported names that it does not use, as `rt tidy` leaves it."""
+    body = re.sub(r'"(?:[^"\\]|\\.)*"', "", re.sub(r"^(?:use|--) .*$", "", text, flags=re.MULTILINE))
+    words = set(re.split(r"[\s(){}.,;]+", body))
+
+    def kept(found):
+        names = [name for name in found[2].split(", ") if "◌" in name or name.split(" ")[-1] in words]
+        return "use %s.{%s}\n" % (found[1], ", ".join(names)) if names else ""
+    return re.sub(r"^use (\S+)\.\{(.*)\}\n", kept, text, flags=re.MULTILINE)
+
+
 def definitions(crate):
     """The definitions of a crate that the prover unfolds: (module, names), each name as it is imported."""
     folder = os.path.join(CRATES, crate, "specs")
@@ -310,9 +321,10 @@ def files():
     held = "".join(table("The limit on %s." % kind.replace("-", " "), kind.replace("-", "_") + "_texts", kind.replace("-", "_") + "_held", cases, names) for kind, cases in limits().items())
     own = "use Rattle.test_decided.proofs.Readings.{Reading, bodies_answer, both_answer, defined, row, texts_answer}\n"
     located = LOCATED % "\n    ∷ ".join(["row %s %d %d %d %d" % place for place in places()] + ["[]"])
-    return {
+    written = {
         "Readings.antt": READINGS_HEAD + HEAD + uses + DEFINITIONS.rstrip("\n") + "\n" + decided, "Limits.antt": LIMITS_HEAD + HEAD + uses + own + held,
         "Located.antt": located}
+    return {name: in_use(text) for name, text in written.items()}
 
 
 def main():
