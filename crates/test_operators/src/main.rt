@@ -15,7 +15,7 @@ use operators::ones;
 use operators::operators::{OPERATORS, apply, operands_of, rule_of, takes};
 use operators::rules::{CHOICE, CUTTING, JOINING, LOGIC};
 use std::io;
-use std::io::{BufWriter, Write};
+use std::io::Write;
 
 // How many edge operands there are, and pairs of them.
 const EDGES: u64 = 6;
@@ -297,11 +297,11 @@ fn line(out: &mut impl Write, width: u64) -> io::Result<()>
 }
 
 fn main(rt: HostRuntime) -> io::Result<()> {
-    let mut out = BufWriter::new(rt.alloc(), io::writer(&rt))?;
+    let mut out = io::writer(&rt);
     let mut width = 1;
     while width <= 64 {
         line(&mut out, width)?;
         width += 1;
     }
-    out.flush()
+    Ok(())
 }

@@ -7,17 +7,16 @@
 mod answers;
 mod records;
 
-ghost use Rattle.std.specs.Prelude.{◌≡◌, ◌≤◌, length, vec_len, IfOk};
+ghost use Rattle.std.specs.Prelude.{◌≡◌, ◌≤◌, length, IfOk};
 
-use std::alloc::{AllocError, Global};
 use std::io;
-use std::io::{BufWriter, Read, Write};
+use std::io::Read;
 
 // Room for all of standard input.
-fn input_room(alloc: Global) -> Result<Vec<u8>, AllocError>
-    ensures { IfOk result (λ room. 5000000 ≡ vec_len room) }
+fn input_room() -> [u8; 5000000]
+    ensures { 5000000 ≡ length result }
 {
-    vec![in alloc; 0; 5000000]
+    [0; 5000000]
 }
 
 // Reads until the room is full or the input ends, and answers how many bytes that are.
@@ -37,9 +36,8 @@ fn read_full(input: &mut impl Read, room: &mut [u8]) -> io::Result<usize>
 
 // Reads all of standard input and reports each record of it.
 fn main(rt: HostRuntime) -> io::Result<()> {
-    let mut input = input_room(rt.alloc())?;
+    let mut input = input_room();
     let n = read_full(&mut rt.stdin(), &mut input)?;
-    let mut out = BufWriter::new(rt.alloc(), io::writer(&rt))?;
-    records::report_all(&mut out, &input[..n])?;
-    out.flush()
+    let mut out = io::writer(&rt);
+    records::report_all(&mut out, &input[..n])
 }
