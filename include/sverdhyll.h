@@ -4,8 +4,8 @@
 
    A call keeps nothing for the next one, so that several may run at once. It runs on the caller's stack: sverdhyll_answer and sverdhyll_check take up to
    1.52 MiB of it, whatever they are given (measured at the limits of all inputs, docs/MEASUREMENTS.md), sverdhyll_steps and the calls of the evidence file up to
-   1.59 MiB; sverdhyll_read, which evaluates nothing, and sverdhyll_run take less. A thread of 2 MiB suffices for each call; one of 1 MiB does not for every input,
-   and a call that needs more than there is ends the program.
+   1.59 MiB, the check of an evidence file in libauditing.a up to 1.99 MiB; sverdhyll_read, which evaluates nothing, and sverdhyll_run take less. A thread of 2 MiB
+   suffices for each call; one of 1 MiB does not for every input, and a call that needs more than there is ends the program.
 
    Which static library has which function (`tools/staticlib NAME` makes target/staticlib/libNAME.a; link one of them):
 
