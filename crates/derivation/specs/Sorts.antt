@@ -1,4 +1,4 @@
--- Sorts of forms: terms in which non-terminals, `(Constant σ)` and `(Variable σ)` may stand. An ill_sorted form has none.
+-- Sorts of forms: terms in which non-terminals, `(Constant σ)` and `(Variable σ)` may stand. An ill-sorted form has none.
 use Rattle.std.specs.Prelude.{ℕ, ◌&&◌, List, [], eqb, ltb, get_or, length}
 use Rattle.std.proofs.Math.Option.{Option, some}
 use Rattle.forest.specs.Forest.{Forest, none, tree}
@@ -22,7 +22,7 @@ item_sort scope (any_argument s) ss = sort_where (eqb (length ss) 0) s
 abbrev pub tree_sort : FormScope → Item → Option (List ℕ) → Option ℕ
 tree_sort scope i ops = sort_over (item_sort scope i) ops
 
--- The sorts of the forms; none where one is ill_sorted.
+-- The sorts of the forms; none where one is ill-sorted.
 unfoldable pub form_sorts : FormScope → Forest Item → Option (List ℕ)
 form_sorts scope none = some []
 form_sorts scope (tree i ops rest) = with_sort (tree_sort scope i (form_sorts scope ops)) (form_sorts scope rest)

@@ -31,7 +31,7 @@ abbrev pub same_sign : ℤ → ℤ → Bool
 same_sign (pos a) d = non_neg d
 same_sign (negsuc a) d = not (non_neg d)
 
--- The remainder of z by d that is 0 or has d's sign: `rem_z`, which has z's, and d added to it where the signs differ.
+-- The remainder of z by d that is 0 or has d's sign: `int_rem`, which has z's, and d added to it where the signs differ.
 abbrev pub mod_z : (z d : ℤ) → ℤ
 mod_z z d =
     let r = int_rem z d in
@@ -42,7 +42,7 @@ pub record StandsFor (n v : ℕ) (z : ℤ) : Type 0 where
   pub below : v < 2 ^ n
   pub stands : signed n v ≡ z
 
--- What the signed operators give of a and b, of width n. `quot_z` rounds to zero, `rem_z` is 0 or has the dividend's sign, `shr_z` rounds down.
+-- What the signed operators give of a and b, of width n. `int_div` rounds to zero, `int_rem` is 0 or has the dividend's sign, `shr_z` rounds down.
 pub record Stated (n a b : ℕ) : Type 0 where
   -- the quotient, modulo 2 ^ n
   pub quotient : (b ≢ 0) → bvsdiv_value n a b ≡ wrapped n (int_div (signed n a) (signed n b))

@@ -122,7 +122,7 @@ concat_value m a b = a * 2 ^ m + b
 abbrev pub extract_value : (i j a : ℕ) → ℕ
 extract_value i j a = a / 2 ^ j % 2 ^ (i - j + 1)
 
--- The highest bit of a, of width n, is 1: SMT-LIB's `(= ((_ extract |m_1| |m_1|) s) #b1)` (`proofs/SignedValues: highest_bit`).
+-- The highest bit of a, of width n, is 1: SMT-LIB's `(= ((_ extract |m-1| |m-1|) s) #b1)` (`proofs/SignedValues: highest_bit`).
 abbrev pub negative : (n a : ℕ) → Bool
 negative n a = nat_le (2 ^ (n - 1)) a
 

@@ -1,4 +1,4 @@
--- A term that has a value has that value's sort: an ill_sorted term has none.
+-- A term that has a value has that value's sort: an ill-sorted term has none.
 use Prim.Native.Nat.{ℕ}
 use mathlib.Core.Path.{◌≡◌, refl, sym, ap, ◌∙◌}
 use mathlib.Core.Bool.{Bool, true, false, cond, ◌&&◌}

@@ -1,4 +1,4 @@
--- Sorts of terms; an ill_sorted term has none. A sort is a number: 0 is `Bool`, n is `(_ BitVec n)`.
+-- Sorts of terms; an ill-sorted term has none. A sort is a number: 0 is `Bool`, n is `(_ BitVec n)`.
 use Rattle.std.specs.Prelude.{ℕ, Bool, true, false, cond, ◌&&◌, List, [], ◌∷◌, eqb, leb, ltb, get_or, length}
 use Rattle.std.proofs.Math.Option.{Option, none as nothing, some}
 use Rattle.forest.specs.Forest.{none, tree}
@@ -48,7 +48,7 @@ with_sort nothing more = nothing
 with_sort (some s) nothing = nothing
 with_sort (some s) (some ss) = some (s ∷ ss)
 
--- The sorts of the terms; none where one is ill_sorted.
+-- The sorts of the terms; none where one is ill-sorted.
 unfoldable pub sorts_of : Scope → Terms → Option (List ℕ)
 sorts_of scope none = some []
 sorts_of scope (tree l ops rest) = with_sort (sort_over (label_sort scope l) (sorts_of scope ops)) (sorts_of scope rest)

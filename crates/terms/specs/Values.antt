@@ -1,4 +1,4 @@
--- Values of terms, as in SMT-LIB; an ill_sorted term has none.
+-- Values of terms, as in SMT-LIB; an ill-sorted term has none.
 use Rattle.std.specs.Prelude.{ℕ, Bool, cond, ◌&&◌, List, [], ◌∷◌, map, eqb, leb, ltb, get_or, length}
 use Rattle.std.proofs.Math.Option.{Option, none as nothing, some}
 use Rattle.forest.specs.Forest.{none, tree}
