@@ -3,8 +3,8 @@
 
 A file crates/CRATE/must-fail/NAME.edit makes one wrong answer or more, each in another function: above its replacements stand `edit: LABEL` and `refused: FUNCTION
 at GOAL`. `rt` only sees that the crate is not proved with all of them. This asks of each wrong answer that its function's own proof fails at that goal, and not
-because something that it rests on is not proved. A wrong definition is refused in a law: `refused: FILE at LAW`. It prints each that is not refused so, and each
-function that another crate can call and that has less than two wrong answers; the exit status is 1 if there is any.
+because something that it rests on is not proved or a name that it cites is gone. A wrong definition is refused in a law: `refused: FILE at LAW`. It prints each that
+is not refused so, and each function that another crate can call and that has less than two wrong answers; the exit status is 1 if there is any.
 
 What the prover refused stands in tests/refusals.txt, for each file of edits under the sum of what it was tried on: the edits, the crate, what the crates below it
 state, and the kit. A file whose sum is another one is tried again, by `rt check` on a copy of the crate and of those below it, outside this folder, and so are all
@@ -39,8 +39,8 @@ PUBLIC_FUNCTION = re.compile(r'^pub (?:extern "C" )?fn (\w+)', re.MULTILINE)
 PUBLIC_MODULE = re.compile(r"^pub mod (\w+);", re.MULTILINE)
 IN_PROOF = re.compile(r"(?:\./)?proofs/(\S+?)(?:/(?:Answers|Invariants|Proof))?\.antt:\d+:\d+: error: `([^`]+)`: (.*)")
 IN_CODE = re.compile(r"note: (?:\./)?src/(\S+)\.rt:(\d+):\d+: it is not proved that .*\(`([^`]+)`\)")
-RESTS_ON_OTHER = re.compile(r"`[^`]*` was not admitted")
-NO_SUCH_NAME = re.compile(r"`[^`]*`: module `[^`]*` has no `")
+BY_A_NAME = re.compile(r"has no field|is not in scope|has no `|was not admitted")
+BROKEN = re.compile(r"\n  (?=has no |is not in scope|was not admitted)")
 
 
 def text_of(path):
@@ -169,10 +169,10 @@ def proved_in(path, folder):
 
 
 def refusals(log, folder):
-    """Each function of an edited crate, with a goal at which its own proof fails."""
-    for line in log.split("\n"):
+    """Each function of an edited crate, with a goal at which its own proof fails, and not for a name that is gone."""
+    for line in BROKEN.sub(" ", log).split("\n"):
         found = IN_PROOF.match(line)
-        if found and not RESTS_ON_OTHER.match(found.group(3)) and not NO_SUCH_NAME.match(found.group(3)):
+        if found and not BY_A_NAME.search(found.group(3)):
             yield from ((name, found.group(2)) for name in proved_in(found.group(1), folder))
         found = IN_CODE.match(line)
         if found:
