@@ -1,125 +1,73 @@
--- The loops over any number of operands: each turn takes one operand from the list.
-use Rattle.std.proofs.Common.{◌≡◌, ℕ, zero, suc, ◌+◌, ◌-◌, ◌<◌, ◌≤◌, Bool, true, false, not, ◌&&◌, eqb, List, [], ◌∷◌, length, get_or, drop, sym, refl, ap, ◌∙◌, add-one, arith, drop-cons, eq-eqb, ne_eqb}
-use borrow.Author.Tests.{not-false, not-true}
-use lib.Seq.{drop-nil}
-use Rattle.operators.specs.Values.{chained, differ, group_left, group_right, pairwise, truth, with_each}
+-- The chains of iterators over any number of operands: what they give, in the words of the values.
+use Rattle.std.proofs.Common.{◌≡◌, ℕ, ◌+◌, Bool, ◌&&◌, eqb, List, [], ◌∷◌, ◌++◌, get_or, drop, drop-drop, reverse, sym, refl, ap, ◌∙◌, Some}
+use mathlib.Core.List.{reverse-cons}
+use Rattle.std.proofs.lemmas.Option.{none-some}
+use Rattle.std.specs.List.{enumerate_from, fold, list_all, reduce, zip}
+use Rattle.std.specs.Option.{option_map, unwrap_or}
+use Rattle.std.proofs.lemmas.List.Sums.{fold_push}
+use Rattle.operators.specs.Values.{chained, differ, group_left, group_right, pairwise, with_each}
 
--- The operand at k and those behind it.
-pub next : (vs : List ℕ) (k : ℕ) → k < length vs → drop k vs ≡ get_or vs k 0 ∷ drop (k + 1) vs
-next vs k h = rw (add-one k) (drop-cons vs k 0 h)
+module _ (f : ℕ → ℕ → ℕ) where
+  -- A fold groups from the left.
+  folded : (a : ℕ) (vs : List ℕ) → fold f a vs ≡ group_left f a vs
+  unfolding group_left
+  folded a [] = refl
+  folded a (b ∷ vs) = folded (f a b) vs
 
--- Behind the last there are none.
-pub ended : (vs : List ℕ) (k : ℕ) → length vs ≤ k → drop k vs ≡ []
-ended [] k h = drop-nil k
-ended (v ∷ vs) zero h = absurd (omega arith)
-ended (v ∷ vs) (suc k) h = ended vs k (omega arith)
+  pub grouped_left : (vs : List ℕ) → unwrap_or (reduce f vs) 0 ≡ group_left f (get_or vs 0 0) (drop 1 vs)
+  unfolding group_left
+  grouped_left [] = refl
+  grouped_left (a ∷ vs) = folded a vs
 
-module _ (f : ℕ → ℕ → ℕ) (vs : List ℕ) where
-  -- Grouping from the left begins with the first operand.
-  pub left_starts : {value : ℕ} → value ≡ get_or vs 0 0 → group_left f value (drop 1 vs) ≡ group_left f (get_or vs 0 0) (drop 1 vs)
-  left_starts e = rw e
+  -- One more item at the end.
+  one_more : (g : ℕ → ℕ → ℕ) (xs : List ℕ) (a : ℕ) {r : ℕ} → reduce g xs ≡ Some r → reduce g (xs ++ (a ∷ [])) ≡ Some (g r a)
+  one_more g [] a {r} e = absurd (none-some r e)
+  one_more g (x ∷ xs) a e = ap Some (fold_push g x xs a) ∙ ap (option_map (λ r. g r a)) e
 
-  module _ (value k : ℕ) {goal : ℕ} (so_far : group_left f value (drop k vs) ≡ goal) where
-    -- A turn.
-    pub left_turn : {value' : ℕ} → k < length vs → value' ≡ f value (get_or vs k 0) → group_left f value' (drop (k + 1) vs) ≡ goal
-    unfolding group_left
-    left_turn h e = rw e (sym (ap (group_left f value) (next vs k h)) ∙ so_far)
-
-    -- The end.
-    pub left_done : length vs ≤ k → value ≡ goal
-    unfolding group_left
-    left_done h = sym (ap (group_left f value) (ended vs k h)) ∙ so_far
-
-  -- No operands, grouped from the right.
-  pub right_none : length vs ≡ 0 → 0 ≡ group_right f (get_or vs 0 0) (drop 1 vs)
+  -- From the last operand down, it groups from the right.
+  reduced : (a : ℕ) (vs : List ℕ) → reduce (λ r b. f b r) (reverse (a ∷ vs)) ≡ Some (group_right f a vs)
   unfolding group_right
-  right_none h = by_case vs h
-    where
-      by_case : (l : List ℕ) → length l ≡ 0 → 0 ≡ group_right f (get_or l 0 0) (drop 1 l)
-      by_case [] h = refl
-      by_case (x ∷ l) h = absurd (omega arith)
+  reduced a [] = refl
+  reduced a (b ∷ vs) = ap (reduce (λ r b. f b r)) (reverse-cons a (b ∷ vs)) ∙ one_more (λ r b. f b r) (reverse (b ∷ vs)) a (reduced b vs)
 
-  -- Grouping from the right begins with the last.
-  pub right_starts : (length vs ≡ 0 → ⊥) → get_or vs (length vs - 1) 0 ≡ group_right f (get_or vs (length vs - 1) 0) (drop (length vs - 1 + 1) vs)
+  pub grouped_right : (vs : List ℕ) → unwrap_or (reduce (λ r b. f b r) (reverse vs)) 0 ≡ group_right f (get_or vs 0 0) (drop 1 vs)
   unfolding group_right
-  right_starts h = sym (ap (group_right f (get_or vs (length vs - 1) 0)) (ended vs (length vs - 1 + 1) (omega (arith, h))))
+  grouped_right [] = refl
+  grouped_right (a ∷ vs) = ap (λ r. unwrap_or r 0) (reduced a vs)
 
-  -- A turn.
-  pub right_turn : (k : ℕ) {value value' : ℕ} → 0 < k → k < length vs → value ≡ group_right f (get_or vs k 0) (drop (k + 1) vs)
-      → value' ≡ f (get_or vs (k - 1) 0) value → value' ≡ group_right f (get_or vs (k - 1) 0) (drop (k - 1 + 1) vs)
-  unfolding group_right
-  right_turn k {value} l h so_far e =
-      let q : k - 1 + 1 ≡ k = omega arith in
-      let turn : group_right f (get_or vs (k - 1) 0) (drop k vs) ≡ f (get_or vs (k - 1) 0) value =
-      ap (group_right f (get_or vs (k - 1) 0)) (next vs k h) ∙ ap (f (get_or vs (k - 1) 0)) (sym so_far) in
-      e ∙ sym turn ∙ ap (λ (n : ℕ). group_right f (get_or vs (k - 1) 0) (drop n vs)) (sym q)
+-- Whether both of a pair are the same.
+abbrev pub alike : ℕ × ℕ → Bool
+alike p = eqb p.0 p.1
 
-  -- The end.
-  pub right_done : (k : ℕ) {value : ℕ} → k ≤ 0 → value ≡ group_right f (get_or vs k 0) (drop (k + 1) vs) → value ≡ group_right f (get_or vs 0 0) (drop 1 vs)
-  right_done zero h e = e
-  right_done (suc k) h e = absurd (omega arith)
+-- The pairs of each operand and the next.
+linked : (a : ℕ) (vs : List ℕ) → list_all alike (zip (a ∷ vs) vs) ≡ chained eqb a vs
+unfolding chained
+linked a [] = refl
+linked a (b ∷ vs) = ap (λ t. eqb a b && t) (linked b vs)
 
-module _ (vs : List ℕ) where
-  -- A chain begins with the first operand.
-  pub chain_starts : {value : ℕ} → value ≡ get_or vs 0 0 → chained eqb value (drop 1 vs) ≡ chained eqb (get_or vs 0 0) (drop 1 vs)
-  chain_starts e = rw e
+pub all_linked : (vs : List ℕ) → list_all alike (zip vs (drop 1 vs)) ≡ chained eqb (get_or vs 0 0) (drop 1 vs)
+unfolding chained
+all_linked [] = refl
+all_linked (a ∷ vs) = linked a vs
 
-  module _ (last k : ℕ) {goal : Bool} (so_far : chained eqb last (drop k vs) ≡ goal) where
-    -- The chain from operand k on.
-    chain_next : k < length vs → eqb last (get_or vs k 0) && chained eqb (get_or vs k 0) (drop (k + 1) vs) ≡ goal
-    unfolding chained
-    chain_next h = sym (ap (chained eqb last) (next vs k h)) ∙ so_far
+-- A value against each of others.
+pub each_differs : (a : ℕ) (vs : List ℕ) → list_all (differ a) vs ≡ with_each differ a vs
+unfolding with_each
+each_differs a [] = refl
+each_differs a (b ∷ vs) = ap (λ t. differ a b && t) (each_differs a vs)
 
-    -- It is broken where two differ.
-    pub chain_broken : k < length vs → (last ≡ get_or vs k 0 → ⊥) → 0 ≡ truth goal
-    chain_broken h ne =
-        let q : false ≡ goal = rw (ne_eqb last (get_or vs k 0) ne) at (chain_next h) in
-        ap truth q
+module _ (all : List ℕ) where
+  -- Whether an operand, by its place, differs from each behind it.
+  abbrev pub apart_behind : ℕ × ℕ → Bool
+  apart_behind p = with_each differ p.1 (drop (p.0 + 1) all)
 
-    -- A turn.
-    pub chain_turn : k < length vs → last ≡ get_or vs k 0 → chained eqb (get_or vs k 0) (drop (k + 1) vs) ≡ goal
-    chain_turn h e = rw (eq-eqb last (get_or vs k 0) e) at (chain_next h)
+  -- The operands from k on.
+  apart_from : (k : ℕ) (vs : List ℕ) → drop k all ≡ vs → list_all apart_behind (enumerate_from k vs) ≡ pairwise differ vs
+  unfolding pairwise
+  apart_from k [] e = refl
+  apart_from k (v ∷ vs) e =
+      let behind : drop (k + 1) all ≡ vs = sym (drop-drop 1 k all) ∙ ap (drop 1) e in
+      rw behind (ap (λ t. with_each differ v vs && t) (apart_from (k + 1) vs behind))
 
-    -- The end.
-    pub chain_done : length vs ≤ k → 1 ≡ truth goal
-    unfolding chained
-    chain_done h = let q : true ≡ goal = sym (ap (chained eqb last) (ended vs k h)) ∙ so_far in ap truth q
-
-  module _ (a k : ℕ) {goal : Bool} (so_far : with_each differ a (drop k vs) ≡ goal) where
-    -- The value against operand k and those behind it.
-    each_next : k < length vs → differ a (get_or vs k 0) && with_each differ a (drop (k + 1) vs) ≡ goal
-    unfolding with_each
-    each_next h = sym (ap (with_each differ a) (next vs k h)) ∙ so_far
-
-    -- It is one of them.
-    pub each_fails : k < length vs → a ≡ get_or vs k 0 → false ≡ goal
-    each_fails h e = rw (eq-eqb a (get_or vs k 0) e) at (each_next h)
-
-    -- A turn.
-    pub each_turn : k < length vs → (a ≡ get_or vs k 0 → ⊥) → with_each differ a (drop (k + 1) vs) ≡ goal
-    each_turn h ne = rw (ne_eqb a (get_or vs k 0) ne) at (each_next h)
-
-    -- The end.
-    pub each_done : length vs ≤ k → true ≡ goal
-    unfolding with_each
-    each_done h = sym (ap (with_each differ a) (ended vs k h)) ∙ so_far
-
-  module _ (k : ℕ) {goal : Bool} (so_far : pairwise differ (drop k vs) ≡ goal) where
-    -- The operands from operand k on.
-    pair_next : k < length vs → with_each differ (get_or vs k 0) (drop (k + 1) vs) && pairwise differ (drop (k + 1) vs) ≡ goal
-    unfolding pairwise
-    pair_next h = sym (ap (pairwise differ) (next vs k h)) ∙ so_far
-
-    -- Operand k is among those behind it.
-    pub pair_fails : {test : Bool} → k < length vs → test ≡ with_each differ (get_or vs k 0) (drop (k + 1) vs) → not test ≡ true → 0 ≡ truth goal
-    pair_fails {test} h e f = let q : false ≡ goal = rw (sym e ∙ not-true test f) at (pair_next h) in ap truth q
-
-    -- A turn.
-    pub pair_turn : {test : Bool} → k < length vs → test ≡ with_each differ (get_or vs k 0) (drop (k + 1) vs) → not test ≡ false
-        → pairwise differ (drop (k + 1) vs) ≡ goal
-    pair_turn {test} h e t = rw (sym e ∙ not-false test t) at (pair_next h)
-
-    -- The end.
-    pub pair_done : length vs ≤ k → 1 ≡ truth goal
-    unfolding pairwise
-    pair_done h = let q : true ≡ goal = sym (ap (pairwise differ) (ended vs k h)) ∙ so_far in ap truth q
+  pub all_apart : list_all apart_behind (enumerate_from 0 all) ≡ pairwise differ all
+  all_apart = apart_from 0 all refl

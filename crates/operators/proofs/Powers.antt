@@ -1,10 +1,8 @@
 -- Laws of numbers modulo a power of two, at any width.
-use Rattle.std.proofs.Common.{◌≡◌, ℕ, ◌+◌, ◌-◌, ◌*◌, ◌/◌, ◌%◌, ◌^◌, ◌<◌, ◌≤◌, sym, refl, ap, ◌∙◌, ap₂, lt_of_le_of_lt, le_of_lt, add_assoc, mod-eq_of_lt, mul_assoc, mul_comm, add-mul, add_comm, mul-le-mul_left, div-add-mod', mul-add, mul_left_comm, arith, shl_lt, shl_exact, w64, Fits}
-use native.Mathlib.Nat.{add_left_comm, add-mod, add-mod_right, mul-add-mod_self_right}
-use native.Mathlib.Nat.{mod-add-mod, mod_self}
+use Rattle.std.proofs.Common.{◌≡◌, ℕ, ◌+◌, ◌-◌, ◌*◌, ◌/◌, ◌%◌, ◌^◌, ◌<◌, ◌≤◌, sym, ap, ◌∙◌, mod-eq_of_lt, arith, shl_exact}
+use native.Mathlib.Nat.{add-mod_right, mod_self}
 use lib.Bits.{bit_and, bit_or, and_mask, or_shifted}
-use lib.Pow.{high, mod-mod-pow, ones_lt, ones_split, split}
-use mir.Facts.{Fits-bits}
+use lib.Pow.{high, mod-mod-pow, ones_lt, ones_split}
 use Rattle.operators.specs.code.Vectors.{Joined, Width, Word, Words}
 use Rattle.operators.specs.Values.{bvneg_value, bvsub_value, concat_value}
 
@@ -57,41 +55,3 @@ neg_more {n} {a} w h q =
 pub joined : {n m a b : ℕ} → Joined n m a b → bit_or (a * 2 ^ m % 2 ^ 64) b ≡ concat_value m a b
 joined {n} {m} {a} {b} h =
     ap (λ (x : ℕ). bit_or x b) (shl_exact n m 64 h.high.below h.together.most) ∙ or_shifted a m b h.low.below
-
--- In a product a factor may be replaced by its remainder.
-factor_mod : (x k m : ℕ) → (x % m) * k % m ≡ x * k % m
-factor_mod x k m =
-    sym
-    (ap (λ (y : ℕ). y * k % m) (sym (div-add-mod' x m))
-    ∙ ap (λ (y : ℕ). y % m) (split_off (x / m) (x % m))
-    ∙ mul-add-mod_self_right (x / m * k) m (x % m * k))
-  where
-    split_off : (q r : ℕ) → (q * m + r) * k ≡ (q * k) * m + r * k
-    split_off q r = simp (add-mul, mul_assoc, mul_comm, mul_left_comm, add_comm) refl
-
--- The product of two numbers of two digits in base p, without what is above p * p.
-low_digits : (p a₀ a₁ b₀ b₁ : ℕ) → (((a₁ * b₀ + a₀ * b₁) % (p * p) * p) % (p * p) + a₀ * b₀) % (p * p) ≡ (a₁ * p + a₀) * (b₁ * p + b₀) % (p * p)
-low_digits p a₀ a₁ b₀ b₁ =
-    mod-add-mod ((a₁ * b₀ + a₀ * b₁) % (p * p) * p) (p * p) (a₀ * b₀)
-    ∙ add-mod _ (a₀ * b₀) (p * p)
-    ∙ ap (λ (y : ℕ). (y + a₀ * b₀ % (p * p)) % (p * p)) (factor_mod (a₁ * b₀ + a₀ * b₁) p (p * p))
-    ∙ sym (add-mod ((a₁ * b₀ + a₀ * b₁) * p) (a₀ * b₀) (p * p))
-    ∙ sym (mul-add-mod_self_right (a₁ * b₁) (p * p) ((a₁ * b₀ + a₀ * b₁) * p + a₀ * b₀))
-    ∙ ap (λ (y : ℕ). y % (p * p)) whole
-  where
-    whole : (a₁ * b₁) * (p * p) + ((a₁ * b₀ + a₀ * b₁) * p + a₀ * b₀) ≡ (a₁ * p + a₀) * (b₁ * p + b₀)
-    whole = simp (mul-add, add-mul, mul_assoc, mul_comm, mul_left_comm, add_assoc, add_comm, add_left_comm) refl
-
--- The product of two numbers of 32 bits fits 64.
-pub halves_fit : {x y : ℕ} → x < 2 ^ 32 → y < 2 ^ 32 → Fits w64 (x * y)
-halves_fit {x} hx hy = Fits-bits (32 + 32) tt (lt_of_le_of_lt (mul-le-mul_left x (le_of_lt hy)) (shl_lt 32 32 hx))
-
--- The products of the halves of two numbers add up to their product.
-pub by_halves : (a b : ℕ) {m r : ℕ} → m ≡ (a / 2 ^ 32 * bit_and b 0xffff_ffff + bit_and a 0xffff_ffff * (b / 2 ^ 32)) % 2 ^ 64
-    → r ≡ (m * 2 ^ 32 % 2 ^ 64 + bit_and a 0xffff_ffff * bit_and b 0xffff_ffff) % 2 ^ 64 → r ≡ a * b % 2 ^ 64
-by_halves a b p q =
-    q
-    ∙ ap (λ (x : ℕ). (x * 2 ^ 32 % 2 ^ 64 + bit_and a 0xffff_ffff * bit_and b 0xffff_ffff) % 2 ^ 64) p
-    ∙ ap₂ (λ (x y : ℕ). ((a / 2 ^ 32 * y + x * (b / 2 ^ 32)) % 2 ^ 64 * 2 ^ 32 % 2 ^ 64 + x * y) % 2 ^ 64) (and_mask a 32) (and_mask b 32)
-    ∙ low_digits (2 ^ 32) (a % 2 ^ 32) (a / 2 ^ 32) (b % 2 ^ 32) (b / 2 ^ 32)
-    ∙ ap₂ (λ (x y : ℕ). x * y % 2 ^ 64) (split a 32) (split b 32)

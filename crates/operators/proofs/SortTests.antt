@@ -1,16 +1,17 @@
 -- Tests of sorts: whether a number is a value of one, and whether a rule, and so an operator, takes operands of some.
-use Rattle.std.proofs.Common.{◌≡◌, ℕ, ◌+◌, ◌-◌, ◌^◌, ◌<◌, ◌≤◌, Bool, true, false, cond, ◌&&◌, eqb, ltb, leb, List, [], ◌∷◌, length, get_or, drop, sym, refl, ap, ◌∙◌, arith, ltb-false, ltb-true, lt-ltb, eq-eqb, ne_eqb, eqb-true, le-leb, leb-false, leb-true}
+use Rattle.std.proofs.Common.{◌≡◌, ℕ, ◌+◌, ◌-◌, ◌^◌, ◌<◌, ◌≤◌, Bool, true, false, cond, ◌&&◌, eqb, ltb, leb, List, [], ◌∷◌, length, get_or, drop, sym, refl, ap}
+use Rattle.std.proofs.Common.{◌∙◌, arith, ltb-false, ltb-true, lt-ltb, eqb-true, le-leb, leb-false, leb-true}
 use mathlib.Core.Bool.{and-false}
 use borrow.Author.Tests.{lt-leb}
 use lib.ListN.{get_or-replicate}
+use Rattle.std.specs.List.{list_all}
 use Rattle.forest.proofs.Bools.{and_left, and_right}
 use Rattle.operators.specs.Operators.{Operator, operator_at, operator_count, operator_sort, operators, takes}
-use Rattle.operators.specs.Sorts.{SortRule, all_are, bool, choice, cutting, equality, joining, logic, max_width, order, sort_by, sort_where, values_of}
-use Rattle.operators.specs.Sorts.{vector, width}
+use Rattle.operators.specs.Sorts.{SortRule, all_are, bool, choice, cutting, equality, joining, logic, max_width, order, sort_by, sort_where, values_of, vector}
+use Rattle.operators.specs.Sorts.{width}
 use Rattle.operators.specs.code.RuleNumbers.{rule_number}
 use Rattle.operators.specs.code.Sorting.{RuleTold, Ruled, has_sort, least_operands}
 use Rattle.operators.proofs.Below.{mod_below}
-use Rattle.operators.proofs.Many.{ended, next}
 use Rattle.operators.proofs.Results.{rule_told}
 use Rattle.operators.proofs.Table.{column}
 
@@ -32,22 +33,10 @@ vector_test {s} x h e =
     let p = mod_below s 0 in
     rw (e, lt-ltb 0 s (omega arith)) (below_is_most x (2 ^ s) (omega arith))
 
-module _ (sorts : List ℕ) (sort k : ℕ) {goal : Bool} (so_far : all_are sort (drop k sorts) ≡ goal) where
-  -- Sort k and those behind it.
-  are_next : k < length sorts → eqb (get_or sorts k 0) sort && all_are sort (drop (k + 1) sorts) ≡ goal
-  are_next h = sym (ap (all_are sort) (next sorts k h)) ∙ so_far
-
-  -- Sort k is another.
-  pub are_fails : k < length sorts → (get_or sorts k 0 ≡ sort → ⊥) → false ≡ goal
-  are_fails h n = rw (ne_eqb (get_or sorts k 0) sort n) at (are_next h)
-
-  -- A turn.
-  pub are_turn : k < length sorts → get_or sorts k 0 ≡ sort → all_are sort (drop (k + 1) sorts) ≡ goal
-  are_turn h e = rw (eq-eqb (get_or sorts k 0) sort e) at (are_next h)
-
-  -- The end.
-  pub are_done : length sorts ≤ k → true ≡ goal
-  are_done h = sym (ap (all_are sort) (ended sorts k h)) ∙ so_far
+-- Each of the sorts is one and the same.
+pub each_is : (sort : ℕ) (sorts : List ℕ) → list_all (λ t. eqb t sort) sorts ≡ all_are sort sorts
+each_is sort [] = refl
+each_is sort (t ∷ more) = ap (λ r. eqb t sort && r) (each_is sort more)
 
 -- Two widths that are too wide together.
 pub joins_not : (first second : ℕ) → max_width < first → false ≡ (vector first && vector second && leb (first + second) max_width)

@@ -9,8 +9,8 @@ ghost use Rattle.operators.specs.code.Operators.{ResultSort, Sortable, spellings
 use crate::rules::{CHOICE, CUTTING, EQUALITY, JOINING, LOGIC, ORDER, WIDTH};
 use crate::signed::{bvashr, bvsdiv, bvsle, bvslt, bvsmod, bvsrem};
 use crate::truth::{
-    AND, OR, XOR, all_alike, all_differ, bvule, bvult, group_left, group_right, ite, not_of,
-    operand,
+    AND, OR, XOR, all_alike, all_differ, and_of, bvule, bvult, group_left, group_right, ite,
+    not_of, operand, or_of, xor_of,
 };
 use crate::vectors::{
     bvadd, bvand, bvlshr, bvmul, bvneg, bvnot, bvor, bvshl, bvsub, bvudiv, bvurem, bvxor, concat,
@@ -342,9 +342,9 @@ pub fn apply(operator: usize, high: u64, low: u64, first: u64, second: u64, valu
     ensures { Applied operator high low first second values.now result }
 {
     match operator {
-        AND => group_left(AND, values),
-        OR => group_left(OR, values),
-        XOR => group_left(XOR, values),
+        AND => group_left(and_of, values),
+        OR => group_left(or_of, values),
+        XOR => group_left(xor_of, values),
         4 => group_right(values), // =>
         5 => all_alike(values), // =
         6 => all_differ(values), // distinct

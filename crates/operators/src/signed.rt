@@ -3,7 +3,6 @@ ghost use Rattle.std.specs.Prelude.{◌≡◌};
 ghost use Rattle.operators.specs.code.Vectors.{Width, Word, Words, signs_differ};
 ghost use Rattle.operators.specs.Values.{bvashr_value, bvsdiv_value, bvsle_value, bvslt_value, bvsmod_value, bvsrem_value, by_signs, magnitude, negative, truth};
 
-use crate::truth::number_of;
 use crate::vectors::{bvadd, bvlshr, bvneg, bvnot, bvudiv, bvurem};
 
 // Whether the highest bit of a value is 1.
@@ -86,9 +85,9 @@ fn signed_order(width: u64, left: u64, right: u64, unsigned: bool) -> u64
     ensures { result ≡ by_signs width left right (truth unsigned) 1 0 (truth unsigned) }
 {
     if signs_differ(width, left, right) {
-        return number_of(is_negative(width, left));
+        return u64::from(is_negative(width, left));
     }
-    number_of(unsigned)
+    u64::from(unsigned)
 }
 
 // `bvslt`

@@ -24,14 +24,7 @@ pub fn fits(sort: u64, number: u64) -> bool
 fn all_are(sort: u64, sorts: &[u64], from: usize) -> bool
     ensures { result ≡ all_are sort (drop from sorts.now) }
 {
-    let mut k = from;
-    while k < sorts.len() {
-        if sorts[k] != sort {
-            return false;
-        }
-        k += 1;
-    }
-    true
+    sorts.iter().skip(from).all(|other| *other == sort)
 }
 
 // Whether `concat` takes operands of two sorts.

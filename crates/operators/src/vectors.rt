@@ -65,7 +65,7 @@ pub(crate) fn bvadd(width: u64, left: u64, right: u64) -> u64
     requires { Width width }
     ensures { result ≡ bvadd_value width left right }
 {
-    cut(std::num::wrapping_add_u64(left, right), width)
+    cut(left.wrapping_add(right), width)
 }
 
 // `bvsub`
@@ -79,24 +79,12 @@ pub(crate) fn bvsub(width: u64, left: u64, right: u64) -> u64
     ones(width) - (right - left - 1)
 }
 
-// The low 64 bits of a product, by halves of 32 bits.
-fn low_product(left: u64, right: u64) -> u64
-    ensures { result ≡ left * right % 2 ^ 64 }
-{
-    let left_low = left & 0xffff_ffff;
-    let left_high = left >> 32;
-    let right_low = right & 0xffff_ffff;
-    let right_high = right >> 32;
-    let middle = std::num::wrapping_add_u64(left_high * right_low, left_low * right_high);
-    std::num::wrapping_add_u64(middle << 32, left_low * right_low)
-}
-
 // `bvmul`
 pub(crate) fn bvmul(width: u64, left: u64, right: u64) -> u64
     requires { Width width }
     ensures { result ≡ bvmul_value width left right }
 {
-    cut(low_product(left, right), width)
+    cut(left.wrapping_mul(right), width)
 }
 
 // `bvudiv`

@@ -40,7 +40,7 @@ fn next(number: u64) -> u64 {
 
 // A hash with one value more.
 fn fold(hash: u64, value: u64) -> u64 {
-    std::num::wrapping_add_u64(next(hash ^ value), 0x9e37_79b9_7f4a_7c15)
+    next(hash ^ value).wrapping_add(0x9e37_79b9_7f4a_7c15)
 }
 
 // The low bits of a number.
@@ -141,8 +141,7 @@ fn edges(operator: usize, width: u64) -> u64
     requires { (operator < operator_count) × Width width }
 {
     let mut hash = 0;
-    let mut k = 0;
-    while k < EDGE_PAIRS {
+    for k in 0..EDGE_PAIRS {
         hash = fold(
             hash,
             value(
@@ -152,7 +151,6 @@ fn edges(operator: usize, width: u64) -> u64
                 edge(k % EDGES, width),
             ),
         );
-        k += 1;
     }
     hash
 }
@@ -174,10 +172,8 @@ fn small(operator: usize, width: u64, start: u64) -> u64
 {
     let count = small_pairs(width);
     let mut hash = start;
-    let mut k = 0;
-    while k < count {
+    for k in 0..count {
         hash = fold(hash, value(operator, width, k >> width % 64, low(k, width)));
-        k += 1;
     }
     hash
 }
@@ -188,15 +184,13 @@ fn pairs(operator: usize, width: u64, start: u64) -> u64
 {
     let mut hash = start;
     let mut left = width;
-    let mut k = 0;
-    while k < PAIRS {
+    for _k in 0..PAIRS {
         let right = next(left);
         hash = fold(
             hash,
             value(operator, width, left, right >> (left >> 32) % 64),
         );
         left = next(right);
-        k += 1;
     }
     hash
 }
@@ -235,12 +229,10 @@ fn many(operator: usize, sort: u64, count: usize, width: u64) -> u64
 {
     let mut hash = 0;
     let mut left = width;
-    let mut k = 0;
-    while k < MANY_PAIRS {
+    for _k in 0..MANY_PAIRS {
         let right = next(left);
         hash = fold(hash, several(operator, sort, count, left, right));
         left = next(right);
-        k += 1;
     }
     hash
 }
@@ -261,18 +253,24 @@ fn print_hash(out: &mut impl Write, hash: u64) -> io::Result<()> {
     write!(out, " {hash:016x}")
 }
 
-// Prints the hashes at a width of each operator that takes as many operands as are made: with 3 of them, with 4, with 5 and with 6.
+// Prints the hashes of an operator at a width with 3 operands, with 4, with 5 and with 6.
+fn more_operands(out: &mut impl Write, operator: usize, width: u64) -> io::Result<()>
+    requires { (operator < operator_count) × (takes (operator_at operator) most_operands ≡ true) × Width width }
+{
+    for count in 3..=MOST_OPERANDS {
+        print_hash(out, many(operator, sort_of(operator, width), count, width))?;
+    }
+    Ok(())
+}
+
+// Prints them of each operator that takes as many operands as are made.
 fn further(out: &mut impl Write, width: u64) -> io::Result<()>
     requires { Width width }
 {
-    let mut k = 0;
-    while k < 4 * OPERATORS {
-        let operator = k / 4;
+    for operator in 0..OPERATORS {
         if takes(operator, MOST_OPERANDS) {
-            let hash = many(operator, sort_of(operator, width), 3 + k % 4, width);
-            print_hash(out, hash)?;
+            more_operands(out, operator, width)?;
         }
-        k += 1;
     }
     Ok(())
 }
@@ -282,15 +280,13 @@ fn line(out: &mut impl Write, width: u64) -> io::Result<()>
     requires { Width width }
 {
     write!(out, "{width}")?;
-    let mut operator = 0;
-    while operator < OPERATORS {
+    for operator in 0..OPERATORS {
         let hash = pairs(
             operator,
             width,
             small(operator, width, edges(operator, width)),
         );
         print_hash(out, hash)?;
-        operator += 1;
     }
     further(out, width)?;
     out.write_all(b"\n")
@@ -298,10 +294,8 @@ fn line(out: &mut impl Write, width: u64) -> io::Result<()>
 
 fn main(rt: HostRuntime) -> io::Result<()> {
     let mut out = io::writer(&rt);
-    let mut width = 1;
-    while width <= 64 {
+    for width in 1..=64 {
         line(&mut out, width)?;
-        width += 1;
     }
     Ok(())
 }

@@ -1,19 +1,10 @@
 -- What the functions of the operator table ask and give.
-use Rattle.std.specs.Prelude.{◌≡◌, ℕ, ◌<◌, false, cond, List, [], ◌∷◌, map, ◌==◌, slice_index}
+use Rattle.std.specs.Prelude.{◌≡◌, ℕ, ◌<◌, false, List, [], ◌∷◌, map, slice_index}
 use Rattle.std.proofs.Math.Option.{some}
 use Rattle.forest.specs.Lists.{spelling}
 use Rattle.operators.specs.Operators.{Operator, operator_at, operator_sort, operator_value}
 use Rattle.operators.specs.Sorts.{AllFit}
-use Rattle.operators.specs.Values.{and_value, or_value, xor_value}
 use Rattle.operators.specs.code.Vectors.{Words}
-
--- The number of `and`.
-abbrev pub and_number : ℕ
-and_number = 1
-
--- The number of `or`.
-abbrev pub or_number : ℕ
-or_number = 2
 
 -- The number of `extract`.
 abbrev pub extract_number : ℕ
@@ -22,10 +13,6 @@ extract_number = 22
 -- The bytes of the names of the rows.
 abbrev pub spellings : List Operator → List (List ℕ)
 spellings rows = map spelling (map (λ (o : Operator). o.name) rows)
-
--- `and`, `or` and, by any other number, `xor` of two operands.
-abbrev pub pair_value : (operator a b : ℕ) → ℕ
-pair_value operator a b = cond (operator == and_number) (and_value a b) (cond (operator == or_number) (or_value a b) (xor_value a b))
 
 -- Operands of these values that an operator takes, with the numbers of an `extract`, and of the first two the widths. A width that is not there is 0.
 pub record Operable (operator high low widthOne widthTwo : ℕ) (values : List ℕ) : Type 0 where

@@ -1,27 +1,12 @@
-use Rattle.std.proofs.Common.{refl, arith}
-use Rattle.operators.proofs.SortTests.{are_done, are_fails, are_turn}
+use Rattle.std.proofs.Common.{eqb, drop, ◌∙◌, rules, tests}
+use Rattle.std.proofs.lemmas.Iterator.{YieldsList-from_slice}
+use Rattle.std.proofs.lemmas.Iterator.Adapters.{YieldsList-from_skip}
+use Rattle.std.proofs.lemmas.Iterator.Search.{all_from_yields_List}
+use Rattle.operators.proofs.SortTests.{each_is}
 use Rattle.operators.proofs.sorting.all_are.Goals as goal
 
-pub loop-k-init : goal.loop-k-init
-loop-k-init c = refl
-
-pub offset_bounds-sorts-k : goal.offset_bounds-sorts-k
-offset_bounds-sorts-k c = omega arith
-
-pub bounds-sorts-k : goal.bounds-sorts-k
-bounds-sorts-k c = omega arith
-
-pub returns-then-sorts-k : goal.returns-then-sorts-k
-returns-then-sorts-k c = search are_fails
-
-pub overflow_add-k : goal.overflow_add-k
-overflow_add-k c = omega arith
-
-pub loop-k-smaller : goal.loop-k-smaller
-loop-k-smaller c = omega arith
-
-pub loop-k-preserved : goal.loop-k-preserved
-loop-k-preserved c = search are_turn
-
 pub returns : goal.returns
-returns c = search are_done
+returns c =
+    all_from_yields_List (λ t. eqb t c.args.sort) _ _ _ c.all.ensures.ran
+    (YieldsList-from_skip c.args.from (YieldsList-from_slice c.args.sorts.now cc) cc) (λ x b q k. search (rules, tests))
+    ∙ each_is c.args.sort (drop c.args.from c.args.sorts.now)

@@ -1,33 +1,17 @@
-use Rattle.std.proofs.Common.{arith}
-use Rattle.operators.proofs.Many.{chain_broken, chain_done, chain_starts, chain_turn}
+use Rattle.std.proofs.Common.{◌≡◌, ap, drop, ◌∙◌, rules, tests}
+use Rattle.std.specs.List.{list_all, zip}
+use Rattle.std.proofs.lemmas.Iterator.{YieldsList-from_slice, YieldsList-from_zip}
+use Rattle.std.proofs.lemmas.Iterator.Adapters.{YieldsList-from_skip}
+use Rattle.std.proofs.lemmas.Iterator.Search.{all_from_yields_List}
+use Rattle.operators.specs.Values.{truth}
+use Rattle.operators.proofs.Many.{alike, all_linked}
 use Rattle.operators.proofs.truth.all_alike.Goals as goal
 
-pub loop-k-init : goal.loop-k-init
-loop-k-init c = search chain_starts
-
-pub offset_bounds-values-k : goal.offset_bounds-values-k
-offset_bounds-values-k c = omega arith
-
-pub bounds-values-k : goal.bounds-values-k
-bounds-values-k c = omega arith
-
-pub returns-then-last-values : goal.returns-then-last-values
-returns-then-last-values c = search chain_broken
-
-pub offset_bounds-values-k-in-loop-k : goal.offset_bounds-values-k-in-loop-k
-offset_bounds-values-k-in-loop-k c = omega arith
-
-pub bounds-values-k-in-loop-k : goal.bounds-values-k-in-loop-k
-bounds-values-k-in-loop-k c = omega arith
-
-pub overflow_add-k : goal.overflow_add-k
-overflow_add-k c = omega arith
-
-pub loop-k-smaller : goal.loop-k-smaller
-loop-k-smaller c = omega arith
-
-pub loop-k-preserved : goal.loop-k-preserved
-loop-k-preserved c = search chain_turn
-
 pub returns : goal.returns
-returns c = search chain_done
+returns c =
+    let e : c.all.result ≡ list_all alike (zip c.args.values.now (drop 1 c.args.values.now)) =
+    all_from_yields_List alike c.all.new.self _ c.all.result c.all.ensures.ran
+    (YieldsList-from_zip (YieldsList-from_slice c.args.values.now cc) (YieldsList-from_skip 1 (YieldsList-from_slice c.args.values.now cc) cc))
+    (λ x b q k. search (rules, tests)) in
+    let t : c.from.result ≡ truth c.all.result = search rules in
+    t ∙ ap truth (e ∙ all_linked c.args.values.now)

@@ -1,27 +1,13 @@
-use Rattle.std.proofs.Common.{refl, arith}
-use Rattle.operators.proofs.Many.{each_done, each_fails, each_turn}
+use Rattle.std.proofs.Common.{drop, ◌∙◌, rules, tests}
+use Rattle.std.proofs.lemmas.Iterator.{YieldsList-from_slice}
+use Rattle.std.proofs.lemmas.Iterator.Adapters.{YieldsList-from_skip}
+use Rattle.std.proofs.lemmas.Iterator.Search.{all_from_yields_List}
+use Rattle.operators.specs.Values.{differ}
+use Rattle.operators.proofs.Many.{each_differs}
 use Rattle.operators.proofs.truth.differs_from.Goals as goal
 
-pub loop-k-init : goal.loop-k-init
-loop-k-init c = refl
-
-pub offset_bounds-values-k : goal.offset_bounds-values-k
-offset_bounds-values-k c = omega arith
-
-pub bounds-values-k : goal.bounds-values-k
-bounds-values-k c = omega arith
-
-pub returns-then-value-values : goal.returns-then-value-values
-returns-then-value-values c = search each_fails
-
-pub overflow_add-k : goal.overflow_add-k
-overflow_add-k c = omega arith
-
-pub loop-k-smaller : goal.loop-k-smaller
-loop-k-smaller c = omega arith
-
-pub loop-k-preserved : goal.loop-k-preserved
-loop-k-preserved c = search each_turn
-
 pub returns : goal.returns
-returns c = search each_done
+returns c =
+    all_from_yields_List (differ c.args.value) _ _ _ c.all.ensures.ran
+    (YieldsList-from_skip c.args.from (YieldsList-from_slice c.args.values.now cc) cc) (λ x b q k. search (rules, tests))
+    ∙ each_differs c.args.value (drop c.args.from c.args.values.now)

@@ -1,24 +1,13 @@
-use Rattle.std.proofs.Common.{arith}
-use Rattle.operators.proofs.Many.{left_done, left_starts, left_turn}
+use Rattle.std.proofs.Common.{◌≡◌, ap, ◌∙◌, rules, of_calls}
+use Rattle.std.proofs.iter.runs.Made.{chains}
+use Rattle.std.specs.Iterator.{ActsAsOnTwo}
+use Rattle.std.specs.List.{reduce}
+use Rattle.std.specs.Option.{unwrap_or}
+use Rattle.operators.proofs.Many.{grouped_left}
 use Rattle.operators.proofs.truth.group_left.Goals as goal
 
-pub loop-k-init : goal.loop-k-init
-loop-k-init c = search left_starts
-
-pub offset_bounds-values-k : goal.offset_bounds-values-k
-offset_bounds-values-k c = omega arith
-
-pub bounds-values-k : goal.bounds-values-k
-bounds-values-k c = omega arith
-
-pub overflow_add-k : goal.overflow_add-k
-overflow_add-k c = omega arith
-
-pub loop-k-smaller : goal.loop-k-smaller
-loop-k-smaller c = omega arith
-
-pub loop-k-preserved : goal.loop-k-preserved
-loop-k-preserved c = search left_turn
-
 pub returns : goal.returns
-returns c = search left_done
+returns g c f computes =
+    let acts : ActsAsOnTwo g.F.Fn c.args.pair f = λ x y r p k. (g.met.F.Fn.1.step_stays _ _ _ _ k, computes x y r (search of_calls)) in
+    let e : c.reduce.result ≡ reduce f c.args.values.now = search (rules, chains, acts) in
+    c.unwrap_or.ensures ∙ ap (λ r. unwrap_or r 0) e ∙ grouped_left f c.args.values.now

@@ -1,36 +1,12 @@
-use Rattle.std.proofs.Common.{arith}
-use Rattle.operators.proofs.Many.{right_done, right_none, right_starts, right_turn}
+use Rattle.std.proofs.Common.{◌≡◌, ap, reverse, ◌∙◌, rules}
+use Rattle.std.proofs.iter.runs.Made.{chains}
+use Rattle.std.specs.List.{reduce}
+use Rattle.std.specs.Option.{unwrap_or}
+use Rattle.operators.specs.Values.{implies_value}
+use Rattle.operators.proofs.Many.{grouped_right}
 use Rattle.operators.proofs.truth.group_right.Goals as goal
 
-pub returns-then-k-eq0 : goal.returns-then-k-eq0
-returns-then-k-eq0 c = search right_none
-
-pub overflow_sub-k : goal.overflow_sub-k
-overflow_sub-k c = omega arith
-
-pub offset_bounds-values-k : goal.offset_bounds-values-k
-offset_bounds-values-k c = omega arith
-
-pub bounds-values-k : goal.bounds-values-k
-bounds-values-k c = omega arith
-
-pub loop-k-init : goal.loop-k-init
-loop-k-init c = (omega arith, search right_starts)
-
-pub overflow_sub-k-in-loop-k : goal.overflow_sub-k-in-loop-k
-overflow_sub-k-in-loop-k c = omega arith
-
-pub offset_bounds-values-k-in-loop-k : goal.offset_bounds-values-k-in-loop-k
-offset_bounds-values-k-in-loop-k c = omega arith
-
-pub bounds-values-k-in-loop-k : goal.bounds-values-k-in-loop-k
-bounds-values-k-in-loop-k c = omega arith
-
-pub loop-k-smaller : goal.loop-k-smaller
-loop-k-smaller c = omega arith
-
-pub loop-k-preserved : goal.loop-k-preserved
-loop-k-preserved c = (omega arith, search right_turn)
-
 pub returns : goal.returns
-returns c = search right_done
+returns c =
+    let e : c.reduce.result ≡ reduce (λ r b. implies_value b r) (reverse c.args.values.now) = search (rules, chains) in
+    c.unwrap_or.ensures ∙ ap (λ r. unwrap_or r 0) e ∙ grouped_right implies_value c.args.values.now
