@@ -4,12 +4,13 @@ use native.Mathlib.Nat.{add_assoc, add-zero, mod-lt, suc-add}
 use native.Mathlib.Numerals.{add-one}
 use native.Mathlib.Omega.{arith}
 use mathlib.Core.Path.{◌≡◌, refl, sym, ap, ap₂, subst, ◌∙◌}
-use mathlib.Core.Bool.{Bool, true, false, cond, and-false, ◌&&◌}
+use mathlib.Core.Bool.{Bool, true, false, cond}
 use mathlib.Core.List.{List, [], ◌∷◌, ◌++◌, append_assoc}
+use lib.Pointwise.{pointwise}
 use lib.Dec.{T, eqb, lit<, ltb}
 use lib.ListN.{drop, get_or, length, take, drop_of_length-le, length-append}
 use lib.Seq.{drop-append_seam, take-append_seam}
-use borrow.Author.Tests.{eq-eqb, eqb-true, le-ltb, lt-ltb, ne_eqb}
+use borrow.Author.Tests.{eqb-true, le-ltb, lt-ltb}
 use Rattle.forest.specs.Lists.{same_bytes}
 use Rattle.forest.proofs.Bools.{and_left, and_right, apart, each, every}
 use Rattle.forest.proofs.Lists.{drop_next}
@@ -24,42 +25,13 @@ same_bytes_lem [] (b ∷ v) e = apart e
 same_bytes_lem (a ∷ u) [] e = apart e
 same_bytes_lem (a ∷ u) (b ∷ v) e = ap₂ ◌∷◌ (eqb-true a b (and_left (eqb a b) (same_bytes u v) e)) (same_bytes_lem u v (and_right (eqb a b) _ e))
 
--- lists of two lengths differ
-pub lengths_differ : (left right : List ℕ) → (length left ≡ length right → ⊥) → false ≡ same_bytes left right
+-- as `==` tests them
+pub same_pointwise : (u v : List ℕ) → pointwise eqb u v ≡ same_bytes u v
 unfolding same_bytes
-lengths_differ [] [] h = absurd (h refl)
-lengths_differ [] (b ∷ v) h = refl
-lengths_differ (a ∷ u) [] h = refl
-lengths_differ (a ∷ u) (b ∷ v) h = let q = lengths_differ u v (λ e. h (ap suc e)) in simp (← q, and-false)
-
--- the first bytes of two lists are the same
-pub record Alike (left right : List ℕ) (passed : ℕ) : Type 0 where
-  pub long : length left ≡ length right
-  pub reached : passed ≤ length left
-  pub same : same_bytes (drop passed left) (drop passed right) ≡ same_bytes left right
-
-module _ {left right : List ℕ} {passed : ℕ} (alike : Alike left right passed) where
-  module _ (h : passed < length left) where
-    step : (eqb (get_or left passed 0) (get_or right passed 0) && same_bytes (drop (passed + 1) left) (drop (passed + 1) right)) ≡ same_bytes left right
-    unfolding same_bytes
-    step =
-        let l : passed < length right = omega (arith, alike.long) in
-        rw (← alike.same, drop_next left passed, drop_next right passed)
-
-    -- lists with another byte differ
-    pub other_byte : (get_or left passed 0 ≡ get_or right passed 0 → ⊥) → false ≡ same_bytes left right
-    other_byte q = rw (ne_eqb _ _ q) at step
-
-    -- with the same byte one byte more is the same
-    pub same_byte : get_or left passed 0 ≡ get_or right passed 0 → Alike left right (passed + 1)
-    same_byte q = record { long = alike.long; reached = omega arith; same = rw (eq-eqb _ _ q) at step }
-
-  -- lists that are the same to their ends are the same
-  pub all_alike : length left ≤ passed → true ≡ same_bytes left right
-  unfolding same_bytes
-  all_alike h =
-      let l : length right ≤ passed = omega (arith, alike.long) in
-      rw (drop_of_length-le left h, drop_of_length-le right l) at alike.same
+same_pointwise [] [] = refl
+same_pointwise [] (b ∷ v) = refl
+same_pointwise (a ∷ u) [] = refl
+same_pointwise (a ∷ u) (b ∷ v) = rw (same_pointwise u v)
 
 -- ---- the words, one after the other
 

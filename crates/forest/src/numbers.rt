@@ -6,17 +6,14 @@ ghost use Rattle.forest.specs.code.Rows.{number_at, widest};
 pub fn least(one: usize, other: usize) -> usize
     ensures { result ≡ min one other }
 {
-    if one <= other { one } else { other }
+    one.min(other)
 }
 
 // The number at a place of a table; 0 past its end.
 pub fn entry_at(table: &[u64], place: usize) -> u64
     ensures { result ≡ get_or table.now place 0 }
 {
-    if place < table.len() {
-        return table[place];
-    }
-    0
+    table.get(place).copied().unwrap_or(0)
 }
 
 // Puts a number at a place of a table; past its end there is none to put it at.
@@ -34,9 +31,6 @@ pub fn number_at(table: &[u64], width: usize, row: usize, column: usize) -> u64
     requires width_le_widest { width ≤ widest }
     ensures { result ≡ number_at width table.now row column }
 {
-    if row < table.len() / width {
-        return table[width * row + column];
-    }
     if row >= table.len() {
         return 0;
     }

@@ -11,17 +11,7 @@ pub const SLOTS: usize = 512;
 pub fn same_bytes(left: &[u8], right: &[u8]) -> bool
     ensures { result ≡ same_bytes left.now right.now }
 {
-    if left.len() != right.len() {
-        return false;
-    }
-    let mut passed = 0;
-    while passed < left.len() {
-        if left[passed] != right[passed] {
-            return false;
-        }
-        passed += 1;
-    }
-    true
+    left == right
 }
 
 // The slot of a word.
@@ -29,10 +19,8 @@ fn slot_of(word: &[u8]) -> usize
     ensures { result ≡ slot_of word.now }
 {
     let mut slot = 13;
-    let mut k = 0;
-    while k < word.len() {
-        slot = (7 * slot + word[k] as usize) % SLOTS;
-        k += 1;
+    for byte in word {
+        slot = (7 * slot + usize::from(*byte)) % SLOTS;
     }
     slot
 }
