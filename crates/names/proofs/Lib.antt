@@ -5,7 +5,6 @@ pub mod Symbols
 pub mod Bytes
 pub mod Patterns
 pub mod ByWords
-pub mod Constants
 pub mod NodeTurns
 pub mod PairNames
 pub mod Members

@@ -82,11 +82,10 @@ fn decimal_means(text: &[u8], lexemes: &[u64], word: usize) -> Meaning
     if (width < 1) | (width > MAX_WIDTH) {
         return known_as(NOTHING, 0);
     }
-    let numeral = decimal_value(bytes_at(text, lexemes, word));
-    if numeral.fits & (numeral.value <= ones(width)) {
-        return known_as(code_with(LITERAL_KIND, width), numeral.value);
+    match decimal_value(bytes_at(text, lexemes, word)) {
+        Some(value) if value <= ones(width) => known_as(code_with(LITERAL_KIND, width), value),
+        _ => known_as(NOTHING, 0),
     }
-    known_as(NOTHING, 0)
 }
 
 // What `(_ extract i j)` stands for, by the word that is i.

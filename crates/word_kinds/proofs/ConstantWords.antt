@@ -1,11 +1,11 @@
 -- The word of a constant `(_ bvN n)`: its form, and the value of its numeral, digit by digit.
-use Prim.Native.Nat.{ℕ, ◌+◌, ◌-◌, ◌*◌, ◌/◌, ◌^◌, ◌≤◌, ◌<◌}
+use Prim.Native.Nat.{ℕ, ◌+◌, ◌-◌, ◌*◌, ◌≤◌, ◌<◌}
 use Prim.Native.Char.{code}
 use native.Mathlib.Omega.{arith}
 use mathlib.Core.Path.{◌≡◌, refl, sym, ap, ◌∙◌}
 use mathlib.Core.Bool.{Bool, true, false, not, ◌&&◌, ◌||◌}
 use mathlib.Core.List.{List, [], ◌∷◌}
-use borrow.Author.Tests.{le-leb, le-ltb, lt-leb, lt-ltb}
+use borrow.Author.Tests.{le-leb, lt-leb}
 use lib.Dec.{eqb}
 use lib.ListN.{drop, drop_of_length-le, get_or, length, length-drop, take}
 use lib.Seq.{take_all}
@@ -13,7 +13,6 @@ use Rattle.forest.proofs.Bools.{apart}
 use Rattle.forest.proofs.Lists.{drop_next}
 use Rattle.word_kinds.specs.Kinds.{digit_value, numeral_form, spelled}
 use Rattle.word_kinds.specs.Decimals.{decimal_start, decimal_value, is_decimal}
-use Rattle.word_kinds.specs.code.Decimals.{Valued}
 
 module _ (name : List ℕ) where
   -- too few bytes
@@ -54,21 +53,16 @@ spelled_least v (b ∷ w) = omega (arith, spelled_least (v * 10 + digit_value b)
 
 module _ (word : List ℕ) (i v : ℕ) (inv : spelled 10 v (drop i word) ≡ decimal_value word) where
   -- no digit is left
-  pub value_ends : length word ≤ i → v < 2 ^ 64 → Valued word (record { fits = true; value = v })
+  pub value_ends : length word ≤ i → v ≡ decimal_value word
   unfolding spelled
-  value_ends h small =
-      let e : v ≡ decimal_value word = sym (rw (drop_of_length-le word)) ∙ inv in
-      record { fits_is = sym (lt-ltb (decimal_value word) (2 ^ 64) (omega arith)); value_is = λ t. e }
+  value_ends h = sym (rw (drop_of_length-le word)) ∙ inv
 
-  module _ (d : ℕ) (h : i < length word) (e : d ≡ digit_value (get_or word i 0)) where
+  module _ (h : i < length word) where
     -- one more digit
-    pub value_goes : spelled 10 (v * 10 + d) (drop (i + 1) word) ≡ decimal_value word
+    pub value_goes : spelled 10 (v * 10 + digit_value (get_or word i 0)) (drop (i + 1) word) ≡ decimal_value word
     unfolding spelled
-    value_goes = rw e (sym (rw (drop_next word i h)) ∙ inv)
+    value_goes = sym (rw (drop_next word i h)) ∙ inv
 
-    -- with which the value does not fit
-    pub value_past : (18446744073709551615 - d) / 10 < v → d ≤ 18446744073709551615 → Valued word (record { fits = false; value = 0 })
-    value_past large small =
-        let least = spelled_least (v * 10 + d) (drop (i + 1) word) in
-        let next = value_goes in
-        record { fits_is = sym (le-ltb (decimal_value word) (2 ^ 64) (omega arith)); value_is = λ t. apart t }
+    -- which makes it no less
+    pub value_least : v * 10 + digit_value (get_or word i 0) ≤ decimal_value word
+    value_least = omega (arith, value_goes, spelled_least (v * 10 + digit_value (get_or word i 0)) (drop (i + 1) word))

@@ -6,66 +6,47 @@ ghost use Rattle.word_kinds.specs.Bytes.{binary_digit, digit, hex_digit, letter,
 pub fn is_uncarried(byte: u8) -> bool
     ensures { result ≡ uncarried byte }
 {
-    (byte == b'"') | (byte == b'|') | (byte == b':')
+    matches!(byte, b'"' | b'|' | b':')
 }
 
 // `0` to `9`.
 pub fn is_digit(byte: u8) -> bool
     ensures { result ≡ digit byte }
 {
-    (b'0' <= byte) & (byte <= b'9')
+    byte.is_ascii_digit()
 }
 
 // A hex digit of either case.
 pub fn is_hex_digit(byte: u8) -> bool
     ensures { result ≡ hex_digit byte }
 {
-    is_digit(byte) | ((b'A' <= byte) & (byte <= b'F')) | ((b'a' <= byte) & (byte <= b'f'))
+    matches!(byte, b'0'..=b'9' | b'A'..=b'F' | b'a'..=b'f')
 }
 
 // `0` or `1`.
 pub fn is_binary_digit(byte: u8) -> bool
     ensures { result ≡ binary_digit byte }
 {
-    (byte == b'0') | (byte == b'1')
+    matches!(byte, b'0' | b'1')
 }
 
 // A letter of either case.
 fn is_letter(byte: u8) -> bool
     ensures { result ≡ letter byte }
 {
-    ((b'A' <= byte) & (byte <= b'Z')) | ((b'a' <= byte) & (byte <= b'z'))
+    byte.is_ascii_alphabetic()
 }
 
 // One of the marks that a symbol may have.
 fn is_mark(byte: u8) -> bool
     ensures { result ≡ mark byte }
 {
-    (byte == b'~')
-        | (byte == b'!')
-        | (byte == b'@')
-        | (byte == b'$')
-        | (byte == b'%')
-        | (byte == b'^')
-        | (byte == b'&')
-        | (byte == b'*')
-        | (byte == b'_')
-        | (byte == b'-')
-        | (byte == b'+')
-        | (byte == b'=')
-        | (byte == b'<')
-        | (byte == b'>')
-        | (byte == b'.')
-        | (byte == b'?')
-        | (byte == b'/')
+    b"~!@$%^&*_-+=<>.?/".contains(&byte)
 }
 
 // A byte that a symbol may have.
 pub fn in_symbol(byte: u8) -> bool
     ensures { result ≡ symbol_byte byte }
 {
-    if is_letter(byte) {
-        return true;
-    }
-    is_digit(byte) | is_mark(byte)
+    is_letter(byte) || is_digit(byte) || is_mark(byte)
 }

@@ -3,7 +3,6 @@ ghost use Rattle.std.specs.Prelude.{◌≡◌};
 ghost use Rattle.word_kinds.specs.Decimals.{is_decimal, is_long};
 ghost use Rattle.word_kinds.specs.code.Decimals.{Valued};
 
-use crate::Decimal;
 use crate::kinds::{digit_value, is_numeral};
 
 // How many bytes stand before the numeral, and how many digits it has at the most.
@@ -31,22 +30,13 @@ pub fn is_long(word: &[u8]) -> bool
     word.len() > START + DIGITS
 }
 
-// The value of its numeral, where it fits.
-pub fn decimal_value(word: &[u8]) -> Decimal
+// The value of its numeral, where it fits 64 bits.
+pub fn decimal_value(word: &[u8]) -> Option<u64>
     ensures { Valued word.now result }
 {
     let mut value = 0u64;
-    let mut i = START;
-    while i < word.len() {
-        let digit = digit_value(word[i]);
-        if value > (u64::MAX - digit) / 10 {
-            return Decimal {
-                fits: false,
-                value: 0,
-            };
-        }
-        value = value * 10 + digit;
-        i += 1;
+    for i in START..word.len() {
+        value = value.checked_mul(10)?.checked_add(digit_value(word[i]))?;
     }
-    Decimal { fits: true, value }
+    Some(value)
 }

@@ -33,35 +33,19 @@ fn in_class(class: Class, byte: u8) -> bool
 fn all_in(class: Class, word: &[u8]) -> bool
     ensures { result ≡ all_in class word.now }
 {
-    let mut i = 0;
-    while i < word.len() {
-        if !in_class(class, word[i]) {
-            return false;
-        }
-        i += 1;
-    }
-    true
-}
-
-// What is left of a number without another, 0 where that is more.
-fn less(number: u64, other: u64) -> u64
-    ensures { result ≡ number - other }
-{
-    if other <= number { number - other } else { 0 }
+    word.iter().all(|byte| in_class(class, *byte))
 }
 
 // The value of a digit of base 16 or less.
 pub(crate) fn digit_value(byte: u8) -> u64
     ensures { result ≡ digit_value byte }
 {
-    let code = byte as u64;
-    if code <= 57 {
-        return less(code, 48);
-    }
-    if code <= 70 {
-        return 10 + less(code, 65);
-    }
-    10 + less(code, 97)
+    let value = match byte {
+        0..=b'9' => byte.saturating_sub(b'0'),
+        b':'..=b'F' => 10 + byte.saturating_sub(b'A'),
+        _ => 10 + byte.saturating_sub(b'a'),
+    };
+    u64::from(value)
 }
 
 // The number that digits spell in a base.
@@ -69,13 +53,11 @@ fn spell(base: u64, digits: &[u8]) -> u64
     requires { (digits_below base digits.now ≡ true) × (base ^ length digits.now ≤ 2 ^ 64) }
     ensures { result ≡ spelled base 0 digits.now }
 {
-    let mut v: u64 = 0;
-    let mut i = 0;
-    while i < digits.len() {
-        v = v * base + digit_value(digits[i]);
-        i += 1;
+    let mut value = 0;
+    for digit in digits {
+        value = value * base + digit_value(*digit);
     }
-    v
+    value
 }
 
 // Whether bytes, of which there are some, are `0`, or digits not starting with 0.
@@ -83,7 +65,7 @@ pub(crate) fn is_numeral(word: &[u8]) -> bool
     requires { 0 < length word.now }
     ensures { result ≡ numeral_form word.now }
 {
-    all_in(Class::Digits, word) & ((word.len() == 1) | (word[0] != b'0'))
+    all_in(Class::Digits, word) && (word.len() == 1 || word[0] != b'0')
 }
 
 // A word that begins with a digit.

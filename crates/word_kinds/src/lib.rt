@@ -25,13 +25,6 @@ pub enum Fault {
     NotCarried,
 }
 
-// The value of a constant's numeral, where it fits 64 bits.
-#[derive(Clone, Copy)]
-pub struct Decimal {
-    pub fits: bool,
-    pub value: u64,
-}
-
 // What a word is: a numeral has its value, a literal its width in bits and its value; a keyword is one that is carried.
 #[derive(Clone, Copy)]
 pub enum Kind {

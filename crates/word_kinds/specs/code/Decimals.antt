@@ -1,9 +1,7 @@
 -- What is computed of a constant's numeral.
-use Rattle.std.specs.Prelude.{ℕ, ◌^◌, true, List, ◌≡◌, ltb}
+use Rattle.std.specs.Prelude.{ℕ, ◌^◌, ◌<◌, List, Option, SomeIff}
 use Rattle.word_kinds.specs.Decimals.{decimal_value}
-use Rattle.word_kinds.specs.declared.Decimal.{Decimal}
 
--- Whether its value fits 64 bits, and the value where it does.
-pub record Valued (name : List ℕ) (d : Decimal) : Type 0 where
-  pub fits_is : d.fits ≡ ltb (decimal_value name) (2 ^ 64)
-  pub value_is : d.fits ≡ true → d.value ≡ decimal_value name
+-- Its value where that fits 64 bits, and none where it does not.
+abbrev pub Valued : (name : List ℕ) → (value : Option ℕ) → Type 0
+Valued name value = SomeIff value (decimal_value name < 2 ^ 64) (decimal_value name)

@@ -1,35 +1,23 @@
-use Prim.Native.Nat.{◌≤◌}
 use native.Mathlib.Omega.{arith}
-use mathlib.Core.Path.{refl}
-use Rattle.word_kinds.proofs.ConstantWords.{value_ends, value_goes, value_past}
+use Rattle.word_kinds.proofs.ConstantWords.{value_ends, value_goes, value_least}
 use Rattle.word_kinds.proofs.decimals.decimal_value.Goals as goal
 
-pub loop-i-init : goal.loop-i-init
-loop-i-init c = (refl, omega arith)
+pub returns-in_err-checked_mul : goal.returns-in_err-checked_mul
+returns-in_err-checked_mul c =
+    let least = value_least c.args.word.now c.loop-i.i c.loop-i.value c.loop-i.invariant.0 c.loop-i-test.true in
+    rw c.from_residual.ensures (λ small. c.in_err-checked_mul.ensures (omega arith))
 
-pub bounds-word-i : goal.bounds-word-i
-bounds-word-i c = omega arith
-
-pub overflow_sub-digit : goal.overflow_sub-digit
-overflow_sub-digit c = omega arith
-
-pub returns-then-value-digit : goal.returns-then-value-digit
-returns-then-value-digit c = let small : c.digit_value-digit.result ≤ 18446744073709551615 = omega arith in search value_past
-
-pub overflow_mul-value : goal.overflow_mul-value
-overflow_mul-value c = omega arith
-
-pub overflow_add-value : goal.overflow_add-value
-overflow_add-value c = omega arith
-
-pub overflow_add-i : goal.overflow_add-i
-overflow_add-i c = omega arith
-
-pub loop-i-smaller : goal.loop-i-smaller
-loop-i-smaller c = omega arith
+pub returns-in_err-value : goal.returns-in_err-value
+returns-in_err-value c =
+    let least = value_least c.args.word.now c.loop-i.i c.loop-i.value c.loop-i.invariant.0 c.loop-i-test.true in
+    rw c.from_residual-in_err-value.ensures (λ small. c.in_err-value.ensures (omega (arith, c.in_ok-checked_mul.ensures, c.digit_value.ensures)))
 
 pub loop-i-preserved : goal.loop-i-preserved
-loop-i-preserved c = (search value_goes, omega arith)
+loop-i-preserved c =
+    let goes = value_goes c.args.word.now c.loop-i.i c.loop-i.value c.loop-i.invariant.0 c.loop-i-test.true in
+    (rw (c.in_ok-value.ensures.1, c.in_ok-checked_mul.ensures.1, c.digit_value.ensures) goes, omega (arith, c.in_ok-value.ensures))
 
 pub returns : goal.returns
-returns c = search value_ends
+returns c =
+    let ends = value_ends c.args.word.now c.loop-i.i c.loop-i.value c.loop-i.invariant.0 c.loop-i-test.false in
+    (omega arith, ends)
