@@ -8,13 +8,13 @@ use mathlib.Core.List.{List, [], ◌∷◌}
 use mathlib.Core.Path.{◌≡◌, refl, sym, ap, ◌∙◌, subst}
 use lib.Dec.{eqb}
 use lib.ListN.{drop, length}
-use borrow.Author.Tests.{eq-eqb, ne_eqb, not-false, not-true}
+use borrow.Author.Tests.{eq-eqb, ne_eqb}
 use Rattle.forest.specs.Limits.{most_non_terminals}
 use Rattle.forest.specs.Lists.{among}
 use Rattle.derivation.specs.Derivation.{Grammar, Rule, form_of, head_of, rule, weight_of}
 use Rattle.derivation.specs.Productive.{form_yields, one_pass, passes, productive}
 use Rattle.derivation.specs.code.Masks.{Puts, has}
-use Rattle.derivation.specs.code.Productive.{AsksDead, AsksForm, FindsDead, FormTested, Found, Grown, Marks, Passed, Tabled, grown_by}
+use Rattle.derivation.specs.code.Productive.{AsksDead, AsksForm, FormTested, Found, Grown, Marks, Passed, Tabled, grown_by}
 use Rattle.derivation.specs.code.Rules.{non_terminal_at, rule_width}
 use Rattle.derivation.proofs.Mask.{has_zero}
 use Rattle.derivation.proofs.FoundExactly.{adds_none, pass_same, passes_same}
@@ -212,29 +212,3 @@ pub record DeadInv (rules forms arguments : List ℕ) (n mask A : ℕ) : Type 0 
   pub known : Found rules forms arguments n mask
   pub most : A ≤ n
   pub before : (t : Tabled rules forms arguments) (B : ℕ) → B < A → among B (productive t.G n) ≡ true
-
-module _ {rules forms arguments : List ℕ} {n mask : ℕ} where
-  pub dead_start : AsksDead rules forms arguments n → Found rules forms arguments n mask → DeadInv rules forms arguments n mask 0
-  dead_start q f = record { asks = q; known = f; most = omega arith; before = λ t B h. absurd (omega arith) }
-
-  module _ {A : ℕ} (v : DeadInv rules forms arguments n mask A) where
-    pub dead_low : A < n → A < most_non_terminals
-    dead_low h = omega (arith, v.asks.few)
-
-    module _ (h : A < n) {b : Bool} (eb : b ≡ has mask A) where
-      -- whether it is found
-      found_here : (t : Tabled rules forms arguments) → among A (productive t.G n) ≡ b
-      found_here t = sym ((v.known.is t).same A (dead_low h)) ∙ sym eb
-
-      pub dead_here : not b ≡ true → FindsDead rules forms arguments n A
-      dead_here y t = record { most = v.most; before = v.before t.tabled; here = λ l. found_here t.tabled ∙ not-true b y }
-
-      pub dead_on : not b ≡ false → DeadInv rules forms arguments n mask (A + 1)
-      dead_on y = record { asks = v.asks; known = v.known; most = omega arith; before = λ t B l. go t B (ℕ_discrete B A) l }
-        where
-          go : (t : Tabled rules forms arguments) (B : ℕ) → Dec (B ≡ A) → B < A + 1 → among B (productive t.G n) ≡ true
-          go t B (yes e) l = rw e (found_here t ∙ not-false b y)
-          go t B (no e) l = v.before t B (omega arith)
-
-    pub dead_none : n ≤ A → FindsDead rules forms arguments n n
-    dead_none h t = record { most = omega arith; before = λ B l. v.before t.tabled B (omega arith); here = λ l. absurd (omega arith) }

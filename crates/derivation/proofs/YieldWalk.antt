@@ -4,25 +4,21 @@ use native.Mathlib.Omega.{arith}
 use mathlib.Core.Bool.{Bool, true, false, ◌&&◌, and_assoc, not}
 use mathlib.Core.List.{List, [], ◌∷◌}
 use mathlib.Core.Path.{◌≡◌, refl, sym, ap, ◌∙◌, subst}
-use lib.Dec.{eqb, lit<}
-use lib.ListN.{drop, get_or, length}
+use lib.Dec.{lit<}
+use lib.ListN.{drop, length}
 use lib.Seq.{drop-nil}
-use borrow.Author.Tests.{eq-eqb, ne_eqb, not-false, not-true}
+use borrow.Author.Tests.{ne_eqb, not-false, not-true}
 use Rattle.forest.specs.Forest.{Forest, count, join, none, tree}
 use Rattle.forest.specs.Limits.{most_non_terminals}
-use Rattle.forest.specs.Lists.{among}
 use Rattle.forest.specs.code.Cursors.{from, size}
-use Rattle.forest.proofs.Laws.{Tree, count_node, count_size, count_zero, from_one, join_assoc, size_from, size_join, size_tree, size_zero, tree_of_count}
-use Rattle.forest.proofs.Laws.{tree_of_size}
-use Rattle.forest.proofs.Lists.{drop_next}
-use Rattle.terms.specs.code.Codes.{any_argument_kind, any_literal_kind, head_of as sort_in, kind_of, non_terminal_kind}
+use Rattle.forest.proofs.Laws.{Tree, count_node, count_size, count_zero, from_one, join_assoc, size_from, size_join, size_zero, tree_of_count, tree_of_size}
+use Rattle.terms.specs.code.Codes.{any_argument_kind, any_literal_kind, kind_of, non_terminal_kind}
 use Rattle.terms.specs.code.Nodes.{code_at, code_of, row_width, size_at, value_at}
 use Rattle.terms.proofs.CodeParts.{head_with, kind_with}
 use Rattle.derivation.specs.Derivation.{Grammar, Item, form_of}
 use Rattle.derivation.specs.Derivation.Item.{any_argument, any_literal, non_terminal, the}
 use Rattle.derivation.specs.Productive.{form_yields, node_yields}
 use Rattle.derivation.specs.code.Admitted.{Proper}
-use Rattle.derivation.specs.code.Masks.{has}
 use Rattle.derivation.specs.code.Productive.{AsksForm, AsksNode, FormTested, Marks, yields_at}
 use Rattle.derivation.specs.code.Rules.{start_at}
 use Rattle.derivation.specs.code.Tables.{right_sides}
@@ -35,18 +31,6 @@ pub drop_none : {A : Type 0} (l : List A) (n : ℕ) → length l ≤ n → drop 
 drop_none [] n h = drop-nil n
 drop_none (x ∷ l) zero h = absurd (omega arith)
 drop_none (x ∷ l) (suc n) h = drop_none l n (omega arith)
-
--- ---- an argument of a sort
-
-module _ (arguments : List ℕ) (sort i : ℕ) (left : among sort (drop i arguments) ≡ among sort arguments) where
-  pub sort_here : i < length arguments → get_or arguments i 0 ≡ sort → true ≡ among sort arguments
-  sort_here h e = rw (drop_next arguments i h, eq-eqb sort (get_or arguments i 0) (sym e)) at left
-
-  pub sort_on : i < length arguments → (get_or arguments i 0 ≡ sort → ⊥) → among sort (drop (i + 1) arguments) ≡ among sort arguments
-  sort_on h n = rw (drop_next arguments i h, ne_eqb sort (get_or arguments i 0) (λ e. n (sym e))) at left
-
-  pub sort_none : length arguments ≤ i → false ≡ among sort arguments
-  sort_none h = rw (drop_none arguments i h) at left
 
 -- ---- a node
 
@@ -74,29 +58,6 @@ module _ {forms : List ℕ} {p : ℕ} where
   item_yields arguments found mask marks (any_literal s) ps qs proper says = rw (says.code, kind_with any_literal_kind s (lit< tt))
   item_yields arguments found mask marks (any_argument s) ps qs proper says =
       rw (says.code, kind_with any_argument_kind s (lit< tt), head_with any_argument_kind s (lit< tt))
-
--- the tests of a node's kind
-module _ (forms : List ℕ) (node : ℕ) {code : ℕ} (ec : code ≡ code_at forms node) {kind : ℕ} (ek : kind ≡ kind_of code) where
-  is_kind : (k : ℕ) → kind ≡ k → eqb (kind_of (code_at forms node)) k ≡ true
-  is_kind k e = eq-eqb _ k (ap kind_of (sym ec) ∙ sym ek ∙ e)
-
-  not_kind : (k : ℕ) → (kind ≡ k → ⊥) → eqb (kind_of (code_at forms node)) k ≡ false
-  not_kind k n = ne_eqb _ k (λ e. n (ek ∙ ap kind_of ec ∙ e))
-
-  pub node_low : AsksNode forms node → kind ≡ non_terminal_kind → {x : ℕ} → x ≡ value_at forms node → x < most_non_terminals
-  node_low q k ex = omega (arith, ex, q.low (ap kind_of (sym ec) ∙ sym ek ∙ k))
-
-  module _ (arguments : List ℕ) (mask : ℕ) where
-    pub node_hole : kind ≡ non_terminal_kind → {x : ℕ} → x ≡ value_at forms node → {b : Bool} → b ≡ has mask x → b ≡ yields_at forms arguments mask node
-    node_hole k ex eb = rw (is_kind non_terminal_kind k) (eb ∙ ap (has mask) ex)
-
-    module _ (n : kind ≡ non_terminal_kind → ⊥) where
-      pub node_argument : kind ≡ any_argument_kind → {s : ℕ} → s ≡ sort_in code → {b : Bool} → b ≡ among s arguments → b ≡ yields_at forms arguments mask node
-      node_argument k es eb =
-          rw (not_kind non_terminal_kind n, is_kind any_argument_kind k) (eb ∙ ap (λ (s : ℕ). among s arguments) (es ∙ ap sort_in ec))
-
-      pub node_other : (kind ≡ any_argument_kind → ⊥) → true ≡ yields_at forms arguments mask node
-      node_other m = rw (not_kind non_terminal_kind n, not_kind any_argument_kind m)
 
 -- forms one after the other
 yields_join : (arguments found : List ℕ) (a b : Forest Item)
@@ -210,17 +171,6 @@ module _ {rules forms arguments : List ℕ} {r : ℕ} (q : AsksForm rules forms 
         ∙ ap (form_yields G.arguments found) (sym node.is)
         ∙ a.same found marks
 
-    pub in_forms : row_width * p < length forms
-    in_forms =
-        omega (
-          arith,
-          forms_length (right_sides G.rules) q.tabled.is_forms,
-          ap size a.is,
-          size_join a.left where_rule.rest,
-          size_from (right_sides G.rules) p,
-          size_tree node,
-        )
-
   pub at_end : {mask p : ℕ} → At mask p → end ≤ p → (found : List ℕ) → Marks mask found → true ≡ form_yields G.arguments found P
   unfolding form_yields
   at_end a h found marks = let e : a.left ≡ none = size_zero a.left (omega (arith, a.ends)) in rw e at (a.same found marks)
@@ -260,9 +210,6 @@ module _ {rules forms arguments : List ℕ} {r : ℕ} where
     module _ (h : p < stop) where
       within : (q : AsksForm rules forms arguments r) → p < end q
       within q = omega (arith, v.stops q)
-
-      pub turn_place : p + 1 ≤ length forms
-      turn_place = omega (arith, in_forms v.pre (v.known v.pre) (within v.pre))
 
       pub turn_asks : AsksNode forms p
       turn_asks = node_asks v.pre (v.known v.pre) (within v.pre)

@@ -14,14 +14,7 @@ use terms::{code_at, size_at, value_at};
 fn has_sort(arguments: &[u64], sort: u64) -> bool
     ensures { result ≡ among sort arguments.now }
 {
-    let mut argument: usize = 0;
-    while argument < arguments.len() {
-        if arguments[argument] == sort {
-            return true;
-        }
-        argument += 1;
-    }
-    false
+    arguments.contains(&sort)
 }
 
 // Whether a node of a rule has something to stand for it, where the non-terminals of `found` derive a term.
@@ -45,13 +38,12 @@ fn form_yields(rules: &[u64], forms: &[u64], arguments: &[u64], found: u64, rule
     requires { AsksForm rules.now forms.now arguments.now rule }
     ensures { FormTested rules.now forms.now arguments.now found rule result }
 {
-    let mut place = start_at(rules, rule);
-    let end = place + size_at(forms, place);
-    while place < end {
+    let start = start_at(rules, rule);
+    let end = start + size_at(forms, start);
+    for place in start..end {
         if !node_yields(forms, arguments, found, place) {
             return false;
         }
-        place += 1;
     }
     true
 }
@@ -76,12 +68,9 @@ fn one_pass(rules: &[u64], forms: &[u64], arguments: &[u64], found: u64) -> u64
     requires { Tabled rules.now forms.now arguments.now }
     ensures { Passed rules.now forms.now arguments.now found result }
 {
-    let count = rules_in(rules);
     let mut grown = found;
-    let mut rule: usize = 0;
-    while rule < count {
+    for rule in 0..rules_in(rules) {
         grown = with_rule(rules, forms, arguments, grown, rule);
-        rule += 1;
     }
     grown
 }
@@ -92,14 +81,12 @@ fn productive(rules: &[u64], forms: &[u64], arguments: &[u64], count: usize) -> 
     ensures { Found rules.now forms.now arguments.now count result }
 {
     let mut found: u64 = 0;
-    let mut pass: usize = 0;
-    while pass < count {
+    for _pass in 0..count {
         let grown = one_pass(rules, forms, arguments, found);
         if grown == found {
             return found;
         }
         found = grown;
-        pass += 1;
     }
     found
 }
@@ -110,12 +97,10 @@ pub fn first_dead(rules: &[u64], forms: &[u64], arguments: &[u64], count: usize)
     ensures { FindsDead rules.now forms.now arguments.now count result }
 {
     let found = productive(rules, forms, arguments, count);
-    let mut nonterminal: usize = 0;
-    while nonterminal < count {
+    for nonterminal in 0..count {
         if !has(found, nonterminal as u64) {
             return nonterminal;
         }
-        nonterminal += 1;
     }
     count
 }

@@ -1,9 +1,5 @@
-use Prim.Native.Nat.{◌-◌}
 use Rattle.derivation.proofs.YieldWalk.{Inv}
 use Rattle.derivation.proofs.productive.form_yields.Given as goal
 
 abbrev pub invariant-loop-place : goal.invariant-loop-place
 invariant-loop-place l = Inv l.rules l.forms l.arguments l.found l.rule l.end l.place
-
-abbrev pub decreases-loop-place : goal.decreases-loop-place
-decreases-loop-place l = l.end - l.place

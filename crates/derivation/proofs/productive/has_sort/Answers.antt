@@ -1,25 +1,15 @@
-use native.Mathlib.Omega.{arith}
-use mathlib.Core.Path.{refl}
-use Rattle.derivation.proofs.YieldWalk.{sort_here, sort_none, sort_on}
+use Rattle.std.proofs.Common.{◌≡◌, ℕ, List, [], ◌∷◌, ◌∙◌, eqb, refl, arith}
+use Rattle.std.specs.List.{list_any}
+use Rattle.std.proofs.lemmas.Bool.Decides.{nat_tests}
+use Rattle.forest.specs.Lists.{among}
 use Rattle.derivation.proofs.productive.has_sort.Goals as goal
 
-pub loop-argument-init : goal.loop-argument-init
-loop-argument-init c = refl
+turned : (a b : ℕ) → eqb a b ≡ eqb b a
+turned a b = grind (arith, nat_tests)
 
-pub bounds-arguments-argument : goal.bounds-arguments-argument
-bounds-arguments-argument c = omega arith
-
-pub returns-then-arguments-argument : goal.returns-then-arguments-argument
-returns-then-arguments-argument c = search sort_here
-
-pub overflow_add-argument : goal.overflow_add-argument
-overflow_add-argument c = omega arith
-
-pub loop-argument-smaller : goal.loop-argument-smaller
-loop-argument-smaller c = omega arith
-
-pub loop-argument-preserved : goal.loop-argument-preserved
-loop-argument-preserved c = search sort_on
+among_any : (sort : ℕ) (l : List ℕ) → list_any (λ x. eqb x sort) l ≡ among sort l
+among_any sort [] = refl
+among_any sort (x ∷ more) = rw (turned x sort, among_any sort more)
 
 pub returns : goal.returns
-returns c = search sort_none
+returns c = c.contains.ensures.value ∙ among_any c.args.sort c.args.arguments.now

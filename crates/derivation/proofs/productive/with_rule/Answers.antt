@@ -1,4 +1,4 @@
-use Rattle.derivation.proofs.PassLoops.{rule_known, rule_low, rule_not, rule_yields}
+use Rattle.derivation.proofs.PassLoops.{rule_known, rule_low, rule_yields}
 use Rattle.derivation.proofs.productive.with_rule.Goals as goal
 
 pub has-requires : goal.has-requires
@@ -12,6 +12,3 @@ put-requires c = search rule_low
 
 pub returns-then-form_yields : goal.returns-then-form_yields
 returns-then-form_yields c = search rule_yields
-
-pub returns : goal.returns
-returns c = search rule_not
