@@ -12,7 +12,7 @@ use Rattle.terms.specs.Sorts.{with_sort}
 use Rattle.term_sorts.specs.Forms.{sorted}
 use Rattle.term_sorts.specs.code.Forms.{sort_number}
 use Rattle.term_sorts.specs.code.Operands.{AllSorted, Stand, Trees, together}
-use Rattle.term_sorts.proofs.TreeWalk.{Left, all_left, none_left, rest_left, turn}
+use Rattle.term_sorts.proofs.TreeWalk.{Left, none_left, rest_left, turn}
 
 -- Whether one sort more is there with others.
 pub sorted_with : (s : Option ℕ) (more : Option (List ℕ)) → (sort_number s ≡ 0 → ⊥) → sorted (with_sort s more) ≡ sorted more
@@ -27,42 +27,39 @@ unfolding with_sort
 unsorted_with nothing more h = refl
 unsorted_with (some s) more h = absurd (omega arith)
 
--- So many trees are left from node `here` on, and whether all have sorts is whether these have.
-pub record Undecided (forms column : List ℕ) (place count here left : ℕ) : Type 0 where
+-- The trees behind the first `done` are left from node `here` on, and whether all have sorts is whether these have.
+pub record Undecided (forms column : List ℕ) (place count here done : ℕ) : Type 0 where
   pub owes : (e : Trees sort_number forms column place count)
-      → Left sort_number forms column here left (λ (rest : List (Option ℕ)). sorted (together e.sorts) ≡ sorted (together rest))
+      → Left sort_number forms column here (count - done) (λ (rest : List (Option ℕ)). sorted (together e.sorts) ≡ sorted (together rest))
 
 module _ {forms column : List ℕ} {place count : ℕ} where
-  -- All are left, at the start.
-  pub undecided_begins : Undecided forms column place count place count
-  undecided_begins = record { owes = λ e. all_left e refl }
-
-  module _ {here left : ℕ} (u : Undecided forms column place count here left) where
+  module _ {here done : ℕ} (u : Undecided forms column place count here done) where
     -- The next tree ends within the column.
-    pub undecided_room : Trees sort_number forms column place count → 0 < left → here + size_at forms here ≤ length column
-    undecided_room e h = (turn (u.owes e) h).room
+    pub undecided_room : Trees sort_number forms column place count → done < count → here + size_at forms here ≤ length column
+    undecided_room e h = (turn (u.owes e) (omega arith)).room
 
     -- The next tree has no sort.
-    pub undecided_fails : {sort : ℕ} → 0 < left → sort ≡ get_or column here 0 → sort ≡ 0 → AllSorted forms column place count false
+    pub undecided_fails : {sort : ℕ} → done < count → sort ≡ get_or column here 0 → sort ≡ 0 → AllSorted forms column place count false
     unfolding together
     undecided_fails h q z e =
-        let t = turn (u.owes e) h in
+        let t = turn (u.owes e) (omega arith) in
         sym (t.owed ∙ unsorted_with t.first (together t.more) (sym t.number_is ∙ sym q ∙ z))
 
     -- The next tree has a sort.
-    pub undecided_goes : {sort size : ℕ} → 0 < left → sort ≡ get_or column here 0 → (sort ≡ 0 → ⊥) → size ≡ size_at forms here
-        → Undecided forms column place count (here + size) (left - 1)
+    pub undecided_goes : {sort size : ℕ} → done < count → sort ≡ get_or column here 0 → (sort ≡ 0 → ⊥) → size ≡ size_at forms here
+        → Undecided forms column place count (here + size) (done + 1)
     unfolding together
     undecided_goes h q z k = record {
       owes = λ e.
-          let t = turn (u.owes e) h in
-          rest_left t k (t.owed ∙ sorted_with t.first (together t.more) (λ n. z (q ∙ t.number_is ∙ n)));
+          let t = turn (u.owes e) (omega arith) in
+          let one : count - done - 1 ≡ count - (done + 1) = omega arith in
+          rw (← one) (rest_left t k (t.owed ∙ sorted_with t.first (together t.more) (λ n. z (q ∙ t.number_is ∙ n))));
     }
 
     -- All trees have sorts.
-    pub undecided_ends : left ≤ 0 → AllSorted forms column place count true
+    pub undecided_ends : count ≤ done → AllSorted forms column place count true
     unfolding together
-    undecided_ends h e = sym (none_left (u.owes e) h)
+    undecided_ends h e = sym (none_left (u.owes e) (omega arith))
 
 -- Trees that all have sorts, with their sorts.
 pub record Present (forms column : List ℕ) (place : ℕ) (all : List (Option ℕ)) : Type 0 where

@@ -1,6 +1,5 @@
 -- Whether trees have the sorts of a function's arguments, tree by tree.
 use Prim.Native.Nat.{ℕ, suc, ◌+◌, ◌-◌, ◌≤◌, ◌<◌}
-use native.Mathlib.Nat.{sub-zero}
 use native.Mathlib.Omega.{arith}
 use mathlib.Core.Bool.{Bool, true, false, cond, and-false}
 use mathlib.Core.Path.{◌≡◌, refl, sym, ap, ◌∙◌}
@@ -9,13 +8,12 @@ use borrow.Author.Tests.{eq-eqb, ne_eqb}
 use lib.ListN.{drop, drop_of_length-le, get_or, length}
 use Rattle.forest.proofs.Lists.{drop_next}
 use Rattle.forest.specs.code.Rows.{number_at}
-use Rattle.forest.specs.Limits.{most_arguments}
 use Rattle.terms.specs.code.Nodes.{size_at}
 use Rattle.terms.specs.Sorts.{same_sorts}
 use Rattle.term_sorts.specs.code.Calls.{ArgumentsFit, Called, CalledFully, CalledGives}
 use Rattle.term_sorts.specs.code.Signatures.{signature_width}
 use Rattle.term_sorts.proofs.RuleSorts.{number_of}
-use Rattle.term_sorts.proofs.TreeWalk.{Left, all_left, none_left, rest_left, turn}
+use Rattle.term_sorts.proofs.TreeWalk.{Left, none_left, rest_left, turn}
 
 -- Sorts of which the first differs are not the same.
 first_differs : (s t : ℕ) (ss ts later : List ℕ) → ts ≡ t ∷ later → (s ≡ t → ⊥) → same_sorts (s ∷ ss) ts ≡ false
@@ -35,10 +33,6 @@ pub record Fitting (forms signatures column : List ℕ) (place count row here k 
       (λ (rest : List ℕ). same_sorts e.called.trees.sorts e.called.by.arguments ≡ same_sorts rest (drop k e.called.by.arguments))
 
 module _ {forms signatures column : List ℕ} {place count row : ℕ} where
-  -- All are to be held against all arguments, at the start.
-  pub fitting_begins : Fitting forms signatures column place count row place 0
-  fitting_begins = record { low = omega arith; owes = λ e. rw sub-zero (all_left e.called.trees refl) }
-
   module _ {here k : ℕ} (f : Fitting forms signatures column place count row here k) (h : k < count) where
     module _ (e : CalledFully forms signatures column place count row) where
       -- The next tree ends within the column.
@@ -48,10 +42,6 @@ module _ {forms signatures column : List ℕ} {place count row : ℕ} where
       -- The next tree has a sort.
       pub fitting_some : 1 ≤ get_or column here 0
       fitting_some = let t = turn (f.owes e) (omega arith) in omega (arith, t.number_is)
-
-      -- The next argument is one of eight.
-      pub fitting_few : k < most_arguments
-      fitting_few = omega (arith, e.full, e.called.row_is.few)
 
       -- The first of the arguments that are left.
       next_argument : {argument : ℕ} → argument ≡ number_at signature_width signatures row (2 + k)

@@ -6,6 +6,7 @@ ghost use Rattle.term_sorts.specs.code.Signatures.{all_rows, signature_width};
 
 use crate::operands::sort_at;
 use crate::rules::number_when;
+use forest::numbers::entry_at;
 use terms::size_at;
 
 // How many numbers a row has.
@@ -16,11 +17,7 @@ fn signature_at(signatures: &[u64], row: usize, place: usize) -> u64
     requires { (row < all_rows) × (place < signature_width) }
     ensures { result ≡ number_at signature_width signatures.now row place }
 {
-    let index = ROW * row + place;
-    if index < signatures.len() {
-        return signatures[index];
-    }
-    0
+    entry_at(signatures, ROW * row + place)
 }
 
 // Whether the trees from node `place` on, as many as a row has arguments, have the sorts of the arguments.
@@ -36,13 +33,11 @@ fn arguments_fit(
     ensures { ArgumentsFit forms.now signatures.now column.now place count row result }
 {
     let mut here = place;
-    let mut argument = 0;
-    while argument < count {
+    for argument in 0..count {
         if sort_at(column, here) - 1 != signature_at(signatures, row, 2 + argument) {
             return false;
         }
         here += size_at(forms, here);
-        argument += 1;
     }
     true
 }

@@ -31,9 +31,7 @@ pub fn fill_sorts(forms: &[u64], signatures: &[u64], count: usize, column: &mut 
     ensures { (p : SortsFilling forms.now signatures.now count column.old) → SortsFilled p column.new result }
 {
     let mut fault = count;
-    let mut node = count;
-    while 0 < node {
-        node -= 1;
+    for node in (0..count).rev() {
         let whole = operands_sorted(forms, column, node + 1, operands_at(forms, node) as usize);
         let sort = node_sort(forms, signatures, column, node, whole);
         fault = pick(whole & (sort == 0), node, fault);

@@ -9,10 +9,7 @@ use terms::size_at;
 pub fn sort_at(column: &[u8], node: usize) -> u64
     ensures { result ≡ get_or column.now node 0 }
 {
-    if node < column.len() {
-        return column[node] as u64;
-    }
-    0
+    column.get(node).map_or(0, |sort| u64::from(*sort))
 }
 
 // Whether the trees from node `place` on, `count` of them, all have sorts.
@@ -21,13 +18,11 @@ pub fn operands_sorted(forms: &[u64], column: &[u8], place: usize, count: usize)
     ensures { AllSorted forms.now column.now place count result }
 {
     let mut here = place;
-    let mut left = count;
-    while 0 < left {
+    for _tree in 0..count {
         if sort_at(column, here) == 0 {
             return false;
         }
         here += size_at(forms, here);
-        left -= 1;
     }
     true
 }
@@ -39,13 +34,11 @@ pub fn common_sort(forms: &[u64], column: &[u8], place: usize, count: usize) -> 
 {
     let sort = sort_at(column, place);
     let mut here = place;
-    let mut left = count;
-    while 0 < left {
+    for _tree in 0..count {
         if sort_at(column, here) != sort {
             return 0;
         }
         here += size_at(forms, here);
-        left -= 1;
     }
     sort
 }

@@ -1,15 +1,8 @@
 use Rattle.term_sorts.proofs.Filling.{filled_begins, filled_ends, filled_goes, node_before, number_fits, operands_after}
-use native.Mathlib.Omega.{arith}
 use Rattle.term_sorts.proofs.fill_sorts.Goals as goal
 
 pub loop-node-init : goal.loop-node-init
 loop-node-init c = search filled_begins
-
-pub overflow_sub-node : goal.overflow_sub-node
-overflow_sub-node c = omega arith
-
-pub overflow_add-node : goal.overflow_add-node
-overflow_add-node c = omega arith
 
 pub operands_sorted-whole-requires : goal.operands_sorted-whole-requires
 operands_sorted-whole-requires c = search operands_after
@@ -19,12 +12,6 @@ node_sort-sort-requires c = search node_before
 
 pub overflow_cast-column : goal.overflow_cast-column
 overflow_cast-column c = search number_fits
-
-pub bounds-column-node : goal.bounds-column-node
-bounds-column-node c = omega arith
-
-pub loop-node-smaller : goal.loop-node-smaller
-loop-node-smaller c = omega arith
 
 pub loop-node-preserved : goal.loop-node-preserved
 loop-node-preserved c = search filled_goes

@@ -1,24 +1,11 @@
-use Rattle.term_sorts.proofs.Arguments.{fitting_begins, fitting_ends, fitting_fails, fitting_few, fitting_goes, fitting_room, fitting_some}
+use Rattle.term_sorts.proofs.Arguments.{fitting_ends, fitting_fails, fitting_goes, fitting_room, fitting_some}
 use native.Mathlib.Omega.{arith}
 use Rattle.term_sorts.proofs.calls.arguments_fit.Goals as goal
-
-pub loop-argument-init : goal.loop-argument-init
-loop-argument-init c = search fitting_begins
 
 pub overflow_sub-sort_at : goal.overflow_sub-sort_at
 overflow_sub-sort_at c =
     let pre = c.requires in
     omega (arith, fitting_some c.loop-argument.invariant c.loop-argument-test.true pre)
-
-pub overflow_add-argument : goal.overflow_add-argument
-overflow_add-argument c =
-    let pre = c.requires in
-    omega (arith, fitting_few c.loop-argument.invariant c.loop-argument-test.true pre)
-
-pub signature_at-requires : goal.signature_at-requires
-signature_at-requires c =
-    let pre = c.requires in
-    (pre.called.low, omega (arith, fitting_few c.loop-argument.invariant c.loop-argument-test.true pre))
 
 pub returns-then-sort_at-signature_at : goal.returns-then-sort_at-signature_at
 returns-then-sort_at-signature_at c = search fitting_fails
@@ -27,12 +14,6 @@ pub overflow_add-here : goal.overflow_add-here
 overflow_add-here c =
     let pre = c.requires in
     omega (arith, fitting_room c.loop-argument.invariant c.loop-argument-test.true pre)
-
-pub overflow_add-argument-in-loop-argument : goal.overflow_add-argument-in-loop-argument
-overflow_add-argument-in-loop-argument c = omega arith
-
-pub loop-argument-smaller : goal.loop-argument-smaller
-loop-argument-smaller c = omega arith
 
 pub loop-argument-preserved : goal.loop-argument-preserved
 loop-argument-preserved c =

@@ -30,8 +30,5 @@ called_sort-requires c =
 pub returns-then-kind : goal.returns-then-kind
 returns-then-kind c = search called_node
 
-pub overflow_add-head_of : goal.overflow_add-head_of
-overflow_add-head_of c = omega arith
-
 pub returns : goal.returns
 returns c = search leaf_node
