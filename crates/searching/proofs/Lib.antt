@@ -11,5 +11,4 @@ pub mod Trail
 pub mod Track
 pub mod Whole
 pub mod Top
-pub mod Copying
 pub mod One

@@ -67,9 +67,6 @@ module _ {rules forms body masks : List ℕ} {i r : ℕ} where
     within : (q : AsksNoChain rules forms body masks i r) → p < end q
     within q = omega (arith, v.stops q)
 
-    pub turn_place : p + 1 ≤ length forms
-    turn_place = omega (arith, (room v.pre p j (v.known v.pre).parts.here (within v.pre)).in_forms)
-
     pub turn_here : j + 1 ≤ length body
     turn_here = omega (arith, (room v.pre p j (v.known v.pre).parts.here (within v.pre)).in_body)
 

@@ -14,7 +14,7 @@ use Rattle.derivation.specs.code.Tables.{Given}
 use Rattle.derivation.specs.code.Admitted.{Admitted}
 use Rattle.searching.specs.code.Search.{ExactAt, Asks, Chained, choice_at}
 use Rattle.searching.proofs.Closed.{chain_as}
-use Rattle.searching.specs.code.Filling.{NodeIs, MasksPre, AllExact}
+use Rattle.searching.specs.code.Filling.{NodeIs, MasksPre}
 use Rattle.terms.specs.code.Nodes.{row_width}
 use Rattle.forest.specs.code.Cursors.{from, size}
 use Rattle.derivation.specs.code.Masks.{has}
@@ -76,9 +76,6 @@ module _ {rules forms body : List ℕ} where
   }
 
   module _ {masks₀ choices₀ masks choices : List ℕ} {i : ℕ} (v : Inv rules forms body masks₀ choices₀ masks choices i) where
-    pub inv_end : i ≤ 0 → AllExact rules forms body masks choices
-    inv_end z = record { exact = λ g j h. v.exact g j (omega arith) h; chains = λ g j h. v.chains g j (omega arith) h }
-
     module _ (h : 0 < i) where
       asks_of : (g : Given rules forms body) → Asks rules forms body masks (i - 1)
       asks_of g = record {

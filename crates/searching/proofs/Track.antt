@@ -19,8 +19,8 @@ use Rattle.derivation.proofs.Meta.{fits_hole_to, fits_node_to}
 use Rattle.derivation.proofs.Simple.{simples, walk_hole}
 use Rattle.derivation.proofs.Splits.{over_first}
 use Rattle.derivation.proofs.Likeness.{proper_bare}
-use Rattle.searching.proofs.RuleWalk.{end, end_is, at_start, step_hole, step_alike, HoleAt, hole_view, hole_late, hole_low, not_hole, rule_tree}
-use Rattle.searching.proofs.RuleWalk.{body_tree, in_body, node_says, Room, room}
+use Rattle.searching.proofs.RuleWalk.{end, end_is, at_start, step_hole, step_alike, HoleAt, hole_view, hole_late, hole_low, not_hole, rule_tree, body_tree}
+use Rattle.searching.proofs.RuleWalk.{in_body, node_says, Room, room}
 use Rattle.searching.proofs.Parts.{Parts, parts_end, parts_few, parts_hole, parts_node, parts_start, size_first, size_one}
 use Rattle.forest.specs.code.Cursors.{size, from, first}
 use Rattle.derivation.specs.code.Admitted.{Proper}
@@ -197,9 +197,6 @@ module _ {rules forms body choices : List ℕ} {i r : ℕ} {shown₀ : List ℕ}
 
       space : Room v.pre.rule_asks p j (v.track v.pre).parts.here (within v.pre)
       space = room v.pre.rule_asks p j (v.track v.pre).parts.here (within v.pre)
-
-      pub spread_place : p + 1 ≤ length forms
-      spread_place = omega (arith, space.in_forms)
 
       pub spread_here : j + 1 ≤ length body
       spread_here = omega (arith, space.in_body)

@@ -19,8 +19,7 @@ use Rattle.derivation.proofs.RuleFirst.{chain_view, head_low, no_chain_view, rul
 use Rattle.forest.specs.Limits.{most_non_terminals, most_rules}
 use Rattle.derivation.specs.code.Masks.{has}
 use Rattle.derivation.specs.code.Rules.{non_terminal_at, rule_width, start_at, weight_at}
-use Rattle.searching.specs.code.Filling.{Chooses, IsChain, Live, Price, Priced, PricedLive, Prices, Worse, chained, known, not_yet, plain, dearer, later}
-use Rattle.searching.specs.code.Filling.{nothing}
+use Rattle.searching.specs.code.Filling.{Chooses, IsChain, Live, Price, Priced, Prices, Worse, chained, known, not_yet, plain, dearer, later, nothing}
 use Rattle.searching.specs.code.Matching.{AsksNoChain, Matched}
 use Rattle.searching.specs.code.Ranks.{most, per_weight}
 
@@ -145,16 +144,6 @@ module _ {rules forms body masks : List ℕ} {i : ℕ} where
   }
 
   module _ {n : ℕ} {costs live : List ℕ} {m r : ℕ} (v : Inv rules forms body masks i n costs live m r) where
-    pub price_end : n ≤ r → PricedLive rules forms body masks i (length rules / rule_width) costs live m
-    price_end h =
-        let e : r ≡ length rules / rule_width = omega (arith, v.all, v.bound) in
-        record {
-          priced = subst (λ (x : ℕ). Priced rules forms body masks i x costs) e v.priced;
-          long = v.roomy;
-          within = omega (arith, v.behind, v.bound, v.few);
-          held = subst (λ (x : ℕ). Live rules forms costs x live m) e v.held;
-        }
-
     module _ (h : r < n) {start code : ℕ} (es : start ≡ start_at rules r) (ec : code ≡ code_at forms start) where
       code_is : code ≡ code_at forms (start_at rules r)
       code_is = ec ∙ ap (code_at forms) es
@@ -257,16 +246,6 @@ pub record Search (rules forms costs live row : List ℕ) (s best least i : ℕ)
   pub before : (least ≡ 0 → ⊥) → (k : ℕ) → i ≤ k → k < length live → best < get_or live k 0
 
 module _ {rules forms costs live row : List ℕ} {s : ℕ} where
-  pub search_start : Prices rules forms row × Live rules forms costs (length rules / rule_width) live (length live) → Search rules forms costs live row s 0 0 0
-  search_start p = record {
-    prices = p.0;
-    held = p.1;
-    bound = omega arith;
-    is = λ z. absurd (z refl);
-    all = λ k l. absurd (omega arith);
-    before = λ z. absurd (z refl);
-  }
-
   module _ {best least i : ℕ} (v : Search rules forms costs live row s best least i) where
     pub search_end : length live ≤ i → Chooses rules forms costs row s (length rules / rule_width) best least
     search_end h = record { is = v.is; all = λ r l. go r (v.held.rest r l) }

@@ -1,6 +1,5 @@
 //! Which non-terminals derive the tree at each node of the body, the rank of the least list of each, and the rule that it begins with.
 ghost use Rattle.std.specs.Prelude.{◌≡◌, ◌&&◌, ◌||◌, not, ◌+◌, ◌/◌, ◌<◌, ◌≤◌, eqb, ltb, length};
-ghost use Rattle.std.proofs.lemmas.List.Edits.{sets};
 ghost use Rattle.forest.specs.Limits.{most_rules};
 ghost use Rattle.derivation.specs.code.Rules.{rule_width};
 ghost use Rattle.searching.specs.code.Search.{Asks};
@@ -39,21 +38,16 @@ fn price_rules(
 {
     let count = rules_in(rules);
     let mut kept: usize = 0;
-    let mut rule: usize = 0;
-    while rule < count {
+    for rule in 0..count {
         if code_at(forms, start_at(rules, rule)) == NON_TERMINAL {
             live[kept] = rule as u16;
             kept += 1;
-            rule += 1;
         } else {
             let cost = rank_of(rules, forms, body, masks, node, rule);
             costs[rule] = cost;
             if cost != 0 {
                 live[kept] = rule as u16;
                 kept += 1;
-                rule += 1;
-            } else {
-                rule += 1;
             }
         }
     }
@@ -102,16 +96,12 @@ fn choose(
 {
     let mut best: usize = 0;
     let mut least: u64 = 0;
-    let mut i: usize = 0;
-    while i < live.len() {
-        let rule = live[i] as usize;
+    for number in live {
+        let rule = *number as usize;
         let cost = price(rules, forms, costs, row, known, rule);
         if better(cost, least) {
             best = rule;
             least = cost;
-            i += 1;
-        } else {
-            i += 1;
         }
     }
     Choice {
@@ -181,18 +171,6 @@ fn derivers(
     settle(rules, forms, &costs, &live[..kept], row, chosen)
 }
 
-// Writes the row of a node into the table, from `at` on.
-fn put_row(row: &[u64], masks: &mut [u64], at: usize)
-    requires { at + length row.now ≤ length masks.old }
-    ensures { masks.new ≡ sets masks.old at row.now }
-{
-    let mut i: usize = 0;
-    while i < row.len() {
-        masks[at + i] = row[i];
-        i += 1;
-    }
-}
-
 // Fills in the mask, the ranks and the choices of each node of the body, from the last to the first.
 pub fn fill_masks(
     rules: &[u64],
@@ -204,14 +182,12 @@ pub fn fill_masks(
     requires { MasksPre rules.now forms.now body.now masks.old choices.old }
     ensures { AllExact rules.now forms.now body.now masks.new choices.new }
 {
-    let mut node = body.len() / ROW;
-    while 0 < node {
-        node -= 1;
+    for node in (0..body.len() / ROW).rev() {
         let mut row = [0u64; MARKS];
         let mut chosen = [0u16; NON_TERMINALS];
         let mask = derivers(rules, forms, body, masks, node, &mut row, &mut chosen);
         row[MASK] = mask;
-        put_row(&row, masks, MARKS * node);
+        copy(&row, masks, MARKS * node);
         copy(&chosen, choices, NON_TERMINALS * node);
     }
 }

@@ -47,15 +47,11 @@ fn blank() -> [u16; LIST]
 }
 
 // Copies a list into a table of such numbers, from `at` on.
-fn copy(list: &[u16], area: &mut [u16], at: usize)
+fn copy<T: Copy>(list: &[T], area: &mut [T], at: usize)
     requires { at + length list.now ≤ length area.old }
     ensures { area.new ≡ sets area.old at list.now }
 {
-    let mut i: usize = 0;
-    while i < list.len() {
-        area[at + i] = list[i];
-        i += 1;
-    }
+    area[at..at + list.len()].copy_from_slice(list);
 }
 
 // Whether there is a derivation, and what the least one weighs in all; 0 if there is none.

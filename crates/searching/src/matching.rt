@@ -24,11 +24,11 @@ pub(crate) fn rank_of(
     requires { AsksNoChain rules.now forms.now body.now masks.now node rule }
     ensures { Matched rules.now forms.now body.now masks.now node rule result }
 {
-    let mut place = start_at(rules, rule);
-    let end = place + size_at(forms, place);
+    let start = start_at(rules, rule);
+    let end = start + size_at(forms, start);
     let mut here = node;
     let mut sum = PER_WEIGHT * weight_at(rules, rule) + 1;
-    while place < end {
+    for place in start..end {
         if code_at(forms, place) == NON_TERMINAL {
             let nonterminal = value_at(forms, place);
             if !has(mask_at(masks, here), nonterminal) {
@@ -36,13 +36,11 @@ pub(crate) fn rank_of(
             }
             sum += rank_at(masks, here, nonterminal);
             here += size_at(body, here);
-            place += 1;
         } else {
             if !alike(forms, place, body, here) {
                 return 0;
             }
             here += 1;
-            place += 1;
         }
     }
     sum

@@ -84,11 +84,11 @@ fn spread(
     ensures { Spreads rules.now forms.now body.now choices.now
         node rule shown.old at shown.new result }
 {
-    let mut place = start_at(rules, rule);
-    let end = place + size_at(forms, place);
+    let start = start_at(rules, rule);
+    let end = start + size_at(forms, start);
     let mut here = node;
     let mut next = at;
-    while place < end {
+    for place in start..end {
         if code_at(forms, place) == NON_TERMINAL {
             next = emit(
                 rules,
@@ -101,10 +101,8 @@ fn spread(
                 next,
             );
             here += size_at(body, here);
-            place += 1;
         } else {
             here += 1;
-            place += 1;
         }
     }
     next

@@ -6,12 +6,6 @@ use Rattle.searching.proofs.masks.mark.Goals as goal
 pub returns-then-node-masks : goal.returns-then-node-masks
 returns-then-node-masks c = past _ _ _ _ (omega arith)
 
-pub overflow_mul-node : goal.overflow_mul-node
-overflow_mul-node c = omega arith
-
-pub overflow_add-node : goal.overflow_add-node
-overflow_add-node c = omega arith
-
 pub returns : goal.returns
 unfolding number_at
 returns c = c.entry_at.ensures

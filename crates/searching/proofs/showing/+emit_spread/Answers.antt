@@ -2,8 +2,8 @@ use native.Mathlib.Omega.{arith}
 use mathlib.Core.Path.{◌∙◌}
 use Rattle.searching.proofs.RuleWalk.{end_small}
 use Rattle.searching.proofs.Whole.{follow_pre, spread_pre, emit_post}
-use Rattle.searching.proofs.Track.{spread_start, spread_end, spread_place, spread_here, spread_over, spread_node, spread_after, spread_asks}
-use Rattle.searching.proofs.Track.{spread_hole}
+use Rattle.searching.proofs.Track.{spread_start, spread_end, spread_here, spread_over, spread_node, spread_after, spread_asks, spread_hole}
+use Rattle.searching.proofs.showing.+emit_spread.Goals.{spread-else-code_at-eq-NON_TERMINAL, spread-then-code_at-eq-NON_TERMINAL}
 use Rattle.searching.proofs.showing.+emit_spread.Goals as goal
 
 pub emit-follow-end-requires : goal.emit-follow-end-requires
@@ -26,7 +26,7 @@ pub spread-overflow_add-end : goal.spread-overflow_add-end
 spread-overflow_add-end t c =
     omega (
       arith,
-      end_small c.requires.rule_asks c.start_at-place.ensures
+      end_small c.requires.rule_asks c.start_at-start.ensures
           c.size_at.ensures,
     )
 
@@ -50,36 +50,18 @@ spread-overflow_add-here t c =
           c.loop-place-test.true c.size_at-here.ensures,
     )
 
-pub spread-overflow_add-place : goal.spread-overflow_add-place
-spread-overflow_add-place t c =
-    omega (
-      arith,
-      spread_place c.loop-place.invariant
-          c.loop-place-test.true,
-    )
-
-pub spread-loop-place-smaller-then-code_at-eq-NON_TERMINAL : goal.spread-loop-place-smaller-then-code_at-eq-NON_TERMINAL
-spread-loop-place-smaller-then-code_at-eq-NON_TERMINAL t c = omega arith
-
-pub spread-loop-place-preserved-then-code_at-eq-NON_TERMINAL : goal.spread-loop-place-preserved-then-code_at-eq-NON_TERMINAL
-spread-loop-place-preserved-then-code_at-eq-NON_TERMINAL t c =
-    spread_hole c.loop-place.invariant
-    c.loop-place-test.true
-    c.code_at.ensures c.if-code_at-eq-NON_TERMINAL.true
-    c.value_at.ensures c.emit-next.ensures c.size_at-here.ensures
-    c.emit-next.auto.shown
-
 pub spread-overflow_add-here-else-code_at-eq-NON_TERMINAL : goal.spread-overflow_add-here-else-code_at-eq-NON_TERMINAL
 spread-overflow_add-here-else-code_at-eq-NON_TERMINAL t c = omega (arith, spread_here c.loop-place.invariant c.loop-place-test.true)
 
-pub spread-overflow_add-place-else-code_at-eq-NON_TERMINAL : goal.spread-overflow_add-place-else-code_at-eq-NON_TERMINAL
-spread-overflow_add-place-else-code_at-eq-NON_TERMINAL t c = omega (arith, spread_place c.loop-place.invariant c.loop-place-test.true)
-
-pub spread-loop-place-smaller : goal.spread-loop-place-smaller
-spread-loop-place-smaller t c = omega arith
-
 pub spread-loop-place-preserved : goal.spread-loop-place-preserved
-spread-loop-place-preserved t c = spread_node c.loop-place.invariant c.loop-place-test.true c.code_at.ensures c.if-code_at-eq-NON_TERMINAL.false
+spread-loop-place-preserved t c =
+    let inv = c.loop-place.invariant in
+    let more = c.loop-place-test.true in
+    let code = c.code_at.ensures in
+    elim c.if-code_at-eq-NON_TERMINAL.branch [
+      | spread-then-code_at-eq-NON_TERMINAL w ↦ rw (w.shown-is, w.here-is, w.next-is) (spread_hole inv more code w.if-code_at-eq-NON_TERMINAL.true w.value_at.ensures w.emit-next.ensures w.size_at-here.ensures w.emit-next.auto.shown)
+      | spread-else-code_at-eq-NON_TERMINAL w ↦ rw (w.shown-is, w.here-is, w.next-is) (spread_node inv more code w.if-code_at-eq-NON_TERMINAL.false)
+    ]
 
 pub spread-shape_of-shown : goal.spread-shape_of-shown
 spread-shape_of-shown t c = c.loop-place.invariant.same_long

@@ -11,6 +11,3 @@ decreases-spread l = 2 * (length l.body.now - l.node)
 
 abbrev pub invariant-spread-loop-place : goal.invariant-spread-loop-place
 invariant-spread-loop-place l = Inv l.rules l.forms l.body l.choices l.node l.rule l.initial.shown l.at l.end l.shown l.place l.here l.next
-
-abbrev pub decreases-spread-loop-place : goal.decreases-spread-loop-place
-decreases-spread-loop-place l = l.end - l.place
