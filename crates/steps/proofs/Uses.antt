@@ -27,10 +27,6 @@ module _ {nodes : List ℕ} {start stop : ℕ} (e : TermsStand nodes start stop)
     pub ends : stop ≡ node + size left
     pub same : uses_defined e.terms ≡ uses_defined left
 
-  -- All are left, at the start.
-  pub none_yet : NoneYet start
-  none_yet = record { left = e.terms; here = e.at; ends = e.ends; same = refl }
-
   module _ {node : ℕ} (s : NoneYet node) where
     -- None applies one.
     pub none_uses : stop ≤ node → false ≡ uses_defined e.terms

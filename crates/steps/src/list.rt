@@ -93,13 +93,11 @@ pub fn uses_defined(nodes: &[u64], start: usize, stop: usize) -> bool
     requires { TermsStand nodes.now start stop }
     ensures { UsesTold nodes.now start stop result }
 {
-    let mut node = start;
-    while node < stop {
+    for node in start..stop {
         let kind = kind_of(code_at(nodes, node));
         if (kind == DEFINED) | (kind == FUNCTION) {
             return true;
         }
-        node += 1;
     }
     false
 }

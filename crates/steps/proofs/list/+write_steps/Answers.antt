@@ -1,6 +1,5 @@
 use native.Mathlib.Omega.{arith}
-use Rattle.steps.proofs.Writing.{after_long, all_written, next_ends, next_within, none_written, one_written, operands_listable, operands_long}
-use Rattle.steps.proofs.Writing.{step_room}
+use Rattle.steps.proofs.Writing.{after_long, all_written, next_ends, next_within, none_written, one_written, operands_listable, operands_long, step_room}
 use Rattle.steps.proofs.list.+write_steps.Goals as goal
 
 pub loop-node-init : goal.loop-node-init
