@@ -9,6 +9,7 @@ use lib.ListN.{get_or-eq_default, drop, get_or, length}
 use lib.Seq.{drop-cons}
 use native.Mathlib.Numerals.{add-one}
 use borrow.Author.Tests.{not-true, not-false}
+use Rattle.std.specs.Prelude.{None, Some}
 use Rattle.forest.specs.Forest.{Forest, none, tree}
 use Rattle.forest.proofs.Lists.{within}
 use Rattle.terms.specs.Labels.{Label, Terms}
@@ -163,8 +164,8 @@ module _ {rules forms list : List ℕ} {a at : ℕ} where
   inv_start p = inv_of p (λ q. trail_start q)
 
   module _ {b used w : ℕ} (v : Inv rules forms list a at b used w) {r : ℕ} (er : r ≡ get_or list w unused) {u : Bool} (eu : u ≡ usable rules r b used) where
-    pub turn_no : not u ≡ true → {w' r' : ℕ} → (p : ChainPre rules forms list a at) → ChainPost rules forms list a at p false w' r'
-    turn_no h p = record { yes! = λ e. absurd (true≢false (sym e)); no! = λ e. trail_no p (v.trail p) er (sym eu ∙ not-true u h) }
+    pub turn_no : not u ≡ true → (p : ChainPre rules forms list a at) → ChainPost rules forms list a at p None
+    turn_no h p = trail_no p (v.trail p) er (sym eu ∙ not-true u h)
 
     module _ (h : not u ≡ false) where
       can : (p : ChainPre rules forms list a at) → Usable p.given r b used
@@ -177,8 +178,9 @@ module _ {rules forms list : List ℕ} {a at : ℕ} where
         code_is : code ≡ code_at forms (start_at rules r)
         code_is = ec ∙ ap (code_at forms) es
 
-        pub turn_end : (code ≡ non_terminal_kind → ⊥) → (p : ChainPre rules forms list a at) → ChainPost rules forms list a at p true (w + 1) r
-        turn_end k p = record { yes! = λ e. trail_end p (v.trail p) er (can p) (λ q. k (code_is ∙ q)); no! = λ e. absurd (true≢false e) }
+        pub turn_end : (code ≡ non_terminal_kind → ⊥) → (p : ChainPre rules forms list a at)
+            → ChainPost rules forms list a at p (Some (record { rule = r; at = w + 1 }))
+        turn_end k p = trail_end p (v.trail p) er (can p) (λ q. k (code_is ∙ q))
 
         pub turn_more : code ≡ non_terminal_kind → {used' : ℕ} → Puts used b used' → {x : ℕ} → x ≡ value_at forms start
             → Inv rules forms list a at x used' (w + 1)

@@ -5,6 +5,7 @@ use native.Mathlib.Omega.{arith}
 use mathlib.Core.Bool.{Bool, true, false, not, true≢false}
 use mathlib.Core.List.{List, []}
 use lib.ListN.{drop, length}
+use Rattle.std.specs.Prelude.{Option, None, Some}
 use borrow.Author.Tests.{not-true, not-false}
 use Rattle.forest.specs.Forest.{Forest, count, join, none, tree}
 use Rattle.forest.specs.code.Cursors.{first, from, size}
@@ -21,11 +22,10 @@ use Rattle.derivation.specs.code.Matching.{alike}
 use Rattle.derivation.specs.code.Rules.{start_at}
 use Rattle.derivation.proofs.Leaves.{fit_at}
 use Rattle.derivation.proofs.Likeness.{NotHole, alike_complete, alike_sound, hole_item, proper_bare, proper_on}
-use Rattle.derivation.proofs.Reading.{ItemSays, body_length, body_says, forms_length, item_says}
+use Rattle.derivation.proofs.Reading.{ItemSays, body_length, body_says, forms_length, item_says, size_node}
 use Rattle.derivation.proofs.RuleRows.{RuleAt}
 use Rattle.derivation.proofs.RuleFirst.{past_fits, past_is, there}
-use Rattle.derivation.proofs.Reading.{size_node}
-use Rattle.following.specs.code.Steps.{FitPre, Found, FoundOr, Reads, UsePre, one_at}
+use Rattle.following.specs.code.Steps.{FitPre, Found, FoundOr, Reads, UsePre, Uses, one_at}
 use Rattle.following.proofs.Prefix.{hole_then, opened, part, part_at, reads_as, reads_none, shut}
 use Rattle.forest.specs.Limits.{most_non_terminals}
 
@@ -267,8 +267,8 @@ pub record Inv (rules forms body list : List ℕ) (r i at stop p j w : ℕ) : Ty
   pub within : w ≤ length list
 
 module _ {rules forms body list : List ℕ} {r i at : ℕ} where
-  abbrev Post : FitPre rules forms body list r i at → Bool → ℕ → Type 0
-  Post q ok w = FoundOr q.given.G (form_of q.given.G.rules r) (one_at q.given.F i) list at ok w
+  abbrev Post : FitPre rules forms body list r i at → Option ℕ → Type 0
+  Post q found = FoundOr q.given.G (form_of q.given.G.rules r) (one_at q.given.F i) list at found
 
   pub end_small : FitPre rules forms body list r i at → {p n : ℕ} → p ≡ start_at rules r → n ≡ size_at forms p → p + n ≤ length forms
   end_small q ep en = omega (arith, ep, en ∙ ap (size_at forms) ep, past_is q.given r q.is_rule, past_fits q.given r q.is_rule)
@@ -288,8 +288,8 @@ module _ {rules forms body list : List ℕ} {r i at : ℕ} where
       )) (λ q2. subst (λ (x : ℕ). At q2 x i at) (sym ep) (at_start q2))
 
   module _ {stop p j w : ℕ} (v : Inv rules forms body list r i at stop p j w) where
-    pub turn_end : stop ≤ p → (q : FitPre rules forms body list r i at) → Post q true w
-    turn_end h q = record { yes! = λ e. at_end q (v.known q) (omega (arith, v.stops q)); no! = λ e. absurd (true≢false e) }
+    pub turn_end : stop ≤ p → (q : FitPre rules forms body list r i at) → Post q (Some w)
+    turn_end h q = at_end q (v.known q) (omega (arith, v.stops q))
 
     module _ (h : p < stop) where
       in_rule : (q : FitPre rules forms body list r i at) → p < end q
@@ -298,24 +298,16 @@ module _ {rules forms body list : List ℕ} {r i at : ℕ} where
       space : Room v.pre (v.known v.pre) (in_rule v.pre)
       space = room v.pre (v.known v.pre) (in_rule v.pre)
 
-      pub turn_place : p + 1 ≤ length forms
-      turn_place = omega (arith, space.in_forms)
-
       pub turn_here : j + 1 ≤ length body
       turn_here = omega (arith, space.in_body)
 
       pub turn_over : {n : ℕ} → n ≡ size_at body j → j + n ≤ length body
       turn_over en = omega (arith, en, space.over)
 
-      fails : {w' : ℕ} → ((q : FitPre rules forms body list r i at) (rest : List ℕ)
-          → Reads q.given.G [] (form_of q.given.G.rules r) (one_at q.given.F i) (drop at list) rest → ⊥)
-          → (q : FitPre rules forms body list r i at) → Post q false w'
-      fails n q = record { yes! = λ e. absurd (true≢false (sym e)); no! = λ e. n q }
-
       module _ {code : ℕ} (ec : code ≡ code_at forms p) where
         module _ (k : code ≡ non_terminal_kind → ⊥) {b : Bool} (eb : b ≡ alike forms p body j) where
-          pub miss_node : not b ≡ true → {w' : ℕ} → (q : FitPre rules forms body list r i at) → Post q false w'
-          miss_node y = fails (λ q. fail_node q (v.known q) (in_rule q) (λ e. k (ec ∙ e)) (sym eb ∙ not-true b y))
+          pub miss_node : not b ≡ true → (q : FitPre rules forms body list r i at) → Post q None
+          miss_node y q = fail_node q (v.known q) (in_rule q) (λ e. k (ec ∙ e)) (sym eb ∙ not-true b y)
 
           pub turn_node : not b ≡ false → Inv rules forms body list r i at stop (p + 1) (j + 1) w
           turn_node y = inv_of v.pre v.stops (λ q. step_node q (v.known q) (in_rule q) (λ e. k (ec ∙ e)) (sym eb ∙ not-false b y))
@@ -327,22 +319,18 @@ module _ {rules forms body list : List ℕ} {r i at : ℕ} where
           pub turn_asks : UsePre rules forms body list j x w
           turn_asks = asked v.pre
 
-          abbrev Gives : ℕ → Bool → ℕ → Type 0
-          Gives y ok w' =
-              (u : UsePre rules forms body list j y w) → FoundOr u.given.G (tree (non_terminal y) none none) (one_at u.given.F j) list w ok w'
+          given : (found : Option ℕ) → Uses rules forms body list j x w found → (q : FitPre rules forms body list r i at)
+              → FoundOr q.given.G (tree (non_terminal (value_at forms p)) none none) (one_at q.given.F j) list w found
+          unfolding hole_pre
+          given found g q = subst (λ (y : ℕ). Uses rules forms body list j y w found) ex g (hole_pre q (v.known q) (in_rule q) (sym ec ∙ k))
 
-          module _ {ok : Bool} {w' : ℕ} (g : Gives x ok w') where
-            given : (q : FitPre rules forms body list r i at)
-                → FoundOr q.given.G (tree (non_terminal (value_at forms p)) none none) (one_at q.given.F j) list w ok w'
-            unfolding hole_pre
-            given q = subst (λ (y : ℕ). Gives y ok w') ex g (hole_pre q (v.known q) (in_rule q) (sym ec ∙ k))
+          pub miss_hole : Uses rules forms body list j x w None → (q : FitPre rules forms body list r i at) → Post q None
+          miss_hole g q = fail_hole q (v.known q) (in_rule q) (sym ec ∙ k) (given None g q)
 
-            pub miss_hole : not ok ≡ true → {w'' : ℕ} → (q : FitPre rules forms body list r i at) → Post q false w''
-            miss_hole y = fails (λ q. fail_hole q (v.known q) (in_rule q) (sym ec ∙ k) ((given q).no! (not-true ok y)))
-
-            pub turn_hole : not ok ≡ false → {n : ℕ} → n ≡ size_at body j → Inv rules forms body list r i at stop (p + 1) (j + n) w'
-            turn_hole y {n} en =
-                inv_of v.pre v.stops
-                (λ q.
-                subst (λ (z : ℕ). At q (p + 1) (j + z) w') (sym en)
-                (step_hole q (v.known q) (in_rule q) (sym ec ∙ k) ((given q).yes! (not-false ok y))))
+          pub turn_hole : {w' : ℕ} → Uses rules forms body list j x w (Some w') → {n : ℕ} → n ≡ size_at body j
+              → Inv rules forms body list r i at stop (p + 1) (j + n) w'
+          turn_hole {w'} g {n} en =
+              inv_of v.pre v.stops
+              (λ q.
+              subst (λ (z : ℕ). At q (p + 1) (j + z) w') (sym en)
+              (step_hole q (v.known q) (in_rule q) (sym ec ∙ k) (given (Some w') g q)))

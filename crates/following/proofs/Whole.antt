@@ -2,19 +2,20 @@
 use mathlib.Core.Path.{◌≡◌, refl, sym, ap, ◌∙◌, subst}
 use Prim.Native.Nat.{ℕ, ◌<◌, ◌≤◌}
 use native.Mathlib.Omega.{arith}
-use mathlib.Core.Bool.{Bool, true, false, not, ◌&&◌, true≢false}
+use mathlib.Core.Bool.{Bool, true, false, true≢false}
 use mathlib.Core.List.{List, [], ◌++◌, append-nil}
 use lib.Dec.{eqb}
+use Rattle.std.specs.Prelude.{MatchOption, Option, None, Some}
 use lib.ListN.{drop, length, length-drop, drop_of_length-le}
-use borrow.Author.Tests.{eqb-true, eq-eqb, not-true, not-false}
+use borrow.Author.Tests.{eqb-true, eq-eqb}
 use Rattle.forest.specs.code.Cursors.{first, from}
 use Rattle.forest.specs.Forest.{none, tree}
 use Rattle.forest.proofs.Laws.{Tree, count_size, first_all, tree_at}
 use Rattle.terms.specs.Labels.{Terms}
 use Rattle.derivation.specs.Derivation.{Simple, form_of, non_terminal}
 use Rattle.derivation.specs.Answer.{start}
-use Rattle.derivation.proofs.PassedTests.{and-true}
 use Rattle.following.specs.code.Steps.{ChainFound, ChainPre, Chained, FitPre, Fitted, Reads, UsePre, Uses, one_at}
+use Rattle.following.specs.declared.Last.{Last}
 use Rattle.following.specs.code.Follows.{FollowsPost, FollowsPre}
 use Rattle.following.proofs.Prefix.{same_rest}
 
@@ -30,44 +31,40 @@ module _ {rules forms body list : List ℕ} {i a at : ℕ} where
   unfolding first
   one_is u = ap (first 1) (here u).is
 
-  module _ {ok : Bool} {w r : ℕ} (c : Chained rules forms list a at ok w r) where
-    pub use_fails : not ok ≡ true → {w' : ℕ} → Uses rules forms body list i a at false w'
-    use_fails h u = record {
-      yes! = λ e. absurd (true≢false (sym e));
-      no! = λ e rest x.
-          (c (use_asks u)).no! (not-true ok h) (here u).l (here u).ops rest
-          (subst (λ (y : Terms). Reads u.given.G [] (tree (non_terminal a) none none) y (drop at list) rest) (one_is u) x);
-    }
+  pub use_fails : Chained rules forms list a at None → Uses rules forms body list i a at None
+  use_fails c u rest x =
+      c (use_asks u) (here u).l (here u).ops rest
+      (subst (λ (y : Terms). Reads u.given.G [] (tree (non_terminal a) none none) y (drop at list) rest) (one_is u) x)
 
-    module _ (h : not ok ≡ false) where
-      abbrev found : (u : UsePre rules forms body list i a at) → ChainFound u.given.G list a at w r
-      found u = (c (use_asks u)).yes! (not-false ok h)
+  module _ {last : Last} (c : Chained rules forms list a at (Some last)) where
+    abbrev found : (u : UsePre rules forms body list i a at) → ChainFound u.given.G list a at last.at last.rule
+    found u = c (use_asks u)
 
-      pub use_on : UsePre rules forms body list i a at → (at < w) × (w ≤ length list)
-      use_on u = ((found u).after, (found u).within)
+    pub use_on : UsePre rules forms body list i a at → (at < last.at) × (last.at ≤ length list)
+    use_on u = ((found u).after, (found u).within)
 
-      abbrev pub use_fits : UsePre rules forms body list i a at → FitPre rules forms body list r i w
-      use_fits u = record { given = u.given; inside = u.inside; is_rule = (found u).is_rule; room = (found u).within }
+    abbrev pub use_fits : UsePre rules forms body list i a at → FitPre rules forms body list last.rule i last.at
+    use_fits u = record { given = u.given; inside = u.inside; is_rule = (found u).is_rule; room = (found u).within }
 
-      pub use_gives : {done : Bool} {w' : ℕ} → Fitted rules forms body list r i w done w' → Uses rules forms body list i a at done w'
-      use_gives {done} {w'} f u = record {
-        yes! = λ e.
-            let y = (f (use_fits u)).yes! e in
-            record {
-              after = omega (arith, (found u).after, y.after);
-              within = y.within;
-              reads = use_as a (sym (one_is u)) ((found u).back (here u).l (here u).ops (drop w' list) (fit_as (one_is u) y.reads));
-            };
-        no! = λ e rest x. (f (use_fits u)).no! e rest (fit_as (sym (one_is u)) ((found u).to (here u).l (here u).ops rest (use_as a (one_is u) x)));
-      }
-        where
-          use_as : (b : ℕ) {T T' : Terms} {l rest : List ℕ} → T ≡ T' → Reads u.given.G [] (tree (non_terminal b) none none) T l rest
-              → Reads u.given.G [] (tree (non_terminal b) none none) T' l rest
-          use_as b e x = rw e at x
+    module _ (u : UsePre rules forms body list i a at) where
+      use_as : (b : ℕ) {T T' : Terms} {l rest : List ℕ} → T ≡ T' → Reads u.given.G [] (tree (non_terminal b) none none) T l rest
+          → Reads u.given.G [] (tree (non_terminal b) none none) T' l rest
+      use_as b e x = rw e at x
 
-          fit_as : {T T' : Terms} {l rest : List ℕ} → T ≡ T' → Reads u.given.G [] (form_of u.given.G.rules r) T l rest
-              → Reads u.given.G [] (form_of u.given.G.rules r) T' l rest
-          fit_as e x = rw e at x
+      fit_as : {T T' : Terms} {l rest : List ℕ} → T ≡ T' → Reads u.given.G [] (form_of u.given.G.rules last.rule) T l rest
+          → Reads u.given.G [] (form_of u.given.G.rules last.rule) T' l rest
+      fit_as e x = rw e at x
+
+    pub use_gives : (done : Option ℕ) → Fitted rules forms body list last.rule i last.at done → Uses rules forms body list i a at done
+    use_gives None f = λ u rest x.
+        f (use_fits u) rest (fit_as u (sym (one_is u)) ((found u).to (here u).l (here u).ops rest (use_as u a (one_is u) x)))
+    use_gives (Some w) f = λ u.
+        let y = f (use_fits u) in
+        record {
+          after = omega (arith, (found u).after, y.after);
+          within = y.within;
+          reads = use_as u a (sym (one_is u)) ((found u).back (here u).l (here u).ops (drop w list) (fit_as u (one_is u) y.reads));
+        }
 
 -- the tree at the first node is the body
 module _ {rules forms body : List ℕ} where
@@ -84,25 +81,30 @@ module _ {rules forms body list : List ℕ} where
       → Reads p.given.G [] start (one_at p.given.F 0) list []
   reads_whole p d = record { ds = list; is = sym (append-nil list); derivation = rw (whole_is p) d }
 
-  module _ {ok : Bool} {w : ℕ} (u : Uses rules forms body list 0 0 0 ok w) where
-    pub top_gives : (p : FollowsPre rules forms body) → FollowsPost rules forms body list p (ok && eqb w (length list))
-    unfolding top_asks
-    top_gives p = record {
-      yes! = λ e.
-          let t = and-true ok (eqb w (length list)) e in
-          let f = (u (top_asks p)).yes! t.0 in
-          let z : drop w list ≡ [] = drop_of_length-le list {i = w} (omega (arith, eqb-true w (length list) t.1)) in
-          let y : list ≡ f.reads.ds = f.reads.is ∙ ap (λ (k : List ℕ). f.reads.ds ++ k) z ∙ append-nil f.reads.ds in
-          subst (λ (k : List ℕ). Simple p.given.G [] start p.given.F k) (sym y) (rw (whole_is p) at f.reads.derivation);
-      no! = λ e d. go p d ok refl e;
-    }
-      where
-        go : (p : FollowsPre rules forms body) → Simple p.given.G [] start p.given.F list → (b : Bool) → ok ≡ b → b && eqb w (length list) ≡ false → ⊥
-        go p d false eb e = (u (top_asks p)).no! eb [] (reads_whole p d)
-        go p d true eb e =
-            let f = (u (top_asks p)).yes! eb in
+  -- the rules of the list lead past its front, or nowhere
+  pub top_fails : Uses rules forms body list 0 0 0 None → (p : FollowsPre rules forms body) → FollowsPost rules forms body list p false
+  unfolding top_asks
+  top_fails u p = record { yes! = λ e. absurd (true≢false (sym e)); no! = λ e d. u (top_asks p) [] (reads_whole p d) }
+
+  pub top_gives : {w : ℕ} → Uses rules forms body list 0 0 0 (Some w) → (p : FollowsPre rules forms body)
+      → FollowsPost rules forms body list p (eqb w (length list))
+  unfolding top_asks
+  top_gives {w} u p =
+      let f = u (top_asks p) in
+      record {
+        yes! = λ e.
+            let z : drop w list ≡ [] = drop_of_length-le list {i = w} (omega (arith, eqb-true w (length list) e)) in
+            let y : list ≡ f.reads.ds = f.reads.is ∙ ap (λ (k : List ℕ). f.reads.ds ++ k) z ∙ append-nil f.reads.ds in
+            subst (λ (k : List ℕ). Simple p.given.G [] start p.given.F k) (sym y) (rw (whole_is p) at f.reads.derivation);
+        no! = λ e d.
             let z : drop w list ≡ [] = same_rest p.given.G f.reads (reads_whole p d) in
-            true≢false (sym (eq-eqb w (length list) (omega (arith, f.within, ap length z, length-drop w list))) ∙ e)
+            true≢false (sym (eq-eqb w (length list) (omega (arith, f.within, ap length z, length-drop w list))) ∙ e);
+      }
+
+  pub top_told : (found : Option ℕ) → Uses rules forms body list 0 0 0 found → {answer : Bool}
+      → MatchOption found (answer ≡ false) (λ w. answer ≡ eqb w (length list)) → (p : FollowsPre rules forms body) → FollowsPost rules forms body list p answer
+  top_told None u e p = rw e (top_fails u p)
+  top_told (Some w) u e p = rw e (top_gives u p)
 
 -- a list that derives the body is accepted: what `searching::derive` shows, among others
 pub accepts : {rules forms body list : List ℕ} {p : FollowsPre rules forms body} {answer : Bool} → FollowsPost rules forms body list p answer

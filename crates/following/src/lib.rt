@@ -16,18 +16,10 @@ use forest::limits::UNUSED;
 use terms::codes::NON_TERMINAL;
 use terms::{code_at, size_at, value_at};
 
-// Whether the chain rules of a list lead to a rule that is no chain rule; that rule, and the place of the list after it.
+// A rule that is no chain rule, to which the chain rules of a list lead, and the place of the list after it.
 #[derive(Clone, Copy)]
 struct Last {
-    ok: bool,
-    at: usize,
     rule: usize,
-}
-
-// Whether the front of a list derives a tree, and the place of the list after it.
-#[derive(Clone, Copy)]
-struct Followed {
-    ok: bool,
     at: usize,
 }
 
@@ -51,10 +43,16 @@ fn usable(rules: &[u64], rule: usize, nonterminal: u64, used: u64) -> bool
         & !has(used, nonterminal)
 }
 
-// Goes through the chain rules that the list has from `at` on, no non-terminal twice, to a rule that is none.
-fn follow_chain(rules: &[u64], forms: &[u64], list: &[u16], nonterminal: u64, at: usize) -> Last
+// Goes through the chain rules that the list has from `at` on, no non-terminal twice, to a rule that is none, if there is one.
+fn follow_chain(
+    rules: &[u64],
+    forms: &[u64],
+    list: &[u16],
+    nonterminal: u64,
+    at: usize,
+) -> Option<Last>
     requires { ChainPre rules.now forms.now list.now nonterminal at }
-    ensures { Chained rules.now forms.now list.now nonterminal at result.ok result.at result.rule }
+    ensures { Chained rules.now forms.now list.now nonterminal at result }
 {
     let mut current = nonterminal;
     let mut used: u64 = 0;
@@ -62,27 +60,19 @@ fn follow_chain(rules: &[u64], forms: &[u64], list: &[u16], nonterminal: u64, at
     loop {
         let rule = rule_in(list, next);
         if !usable(rules, rule, current, used) {
-            return Last {
-                ok: false,
-                at: next,
-                rule: rule,
-            };
+            return None;
         }
         next += 1;
         let start = start_at(rules, rule);
         if code_at(forms, start) != NON_TERMINAL {
-            return Last {
-                ok: true,
-                at: next,
-                rule: rule,
-            };
+            return Some(Last { rule, at: next });
         }
         used = put(used, current);
         current = value_at(forms, start);
     }
 }
 
-// Whether the list from `at` on derives the tree at a node from a non-terminal.
+// The place of the list after the rules from `at` on that derive the tree at a node from a non-terminal, if they do.
 #[cycle(fit_rule_use_rule)]
 fn use_rule(
     rules: &[u64],
@@ -92,18 +82,15 @@ fn use_rule(
     node: usize,
     nonterminal: u64,
     at: usize,
-) -> Followed
+) -> Option<usize>
     requires { UsePre rules.now forms.now body.now list.now node nonterminal at }
-    ensures { Uses rules.now forms.now body.now list.now node nonterminal at result.ok result.at }
+    ensures { Uses rules.now forms.now body.now list.now node nonterminal at result }
 {
-    let last = follow_chain(rules, forms, list, nonterminal, at);
-    if !last.ok {
-        return Followed { ok: false, at: at };
-    }
+    let last = follow_chain(rules, forms, list, nonterminal, at)?;
     fit_rule(rules, forms, body, list, last.rule, node, last.at)
 }
 
-// Whether the list from `at` on derives the tree at a node from the right side of a rule.
+// The place of the list after the rules from `at` on that derive the tree at a node from the right side of a rule, if they do.
 #[cycle(fit_rule_use_rule)]
 fn fit_rule(
     rules: &[u64],
@@ -113,37 +100,26 @@ fn fit_rule(
     rule: usize,
     node: usize,
     at: usize,
-) -> Followed
+) -> Option<usize>
     requires { FitPre rules.now forms.now body.now list.now rule node at }
-    ensures { Fitted rules.now forms.now body.now list.now rule node at result.ok result.at }
+    ensures { Fitted rules.now forms.now body.now list.now rule node at result }
 {
-    let mut place = start_at(rules, rule);
-    let end = place + size_at(forms, place);
+    let start = start_at(rules, rule);
+    let end = start + size_at(forms, start);
     let mut here = node;
     let mut next = at;
-    while place < end {
+    for place in start..end {
         if code_at(forms, place) == NON_TERMINAL {
-            let found = use_rule(rules, forms, body, list, here, value_at(forms, place), next);
-            if !found.ok {
-                return Followed {
-                    ok: false,
-                    at: next,
-                };
-            }
-            next = found.at;
+            next = use_rule(rules, forms, body, list, here, value_at(forms, place), next)?;
             here += size_at(body, here);
         } else {
             if !alike(forms, place, body, here) {
-                return Followed {
-                    ok: false,
-                    at: next,
-                };
+                return None;
             }
             here += 1;
         }
-        place += 1;
     }
-    Followed { ok: true, at: next }
+    Some(next)
 }
 
 // Whether the whole list derives the body from the start, with no non-terminal twice at one place.
@@ -152,5 +128,5 @@ pub fn follows(rules: &[u64], forms: &[u64], body: &[u64], list: &[u16]) -> bool
     ensures { Follows rules.now forms.now body.now list.now result }
 {
     let found = use_rule(rules, forms, body, list, 0, START, 0);
-    found.ok & (found.at == list.len())
+    found.is_some_and(|past| past == list.len())
 }

@@ -11,6 +11,3 @@ decreases-use_rule l = 2 * (length l.list.now - l.at)
 
 abbrev pub invariant-fit_rule-loop-place : goal.invariant-fit_rule-loop-place
 invariant-fit_rule-loop-place l = Inv l.rules l.forms l.body l.list l.rule l.node l.at l.end l.place l.here l.next
-
-abbrev pub decreases-fit_rule-loop-place : goal.decreases-fit_rule-loop-place
-decreases-fit_rule-loop-place l = l.end - l.place

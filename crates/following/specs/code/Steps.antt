@@ -1,5 +1,5 @@
 -- What the steps of the check ask of each other and give.
-use Rattle.std.specs.Prelude.{◌≡◌, Bool, true, false, not, ◌&&◌, ℕ, ◌/◌, ◌<◌, ◌≤◌, List, [], ◌++◌, eqb, ltb, drop, length}
+use Rattle.std.specs.Prelude.{◌≡◌, Bool, not, ◌&&◌, ℕ, ◌/◌, ◌<◌, ◌≤◌, List, [], ◌++◌, Option, MatchOption, eqb, ltb, drop, length}
 use Rattle.forest.specs.Forest.{Forest, none, tree}
 use Rattle.forest.specs.code.Cursors.{first, from, size}
 use Rattle.terms.specs.Labels.{Label, Terms}
@@ -9,6 +9,7 @@ use Rattle.derivation.specs.code.Masks.{has}
 use Rattle.derivation.specs.code.Rules.{non_terminal_at, rule_width}
 use Rattle.derivation.specs.code.Forms.{NoChain}
 use Rattle.forest.specs.Limits.{most_non_terminals}
+use Rattle.following.specs.declared.Last.{Last}
 
 -- The list begins with rules that derive the terms T from the forms P, where those of `seen` were used at the place of the first tree; `rest` follows them.
 pub record Reads (G : Grammar) (seen : List ℕ) (P : Forest Item) (T : Terms) (list rest : List ℕ) : Type 0 where
@@ -42,14 +43,14 @@ pub record ChainFound (G : Grammar) (list : List ℕ) (a at w r : ℕ) : Type 0 
 abbrev pub NoneRead : Grammar → (a : ℕ) → (list : List ℕ) → Type 0
 NoneRead G a list = (l : Label) (ts : Terms) (rest : List ℕ) → Reads G [] (tree (non_terminal a) none none) (tree l ts none) list rest → ⊥
 
--- The answer is yes, and the chain is found; or it is no, and the list derives no tree from a.
-pub record ChainPost (rules forms list : List ℕ) (a at : ℕ) (p : ChainPre rules forms list a at) (ok : Bool) (w r : ℕ) : Type 0 where
-  pub yes! : ok ≡ true → ChainFound p.given.G list a at w r
-  pub no! : ok ≡ false → NoneRead p.given.G a (drop at list)
+-- There is a last rule, and the chain to it is found; or there is none, and the list derives no tree from a.
+abbrev pub ChainPost : (rules forms list : List ℕ) (a at : ℕ) → ChainPre rules forms list a at → Option Last → Type 0
+ChainPost rules forms list a at p found =
+    MatchOption found (NoneRead p.given.G a (drop at list)) (λ last. ChainFound p.given.G list a at last.at last.rule)
 
 -- The same, for whatever the tables hold.
-abbrev pub Chained : (rules forms list : List ℕ) (a at : ℕ) (ok : Bool) (w r : ℕ) → Type 0
-Chained rules forms list a at ok w r = (p : ChainPre rules forms list a at) → ChainPost rules forms list a at p ok w r
+abbrev pub Chained : (rules forms list : List ℕ) (a at : ℕ) → Option Last → Type 0
+Chained rules forms list a at found = (p : ChainPre rules forms list a at) → ChainPost rules forms list a at p found
 
 -- The tree at node i.
 abbrev pub one_at : Terms → ℕ → Terms
@@ -61,10 +62,9 @@ pub record Found (G : Grammar) (P : Forest Item) (T : Terms) (list : List ℕ) (
   pub within : w ≤ length list
   pub reads : Reads G [] P T (drop at list) (drop w list)
 
--- The answer is yes, and the list at `at` derives T from P; or it is no, and no front of it does.
-pub record FoundOr (G : Grammar) (P : Forest Item) (T : Terms) (list : List ℕ) (at : ℕ) (ok : Bool) (w : ℕ) : Type 0 where
-  pub yes! : ok ≡ true → Found G P T list at w
-  pub no! : ok ≡ false → (rest : List ℕ) → Reads G [] P T (drop at list) rest → ⊥
+-- There is a place, and the list from `at` to it derives T from P; or there is none, and no front of it does.
+abbrev pub FoundOr : (G : Grammar) (P : Forest Item) (T : Terms) (list : List ℕ) (at : ℕ) → Option ℕ → Type 0
+FoundOr G P T list at found = MatchOption found ((rest : List ℕ) → Reads G [] P T (drop at list) rest → ⊥) (Found G P T list at)
 
 -- A node of the body, a non-terminal, and a place of the list.
 pub record UsePre (rules forms body list : List ℕ) (i a at : ℕ) : Type 0 where
@@ -74,9 +74,9 @@ pub record UsePre (rules forms body list : List ℕ) (i a at : ℕ) : Type 0 whe
   pub room : at ≤ length list
 
 -- What is answered for whatever the tables hold.
-abbrev pub Uses : (rules forms body list : List ℕ) (i a at : ℕ) (ok : Bool) (w : ℕ) → Type 0
-Uses rules forms body list i a at ok w =
-    (p : UsePre rules forms body list i a at) → FoundOr p.given.G (tree (non_terminal a) none none) (one_at p.given.F i) list at ok w
+abbrev pub Uses : (rules forms body list : List ℕ) (i a at : ℕ) → Option ℕ → Type 0
+Uses rules forms body list i a at found =
+    (p : UsePre rules forms body list i a at) → FoundOr p.given.G (tree (non_terminal a) none none) (one_at p.given.F i) list at found
 
 -- A node of the body, a rule, and a place of the list.
 pub record FitPre (rules forms body list : List ℕ) (r i at : ℕ) : Type 0 where
@@ -86,6 +86,6 @@ pub record FitPre (rules forms body list : List ℕ) (r i at : ℕ) : Type 0 whe
   pub room : at ≤ length list
 
 -- What is answered for whatever the tables hold.
-abbrev pub Fitted : (rules forms body list : List ℕ) (r i at : ℕ) (ok : Bool) (w : ℕ) → Type 0
-Fitted rules forms body list r i at ok w =
-    (p : FitPre rules forms body list r i at) → FoundOr p.given.G (form_of p.given.G.rules r) (one_at p.given.F i) list at ok w
+abbrev pub Fitted : (rules forms body list : List ℕ) (r i at : ℕ) → Option ℕ → Type 0
+Fitted rules forms body list r i at found =
+    (p : FitPre rules forms body list r i at) → FoundOr p.given.G (form_of p.given.G.rules r) (one_at p.given.F i) list at found
