@@ -13,7 +13,6 @@ use crate::{answer, check, read};
 use auditing::check_evidence;
 use both_texts::answers::write_answer;
 use filing::write_evidence;
-use runner::run_steps;
 use words::positions::position;
 use words::word_at;
 
@@ -106,11 +105,7 @@ pub fn sverdhyll_run(
 ) -> u8
     ensures { RanForC sorts.now arguments.now steps.now result place.new value.new sort.new }
 {
-    let ran = run_steps(sorts, arguments, steps);
-    *place = ran.place as u64;
-    *value = ran.value.number;
-    *sort = ran.value.sort;
-    ran.number as u8
+    runner::sverdhyll_run(sorts, arguments, steps, place, value, sort)
 }
 
 // `write_evidence` for C: returns the answer's number, and puts the file's length and the sixteen numbers where the caller lends room for them.

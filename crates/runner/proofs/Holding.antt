@@ -2,7 +2,7 @@
 use Prim.Native.Nat.{ℕ, ◌+◌, ◌-◌, ◌≤◌, ◌<◌}
 use native.Mathlib.Numerals.{add-one}
 use native.Mathlib.Omega.{arith}
-use mathlib.Core.Path.{◌≡◌, refl, sym, ap, ◌∙◌}
+use mathlib.Core.Path.{◌≡◌, sym, ap, ◌∙◌}
 use mathlib.Core.List.{List, [], ◌∷◌, ◌++◌, append_assoc, append-nil, map, map-append}
 use borrow.Author.Tests.{le-ltb, lt-ltb}
 use lib.ListN.{drop, length, length-drop, length-map, length-set, set, take, take-append-drop}
@@ -14,7 +14,8 @@ use Rattle.steps.specs.Stack.{most_values, pushed, turned}
 use Rattle.terms.proofs.Sound.{Fits}
 use Rattle.terms.specs.Values.{numbers_in, sorts_in}
 use Rattle.terms.specs.declared.Value.{Value}
-use Rattle.runner.specs.code.Stack.{Held, Pushable, Ready, Stepped, refused}
+use Rattle.runner.specs.code.Stack.{Held, Pushable, Ready, Stepped}
+use Rattle.std.specs.Prelude.{None, Some}
 use Rattle.runner.specs.code.Stack.Stepped.{done, not_done}
 
 -- Values behind others, in the other order.
@@ -61,11 +62,11 @@ held_put {values} {sorts} {top} {stack} h room v f =
 
 module _ {values sorts : List ℕ} {top : ℕ} {v : Value} (e : Pushable values sorts top v) where
   -- A full stack.
-  pub push_full : top ≡ most_values → Stepped values sorts refused (pushed e.ready.stack v)
-  push_full q = rw (le-ltb (length e.ready.stack) most_values (omega (arith, e.ready.held.counted))) (not_done refl)
+  pub push_full : top ≡ most_values → Stepped values sorts None (pushed e.ready.stack v)
+  push_full q = rw (le-ltb (length e.ready.stack) most_values (omega (arith, e.ready.held.counted))) not_done
 
   -- A stack that has room.
-  pub push_room : (top ≡ most_values → ⊥) → Stepped (set values top v.number) (set sorts top v.sort) (top + 1) (pushed e.ready.stack v)
+  pub push_room : (top ≡ most_values → ⊥) → Stepped (set values top v.number) (set sorts top v.sort) (Some (top + 1)) (pushed e.ready.stack v)
   push_room q =
       let room : top < most_values = omega (arith, e.ready.held.most) in
       rw (lt-ltb (length e.ready.stack) most_values (omega (arith, e.ready.held.counted))) (done (held_put e.ready.held room v e.fit))

@@ -17,7 +17,8 @@ use Rattle.operators.specs.code.Sorting.{has_sort}
 use Rattle.steps.specs.Stack.{applied, replaced}
 use Rattle.terms.specs.Values.{numbers_in, operator_gives, sorts_in, value}
 use Rattle.terms.specs.declared.Value.{Value}
-use Rattle.runner.specs.code.Stack.{Appliable, Given, Ready, Stepped, refused}
+use Rattle.runner.specs.code.Stack.{Appliable, Given, Ready, Stepped}
+use Rattle.std.specs.Prelude.{None, Some}
 use Rattle.runner.specs.code.Stack.Stepped.{done, not_done}
 use Rattle.runner.proofs.Holding.{below, held_below, held_put, operand_numbers, operand_sorts, operands, operands_counted, operands_fit}
 
@@ -49,8 +50,8 @@ sort_missing (some s) h = apart (sym h)
 
 module _ (o i j : ℕ) {n : ℕ} {values sorts : List ℕ} {top : ℕ} (e : Ready values sorts top) where
   -- There are too few values.
-  pub too_few : top < n → Stepped values sorts refused (applied o i j n e.stack)
-  too_few h = rw (lt-leb n (length e.stack) (omega (arith, e.held.counted))) (not_done refl)
+  pub too_few : top < n → Stepped values sorts None (applied o i j n e.stack)
+  too_few h = rw (lt-leb n (length e.stack) (omega (arith, e.held.counted))) not_done
 
   module _ (few : n ≤ top) where
     -- What is applied to the operands.
@@ -65,11 +66,11 @@ module _ (o i j : ℕ) {n : ℕ} {values sorts : List ℕ} {top : ℕ} (e : Read
       has-sort = t-is ∙ ap (λ (ss : List ℕ). has_sort (operator_sort o i j ss)) (operand_sorts e n few)
 
       -- The operator does not take them.
-      pub not_taken : not t ≡ true → Stepped values sorts refused (applied o i j n e.stack)
+      pub not_taken : not t ≡ true → Stepped values sorts None (applied o i j n e.stack)
       unfolding operator_gives
       not_taken h =
           let none_there = sort_missing (operator_sort o i j (sorts_in (operands e n few))) (sym has-sort ∙ not-true t h) in
-          rw (gives, none_there) (not_done refl)
+          rw (gives, none_there) not_done
 
       module _ (h : not t ≡ false) where
         -- It takes them.
@@ -96,7 +97,7 @@ module _ (o i j : ℕ) {n : ℕ} {values sorts : List ℕ} {top : ℕ} (e : Read
 
         -- The value stands in their place.
         pub value_placed : {v : Value} → Given o i j (take (top - (top - n)) (drop (top - n) values)) (take (top - (top - n)) (drop (top - n) sorts)) v
-            → Stepped (set values (top - n) v.number) (set sorts (top - n) v.sort) (top - n + 1) (applied o i j n e.stack)
+            → Stepped (set values (top - n) v.number) (set sorts (top - n) v.sort) (Some (top - n + 1)) (applied o i j n e.stack)
         unfolding operator_gives taken_appliable
         value_placed {v} g =
             let vs = operands e n few in

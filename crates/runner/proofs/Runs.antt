@@ -1,77 +1,53 @@
 -- Arguments tested one after the other, and steps run one after the other.
 use Prim.Native.Nat.{ℕ, suc, ◌+◌, ◌*◌, ◌/◌, ◌%◌, ◌≤◌, ◌<◌}
 use native.Mathlib.Omega.{arith}
-use mathlib.Core.Path.{◌≡◌, refl, sym, ap, ◌∙◌}
+use mathlib.Core.Path.{◌≡◌, refl, sym, ap, ◌∙◌, subst}
 use mathlib.Core.Bool.{Bool, true, false, cond, not, ◌&&◌}
 use mathlib.Core.List.{List, [], ◌∷◌}
-use mathlib.Core.Option.{Option, none as nothing, some}
-use borrow.Author.Tests.{eq-eqb, eqb-false, eqb-true, leb-true, lt-ltb, ltb-true, ne_eqb, not-false, not-true}
+use mathlib.Core.Option.{Option as StackIfAny, none as nothing, some}
+use Rattle.std.specs.Prelude.{MatchOption, Option, None, Some, Ok, Err}
+use Rattle.std.specs.List.{position_from, zip}
+use Rattle.std.proofs.lemmas.Iterator.Adapters.{position_from-zero}
+use borrow.Author.Tests.{eq-eqb, eqb-false, eqb-true, leb-true, lt-ltb, ltb-true, ne_eqb}
 use lib.Dec.{eqb, leb, ltb}
 use lib.ListN.{drop, drop_of_length-le, get_or, length, length-drop, length-replicate, take}
 use lib.Seq.{get_or-take}
 use Rattle.forest.proofs.Bools.{and_left, and_right}
 use Rattle.forest.proofs.Lists.{drop_next}
-use Rattle.operators.specs.Sorts.{AllFit, max_width, values_of}
+use Rattle.operators.specs.Sorts.{AllFit, Fit, max_width, values_of}
 use Rattle.operators.specs.Sorts.AllFit.{no_more, also}
-use Rattle.steps.specs.Stack.{Ended, as_values, ended, ended_with, first_bad, fits, go_on, most_values, not_run, ran, run_from, step_on, stopped, turned}
+use Rattle.steps.specs.Stack.{as_values, ended, ended_with, first_bad, fits, go_on, most_values, ran, run_from, step_on, stopped, turned}
 use Rattle.steps.specs.declared.Step.{Step}
-use Rattle.steps.specs.declared.StepsRan.{StepsRan}
+use Rattle.steps.specs.declared.Refusal.TheVariants.{BadArgument, BadStep}
 use Rattle.terms.specs.Values.{value}
 use Rattle.terms.specs.declared.Value.{Value}
-use Rattle.runner.specs.Running.{RanForC}
-use Rattle.runner.specs.code.Running.{OneStep, Prepared, step_in}
-use Rattle.runner.specs.code.Stack.{Held, Stepped, no_values, refused}
+use Rattle.runner.specs.code.Running.{OneStep, Prepared, bad_argument, step_in}
+use Rattle.runner.specs.code.Stack.{Held, Stepped, no_values}
 use Rattle.runner.specs.code.Stack.Stepped.{done, not_done}
 
--- No argument before k is bad.
-pub record NoneBad (sorts arguments : List ℕ) (k : ℕ) : Type 0 where
-  pub inside : k ≤ length arguments
-  pub so_far : first_bad k (drop k sorts) (drop k arguments) ≡ first_bad 0 sorts arguments
-
--- So it is at the start.
-pub none_bad : (sorts arguments : List ℕ) → NoneBad sorts arguments 0
-none_bad sorts arguments = record { inside = omega arith; so_far = refl }
-
-module _ {sorts arguments : List ℕ} {k : ℕ} (counts : length sorts ≡ length arguments) (n : NoneBad sorts arguments k) where
-  -- None is left.
-  pub bad_none : length arguments ≤ k → k ≡ first_bad 0 sorts arguments
-  unfolding first_bad
-  bad_none h =
-      ap (λ (l : List ℕ). first_bad k l (drop k arguments)) (sym (drop_of_length-le sorts {i = k} (omega arith))) ∙ n.so_far
-
-  module _ (h : k < length arguments) {t : Bool} (t-is : t ≡ fits (get_or sorts k 0) (get_or arguments k 0)) where
-    -- Argument k and those behind it.
-    next : cond t (first_bad (k + 1) (drop (k + 1) sorts) (drop (k + 1) arguments)) k ≡ first_bad 0 sorts arguments
-    unfolding first_bad
-    next = rw (drop_next sorts k (omega arith), drop_next arguments k h, ← t-is) at n.so_far
-
-    -- It is bad.
-    pub bad_here : not t ≡ true → k ≡ first_bad 0 sorts arguments
-    bad_here f = rw (not-true t f) at next
-
-    -- It is not.
-    pub bad_later : not t ≡ false → NoneBad sorts arguments (k + 1)
-    bad_later f = record { inside = omega arith; so_far = rw (not-false t f) at next }
-
--- Arguments without a bad one fit.
-pub all_fit : (sorts arguments : List ℕ) → length sorts ≡ length arguments → (n : ℕ) → n + length arguments ≤ first_bad n sorts arguments
-    → AllFit sorts arguments
+-- Where there is no bad argument, all fit, and where there is one, it is the first.
+pub bad_told : (sorts arguments : List ℕ) → length sorts ≡ length arguments → (n : ℕ)
+    → MatchOption (position_from (λ (a : ℕ × ℕ). not (fits a.0 a.1)) n (zip sorts arguments)) (AllFit sorts arguments × (first_bad n sorts arguments ≡ n + length arguments))
+    (λ k. (first_bad n sorts arguments ≡ k) × (k < n + length arguments))
 unfolding first_bad
-all_fit [] [] c n h = no_more
-all_fit [] (v ∷ vs) c n h = absurd (omega arith)
-all_fit (s ∷ ss) [] c n h = absurd (omega arith)
-all_fit (s ∷ ss) (v ∷ vs) c n h = by_case (fits s v) refl (all_fit ss vs (omega arith) (n + 1)) h
+bad_told [] [] c n = (no_more, omega arith)
+bad_told [] (v ∷ vs) c n = absurd (omega arith)
+bad_told (s ∷ ss) [] c n = absurd (omega arith)
+bad_told (s ∷ ss) (v ∷ vs) c n = by_case (fits s v) refl (position_from (λ (a : ℕ × ℕ). not (fits a.0 a.1)) (n + 1) (zip ss vs)) (bad_told ss vs (omega arith) (n + 1))
   where
-    by_case : (t : Bool) → fits s v ≡ t → (n + 1 + length vs ≤ first_bad (n + 1) ss vs → AllFit ss vs) → n + suc (length vs) ≤ cond t (first_bad (n + 1) ss vs) n
-        → AllFit (s ∷ ss) (v ∷ vs)
-    by_case true e more b =
-        also
-        (record {
-          sort = leb-true s max_width (and_left (leb s max_width) (ltb v (values_of s)) e);
-          value = ltb-true v (values_of s) (and_right (leb s max_width) (ltb v (values_of s)) e);
-        })
-        (more (omega arith))
-    by_case false e more b = absurd (omega arith)
+    fit : fits s v ≡ true → Fit s v
+    fit e = record {
+      sort = leb-true s max_width (and_left (leb s max_width) (ltb v (values_of s)) e);
+      value = ltb-true v (values_of s) (and_right (leb s max_width) (ltb v (values_of s)) e);
+    }
+
+    by_case : (t : Bool) → fits s v ≡ t → (m : Option ℕ)
+        → MatchOption m (AllFit ss vs × (first_bad (n + 1) ss vs ≡ n + 1 + length vs)) (λ k. (first_bad (n + 1) ss vs ≡ k) × (k < n + 1 + length vs))
+        → MatchOption (cond (not t) (Some n) m) (AllFit (s ∷ ss) (v ∷ vs) × (cond t (first_bad (n + 1) ss vs) n ≡ n + suc (length vs)))
+        (λ k. (cond t (first_bad (n + 1) ss vs) n ≡ k) × (k < n + suc (length vs)))
+    by_case true e None h = (also (fit e) h.0, omega (arith, h.1))
+    by_case true e (Some k) h = (h.0, omega (arith, h.1))
+    by_case false e m h = (refl, omega arith)
 
 -- An empty stack.
 pub held_none : Held no_values no_values 0 []
@@ -113,18 +89,16 @@ pub reached_none : (sorts arguments steps : List ℕ) {values stackSorts : List 
 reached_none sorts arguments steps a b = record { stack = []; held = rw (a, b) held_none; low = omega arith; so_far = refl }
 
 -- A step that is refused, or not.
-refused_none : {values stackSorts : List ℕ} {top : ℕ} {m : Option (List Value)} → Stepped values stackSorts top m → top ≡ refused → m ≡ nothing
-refused_none (not_done q) h = refl
-refused_none (done held) h = absurd (omega (arith, held.most))
+refused_none : {values stackSorts : List ℕ} {m : StackIfAny (List Value)} → Stepped values stackSorts None m → m ≡ nothing
+refused_none not_done = refl
 
-pub record Went (values stackSorts : List ℕ) (top : ℕ) (m : Option (List Value)) : Type 0 where
+pub record Went (values stackSorts : List ℕ) (top : ℕ) (m : StackIfAny (List Value)) : Type 0 where
   pub stack : List Value
   pub is : m ≡ some stack
   pub held : Held values stackSorts top stack
 
-went : {values stackSorts : List ℕ} {top : ℕ} {m : Option (List Value)} → Stepped values stackSorts top m → (top ≡ refused → ⊥) → Went values stackSorts top m
-went (not_done q) n = absurd (n q)
-went (done {stack = stack} held) n = record { stack = stack; is = refl; held = held }
+went : {values stackSorts : List ℕ} {top : ℕ} {m : StackIfAny (List Value)} → Stepped values stackSorts (Some top) m → Went values stackSorts top m
+went (done {stack = stack} held) = record { stack = stack; is = refl; held = held }
 
 -- A step that is cut short.
 cut_short : (arguments : List Value) (k : ℕ) (l : List ℕ) (st : List Value) → 0 < length l → length l < 4 → stopped k ≡ run_from arguments k l st
@@ -136,7 +110,7 @@ cut_short arguments k (a ∷ b ∷ c ∷ []) st h m = refl
 cut_short arguments k (a ∷ b ∷ c ∷ d ∷ l) st h m = absurd (omega arith)
 
 -- A stack that does not end with one value.
-ended_other : (n : ℕ) (st : List Value) → (length st ≡ 1 → ⊥) → not_run 19 n ≡ ended_with n (ended st)
+ended_other : (n : ℕ) (st : List Value) → (length st ≡ 1 → ⊥) → Err (BadStep n) ≡ ended_with n (ended st)
 ended_other n [] h = refl
 ended_other n (v ∷ []) h = absurd (h refl)
 ended_other n (v ∷ u ∷ more) h = refl
@@ -158,15 +132,14 @@ module _ {sorts arguments steps values stackSorts : List ℕ} {top k : ℕ} (fit
   pub prepared : Prepared sorts arguments values stackSorts top
   prepared = record { fit = fit; ready = record { stack = s.stack; held = s.held } }
 
-  module _ (h : k < length steps / 4) {step : Step} (step_is : step ≡ step_in steps k) {values' stackSorts' : List ℕ} {top' : ℕ}
-      (one : OneStep sorts arguments step values stackSorts values' stackSorts' top top') where
+  module _ (h : k < length steps / 4) {step : Step} (step_is : step ≡ step_in steps k) where
     -- What it gives.
-    abbrev outcome : Option (List Value)
+    abbrev outcome : StackIfAny (List Value)
     outcome = step_on (as_values sorts arguments) step.first step.second step.third step.fourth s.stack
 
-    gave : Stepped values' stackSorts' top' outcome
+    gave : {values' stackSorts' : List ℕ} {top' : Option ℕ} → OneStep sorts arguments step values stackSorts values' stackSorts' top top' → Stepped values' stackSorts' top' outcome
     unfolding prepared
-    gave = one prepared
+    gave one = one prepared
 
     -- The run goes on with it.
     goes : go_on k outcome (λ (next : List Value). run_from (as_values sorts arguments) (k + 1) (drop (4 * (k + 1)) steps) next)
@@ -175,15 +148,17 @@ module _ {sorts arguments steps values stackSorts : List ℕ} {top k : ℕ} (fit
     goes = rw step_is (rw (step_next steps k h) at s.so_far)
 
     -- The step is refused.
-    pub step_refused : (n : ℕ) → top' ≡ refused → not_run 19 k ≡ ended_with n (run_from (as_values sorts arguments) 0 steps [])
-    step_refused n q =
-        let stops : stopped k ≡ run_from (as_values sorts arguments) 0 steps [] = rw (refused_none gave q) at goes in
+    pub step_refused : (n : ℕ) {values' stackSorts' : List ℕ} → OneStep sorts arguments step values stackSorts values' stackSorts' top None
+        → Err (BadStep k) ≡ ended_with n (run_from (as_values sorts arguments) 0 steps [])
+    step_refused n one =
+        let stops : stopped k ≡ run_from (as_values sorts arguments) 0 steps [] = rw (refused_none (gave one)) at goes in
         ap (ended_with n) stops
 
     -- The step is done.
-    pub step_done : (top' ≡ refused → ⊥) → Reached sorts arguments steps values' stackSorts' top' (k + 1)
-    step_done q =
-        let w = went gave q in
+    pub step_done : {values' stackSorts' : List ℕ} {top' : ℕ} → OneStep sorts arguments step values stackSorts values' stackSorts' top (Some top')
+        → Reached sorts arguments steps values' stackSorts' top' (k + 1)
+    step_done one =
+        let w = went (gave one) in
         record { stack = w.stack; held = w.held; low = omega arith; so_far = rw w.is at goes }
 
   module _ (h : length steps / 4 ≤ k) where
@@ -206,7 +181,7 @@ module _ {sorts arguments steps values stackSorts : List ℕ} {top k : ℕ} (fit
 
     -- One value is left.
     pub value_alone : eqb (length steps % 4) 0 && eqb top 1 ≡ true
-        → record { number = 0; place = 0; value = value (get_or stackSorts 0 0) (get_or values 0 0) }
+        → Ok (value (get_or stackSorts 0 0) (get_or values 0 0))
         ≡ ended_with (length steps / 4) (run_from (as_values sorts arguments) 0 steps [])
     value_alone q =
         let none-cut = eqb-true (length steps % 4) 0 (and_left (eqb (length steps % 4) 0) (eqb top 1) q) in
@@ -216,61 +191,39 @@ module _ {sorts arguments steps values stackSorts : List ℕ} {top k : ℕ} (fit
 
     -- It is not so.
     pub not_alone : eqb (length steps % 4) 0 && eqb top 1 ≡ false
-        → not_run 19 (length steps / 4) ≡ ended_with (length steps / 4) (run_from (as_values sorts arguments) 0 steps [])
+        → Err (BadStep (length steps / 4)) ≡ ended_with (length steps / 4) (run_from (as_values sorts arguments) 0 steps [])
     not_alone q = by_case (eqb (length steps % 4) 0) refl q
       where
         by_case : (whole : Bool) → eqb (length steps % 4) 0 ≡ whole → whole && eqb top 1 ≡ false
-            → not_run 19 (length steps / 4) ≡ ended_with (length steps / 4) (run_from (as_values sorts arguments) 0 steps [])
+            → Err (BadStep (length steps / 4)) ≡ ended_with (length steps / 4) (run_from (as_values sorts arguments) 0 steps [])
         by_case true e f =
             ended_other (length steps / 4) s.stack (λ z. eqb-false top 1 f (sym s.held.counted ∙ z))
             ∙ ap (ended_with (length steps / 4)) (whole_end (eqb-true (length steps % 4) 0 e))
-        by_case false e f = ap (not_run 19) (sym at_end) ∙ ap (ended_with (length steps / 4)) (cut_end (eqb-false (length steps % 4) 0 e))
+        by_case false e f = ap (λ (n : ℕ). Err (BadStep n)) (sym at_end) ∙ ap (ended_with (length steps / 4)) (cut_end (eqb-false (length steps % 4) 0 e))
 
 module _ (sorts arguments steps : List ℕ) where
   -- Another count of arguments than of sorts.
-  pub counts_differ : (length sorts ≡ length arguments → ⊥) → not_run 20 (length arguments) ≡ ran sorts arguments steps
+  pub counts_differ : (length sorts ≡ length arguments → ⊥) → Err (BadArgument (length arguments)) ≡ ran sorts arguments steps
   unfolding ran
   counts_differ n = rw (ne_eqb (length sorts) (length arguments) n)
 
-  module _ (counts : length sorts ≡ length arguments) {bad : ℕ} (bad-is : bad ≡ first_bad 0 sorts arguments) where
+  module _ (counts : length sorts ≡ length arguments) where
+    bad_as : (found : Option ℕ) → found ≡ bad_argument sorts arguments
+        → MatchOption found (AllFit sorts arguments × (first_bad 0 sorts arguments ≡ 0 + length arguments))
+        (λ k. (first_bad 0 sorts arguments ≡ k) × (k < 0 + length arguments))
+    bad_as found is =
+        subst
+        (λ (m : Option ℕ). MatchOption m (AllFit sorts arguments × (first_bad 0 sorts arguments ≡ 0 + length arguments))
+        (λ k. (first_bad 0 sorts arguments ≡ k) × (k < 0 + length arguments)))
+        (sym (is ∙ position_from-zero (λ (a : ℕ × ℕ). not (fits a.0 a.1)) (zip sorts arguments))) (bad_told sorts arguments counts 0)
+
     -- An argument that is bad.
-    pub argument_bad : bad < length arguments → not_run 20 bad ≡ ran sorts arguments steps
+    pub argument_bad : {bad : ℕ} → Some bad ≡ bad_argument sorts arguments → Err (BadArgument bad) ≡ ran sorts arguments steps
     unfolding ran
-    argument_bad h = rw (eq-eqb (length sorts) (length arguments) counts, ← bad-is, lt-ltb bad (length arguments) h)
+    argument_bad {bad} is =
+        let told = bad_as (Some bad) is in
+        rw (eq-eqb (length sorts) (length arguments) counts, told.0, lt-ltb bad (length arguments) (omega (arith, told.1)))
 
     -- None is.
-    pub none_is : length arguments ≤ bad → AllFit sorts arguments
-    none_is h = all_fit sorts arguments counts 0 (omega (arith, bad-is))
-
--- The number of an answer is small.
-ended_small : (n : ℕ) (e : Ended) → (ended_with n e).number ≤ 20
-ended_small n (stopped k) = omega arith
-ended_small n (ended []) = omega arith
-ended_small n (ended (v ∷ [])) = omega arith
-ended_small n (ended (v ∷ u ∷ more)) = omega arith
-
-ran_small : (sorts arguments steps : List ℕ) → (ran sorts arguments steps).number ≤ 20
-unfolding ran
-ran_small sorts arguments steps =
-    pick (eqb (length sorts) (length arguments)) (ltb (first_bad 0 sorts arguments) (length arguments)) (length steps / 4)
-    (run_from (as_values sorts arguments) 0 steps [])
-  where
-    pick : (same bad : Bool) (n : ℕ) (e : Ended)
-        → (cond same (cond bad (not_run 20 (first_bad 0 sorts arguments)) (ended_with n e)) (not_run 20 (length arguments))).number ≤ 20
-    pick true true n e = omega arith
-    pick true false n e = ended_small n e
-    pick false bad n e = omega arith
-
-module _ (sorts arguments steps : List ℕ) {r : StepsRan} (is : r ≡ ran sorts arguments steps) where
-  -- So it fits a byte.
-  pub ran_fits : r.number < 256
-  ran_fits = omega (arith, ap (λ (x : StepsRan). x.number) is, ran_small sorts arguments steps)
-
-  -- The parts of the answer, each apart.
-  pub ran_apart : RanForC sorts arguments steps r.number r.place r.value.number r.value.sort
-  ran_apart = record {
-    number_is = ap (λ (x : StepsRan). x.number) is;
-    place_is = ap (λ (x : StepsRan). x.place) is;
-    value_is = ap (λ (x : StepsRan). x.value.number) is;
-    sort_is = ap (λ (x : StepsRan). x.value.sort) is;
-  }
+    pub none_is : None ≡ bad_argument sorts arguments → AllFit sorts arguments
+    none_is is = (bad_as None is).0

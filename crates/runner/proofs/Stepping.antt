@@ -4,7 +4,8 @@ use native.Mathlib.Omega.{arith}
 use mathlib.Core.Path.{◌≡◌, refl, sym, ap, ◌∙◌}
 use mathlib.Core.Bool.{Bool, true, false, not, ◌&&◌, ◌||◌, and-false}
 use mathlib.Core.List.{List, ◌∷◌}
-use mathlib.Core.Option.{Option, none as nothing}
+use mathlib.Core.Option.{Option as StackIfAny, none as nothing}
+use Rattle.std.specs.Prelude.{None, Option}
 use borrow.Author.Tests.{eq-eqb, le-leb, le-ltb, leb-true, lt-leb, lt-ltb, ltb-true, ne_eqb, not-false, not-true}
 use lib.Dec.{eqb, leb, ltb}
 use lib.ListN.{get_or, length, length-map}
@@ -20,7 +21,7 @@ use Rattle.terms.proofs.Sound.{fit_at}
 use Rattle.terms.specs.Values.{numbers_in, sorts_in, value}
 use Rattle.terms.specs.declared.Value.{Value}
 use Rattle.runner.specs.code.Running.{ArgumentStep, ConstantStep, OperatorStep, OneStep, Prepared, argument_on, constant_on, operator_on}
-use Rattle.runner.specs.code.Stack.{Applying, Pushable, Pushing, Ready, Stepped, refused}
+use Rattle.runner.specs.code.Stack.{Applying, Pushable, Pushing, Ready, Stepped}
 use Rattle.runner.specs.code.Stack.Stepped.{not_done}
 
 -- A number that is no sort.
@@ -63,13 +64,13 @@ none_used false b h = apart (sym h)
 module _ {sorts arguments values stackSorts : List ℕ} {top : ℕ} (s : Step) (e : Prepared sorts arguments values stackSorts top) where
   -- An unused number that is not 0.
   pub argument_malformed : not (eqb s.third 0) || not (eqb s.fourth 0) ≡ true
-      → Stepped values stackSorts refused (argument_on (as_values sorts arguments) s e.ready.stack)
+      → Stepped values stackSorts None (argument_on (as_values sorts arguments) s e.ready.stack)
   argument_malformed h =
-      rw (one_used (ltb s.second (length (as_values sorts arguments))) (eqb s.third 0) (eqb s.fourth 0) h) (not_done refl)
+      rw (one_used (ltb s.second (length (as_values sorts arguments))) (eqb s.third 0) (eqb s.fourth 0) h) not_done
 
   -- An argument that is not there.
-  pub argument_missing : length arguments ≤ s.second → Stepped values stackSorts refused (argument_on (as_values sorts arguments) s e.ready.stack)
-  argument_missing h = rw (le-ltb s.second (length (as_values sorts arguments)) (omega (arith, (given_length e.fit).1))) (not_done refl)
+  pub argument_missing : length arguments ≤ s.second → Stepped values stackSorts None (argument_on (as_values sorts arguments) s e.ready.stack)
+  argument_missing h = rw (le-ltb s.second (length (as_values sorts arguments)) (omega (arith, (given_length e.fit).1))) not_done
 
   module _ (h : s.second < length arguments) where
     -- One that is there.
@@ -79,7 +80,7 @@ module _ {sorts arguments values stackSorts : List ℕ} {top : ℕ} (s : Step) (
     pub argument_pushable : Pushable values stackSorts top (value (get_or sorts s.second 0) (get_or arguments s.second 0))
     argument_pushable = record { ready = e.ready; fit = fit_at e.fit s.second argument_place }
 
-    pub argument_pushed : {values' stackSorts' : List ℕ} {r : ℕ} → not (eqb s.third 0) || not (eqb s.fourth 0) ≡ false
+    pub argument_pushed : {values' stackSorts' : List ℕ} {r : Option ℕ} → not (eqb s.third 0) || not (eqb s.fourth 0) ≡ false
         → Pushing values stackSorts values' stackSorts' top (value (get_or sorts s.second 0) (get_or arguments s.second 0)) r
         → Stepped values' stackSorts' r (argument_on (as_values sorts arguments) s e.ready.stack)
     unfolding argument_pushable
@@ -96,13 +97,13 @@ module _ {sorts arguments values stackSorts : List ℕ} {top : ℕ} (s : Step) (
 
 module _ {values stackSorts : List ℕ} {top : ℕ} (s : Step) (e : Ready values stackSorts top) where
   -- A constant with an unused number that is not 0.
-  pub constant_malformed : (s.fourth ≡ 0 → ⊥) → Stepped values stackSorts refused (constant_on s e.stack)
-  constant_malformed h = rw (ne_eqb s.fourth 0 h, and-false) (not_done refl)
+  pub constant_malformed : (s.fourth ≡ 0 → ⊥) → Stepped values stackSorts None (constant_on s e.stack)
+  constant_malformed h = rw (ne_eqb s.fourth 0 h, and-false) not_done
 
   module _ {t : Bool} (t-is : t ≡ fits s.third s.second) where
     -- One that is no value of its sort.
-    pub constant_wrong : not t ≡ true → Stepped values stackSorts refused (constant_on s e.stack)
-    constant_wrong h = let q : fits s.third s.second ≡ false = sym t-is ∙ not-true t h in rw q (not_done refl)
+    pub constant_wrong : not t ≡ true → Stepped values stackSorts None (constant_on s e.stack)
+    constant_wrong h = let q : fits s.third s.second ≡ false = sym t-is ∙ not-true t h in rw q not_done
 
     module _ (h : not t ≡ false) where
       -- One that is.
@@ -121,31 +122,31 @@ module _ {values stackSorts : List ℕ} {top : ℕ} (s : Step) (e : Ready values
             };
           }
 
-      pub constant_pushed : {values' stackSorts' : List ℕ} {r : ℕ} → s.fourth ≡ 0
+      pub constant_pushed : {values' stackSorts' : List ℕ} {r : Option ℕ} → s.fourth ≡ 0
           → Pushing values stackSorts values' stackSorts' top (value s.third s.second) r
           → Stepped values' stackSorts' r (constant_on s e.stack)
       unfolding constant_pushable
       constant_pushed u p = rw (constant_fits, eq-eqb s.fourth 0 u) (p constant_pushable)
 
   -- `extract`
-  pub cut_applied : {values' stackSorts' : List ℕ} {r : ℕ} → s.second ≡ extract_number
+  pub cut_applied : {values' stackSorts' : List ℕ} {r : Option ℕ} → s.second ≡ extract_number
       → Applying s.second s.third s.fourth 1 values stackSorts values' stackSorts' top r → Stepped values' stackSorts' r (operator_on s e.stack)
   cut_applied h p = rw (eq-eqb s.second _ (h ∙ sym extract_is)) (p e)
 
   module _ (n : s.second ≡ extract_number → ⊥) where
     -- Another operator with an unused number that is not 0.
-    pub operator_malformed : (s.fourth ≡ 0 → ⊥) → Stepped values stackSorts refused (operator_on s e.stack)
-    operator_malformed h = rw (ne_eqb s.second _ (λ q. n (q ∙ extract_is)), ne_eqb s.fourth 0 h) (not_done refl)
+    pub operator_malformed : (s.fourth ≡ 0 → ⊥) → Stepped values stackSorts None (operator_on s e.stack)
+    operator_malformed h = rw (ne_eqb s.second _ (λ q. n (q ∙ extract_is)), ne_eqb s.fourth 0 h) not_done
 
     -- Another operator.
-    pub operator_applied : {values' stackSorts' : List ℕ} {r : ℕ} → s.fourth ≡ 0
+    pub operator_applied : {values' stackSorts' : List ℕ} {r : Option ℕ} → s.fourth ≡ 0
         → Applying s.second 0 0 s.third values stackSorts values' stackSorts' top r
         → Stepped values' stackSorts' r (operator_on s e.stack)
     operator_applied h p = rw (ne_eqb s.second _ (λ q. n (q ∙ extract_is)), eq-eqb s.fourth 0 h) (p e)
 
 -- What a step does, by its kind.
 module _ (arguments : List Value) (s : Step) (stack : List Value) where
-  abbrev on : Option (List Value)
+  abbrev on : StackIfAny (List Value)
   on = step_on arguments s.first s.second s.third s.fourth stack
 
   argument-on : s.first ≡ push_argument → on ≡ argument_on arguments s stack
@@ -166,7 +167,7 @@ module _ (arguments : List Value) (s : Step) (stack : List Value) where
       unfolding step_on
       none_on h = rw (ne_eqb s.first push_argument a, ne_eqb s.first push_constant b, ne_eqb s.first apply_operator h)
 
-module _ {sorts arguments values stackSorts : List ℕ} {top : ℕ} (s : Step) {values' stackSorts' : List ℕ} {r : ℕ} where
+module _ {sorts arguments values stackSorts : List ℕ} {top : ℕ} (s : Step) {values' stackSorts' : List ℕ} {r : Option ℕ} where
   -- An argument is pushed.
   pub argument_step : s.first ≡ push_argument → ArgumentStep sorts arguments s values stackSorts values' stackSorts' top r
       → OneStep sorts arguments s values stackSorts values' stackSorts' top r
@@ -185,5 +186,5 @@ module _ {sorts arguments values stackSorts : List ℕ} {top : ℕ} (s : Step) {
       operator_step h p e = rw (operator-on (as_values sorts arguments) s e.ready.stack a b h) (p e.ready)
 
       -- It is none of these.
-      pub no_step : (s.first ≡ apply_operator → ⊥) → r ≡ refused → OneStep sorts arguments s values stackSorts values' stackSorts' top r
-      no_step h q e = rw (none_on (as_values sorts arguments) s e.ready.stack a b h) (not_done q)
+      pub no_step : (s.first ≡ apply_operator → ⊥) → r ≡ None → OneStep sorts arguments s values stackSorts values' stackSorts' top r
+      no_step h q e = rw (q, none_on (as_values sorts arguments) s e.ready.stack a b h) not_done

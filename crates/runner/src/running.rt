@@ -1,28 +1,17 @@
 //! Steps one after the other, and the arguments tested before them.
 ghost use Rattle.std.specs.Prelude.{◌≡◌, ◌/◌, ◌<◌, [], length};
 ghost use Rattle.operators.specs.Sorts.{AllFit};
-ghost use Rattle.steps.specs.Stack.{as_values, ended_with, first_bad, fits, not_run, run_from};
+ghost use Rattle.steps.specs.Stack.{as_values, ended_with, fits, run_from};
 ghost use Rattle.runner.specs.code.Stack.{Ready};
-ghost use Rattle.runner.specs.code.Running.{ArgumentStep, ConstantStep, OneStep, OperatorStep, Prepared, step_in};
+ghost use Rattle.runner.specs.code.Running.{ArgumentStep, ConstantStep, OneStep, OperatorStep, Prepared, bad_argument, step_in};
 
-use crate::stack::{REFUSED, apply_operator, no_values, push};
+use crate::stack::{apply_operator, no_values, push};
 use operators::operators::EXTRACT;
 use operators::rules::MAX_WIDTH;
 use operators::sorting;
 use steps::list::{APPLY, PUSH_ARGUMENT, PUSH_CONSTANT, STEP};
-use steps::{BAD_STEP, Step, StepsRan};
+use steps::{Refusal, Step};
 use terms::Value;
-
-// A refusal by its number and place.
-pub fn not_run(number: usize, place: usize) -> StepsRan
-    ensures { result ≡ not_run number place }
-{
-    StepsRan {
-        number: number,
-        place: place,
-        value: Value { sort: 0, number: 0 },
-    }
-}
 
 // Whether a number is a sort, and another a value of it.
 fn is_value(sort: u64, number: u64) -> bool
@@ -34,19 +23,14 @@ fn is_value(sort: u64, number: u64) -> bool
     sorting::fits(sort, number)
 }
 
-// The first index at which a sort is none, or the argument no value of it; past the last where there is none.
-pub fn first_bad(sorts: &[u64], arguments: &[u64]) -> usize
-    requires { length sorts.now ≡ length arguments.now }
-    ensures { result ≡ first_bad 0 sorts.now arguments.now }
+// The first index at which a sort is none, or the argument no value of it.
+pub fn first_bad(sorts: &[u64], arguments: &[u64]) -> Option<usize>
+    ensures { result ≡ bad_argument sorts.now arguments.now }
 {
-    let mut k = 0;
-    while k < arguments.len() {
-        if !is_value(sorts[k], arguments[k]) {
-            return k;
-        }
-        k += 1;
-    }
-    k
+    sorts
+        .iter()
+        .zip(arguments)
+        .position(|(sort, argument)| !is_value(*sort, *argument))
 }
 
 // Step k of a list.
@@ -71,16 +55,16 @@ fn push_argument(
     values: &mut [u64],
     stack_sorts: &mut [u64],
     top: usize,
-) -> usize
+) -> Option<usize>
     requires { Prepared sorts.now arguments.now values.old stack_sorts.old top }
     ensures { ArgumentStep sorts.now arguments.now step values.old stack_sorts.old
         values.new stack_sorts.new top result }
 {
     if (step.third != 0) | (step.fourth != 0) {
-        return REFUSED;
+        return None;
     }
     if arguments.len() as u64 <= step.second {
-        return REFUSED;
+        return None;
     }
     let place = step.second as usize;
     let value = Value {
@@ -91,15 +75,20 @@ fn push_argument(
 }
 
 // Pushes a constant.
-fn push_constant(step: Step, values: &mut [u64], stack_sorts: &mut [u64], top: usize) -> usize
+fn push_constant(
+    step: Step,
+    values: &mut [u64],
+    stack_sorts: &mut [u64],
+    top: usize,
+) -> Option<usize>
     requires { Ready values.old stack_sorts.old top }
     ensures { ConstantStep step values.old stack_sorts.old values.new stack_sorts.new top result }
 {
     if step.fourth != 0 {
-        return REFUSED;
+        return None;
     }
     if !is_value(step.third, step.second) {
-        return REFUSED;
+        return None;
     }
     let value = Value {
         sort: step.third,
@@ -109,7 +98,7 @@ fn push_constant(step: Step, values: &mut [u64], stack_sorts: &mut [u64], top: u
 }
 
 // Applies an operator: `extract` by its two numbers, any other by how many operands it has.
-fn apply_step(step: Step, values: &mut [u64], stack_sorts: &mut [u64], top: usize) -> usize
+fn apply_step(step: Step, values: &mut [u64], stack_sorts: &mut [u64], top: usize) -> Option<usize>
     requires { Ready values.old stack_sorts.old top }
     ensures { OperatorStep step values.old stack_sorts.old values.new stack_sorts.new top result }
 {
@@ -125,7 +114,7 @@ fn apply_step(step: Step, values: &mut [u64], stack_sorts: &mut [u64], top: usiz
         );
     }
     if step.fourth != 0 {
-        return REFUSED;
+        return None;
     }
     apply_operator(step.second, 0, 0, step.third, values, stack_sorts, top)
 }
@@ -138,25 +127,21 @@ fn one_step(
     values: &mut [u64],
     stack_sorts: &mut [u64],
     top: usize,
-) -> usize
+) -> Option<usize>
     requires { Prepared sorts.now arguments.now values.old stack_sorts.old top }
     ensures { OneStep sorts.now arguments.now step values.old stack_sorts.old
         values.new stack_sorts.new top result }
 {
-    if step.first == PUSH_ARGUMENT {
-        return push_argument(sorts, arguments, step, values, stack_sorts, top);
+    match step.first {
+        PUSH_ARGUMENT => push_argument(sorts, arguments, step, values, stack_sorts, top),
+        PUSH_CONSTANT => push_constant(step, values, stack_sorts, top),
+        APPLY => apply_step(step, values, stack_sorts, top),
+        _ => None,
     }
-    if step.first == PUSH_CONSTANT {
-        return push_constant(step, values, stack_sorts, top);
-    }
-    if step.first != APPLY {
-        return REFUSED;
-    }
-    apply_step(step, values, stack_sorts, top)
 }
 
 // Runs the steps of a list on arguments of these sorts.
-pub fn run_list(sorts: &[u64], arguments: &[u64], steps: &[u64]) -> StepsRan
+pub fn run_list(sorts: &[u64], arguments: &[u64], steps: &[u64]) -> Result<Value, Refusal>
     requires { AllFit sorts.now arguments.now }
     ensures { result ≡ ended_with (length steps.now / 4)
         (run_from (as_values sorts.now arguments.now) 0 steps.now []) }
@@ -165,31 +150,18 @@ pub fn run_list(sorts: &[u64], arguments: &[u64], steps: &[u64]) -> StepsRan
     let mut values = no_values();
     let mut stack_sorts = no_values();
     let mut top = 0;
-    let mut k = 0;
-    while k < whole {
-        top = one_step(
-            sorts,
-            arguments,
-            step_at(steps, k),
-            &mut values,
-            &mut stack_sorts,
-            top,
-        );
-        if top == REFUSED {
-            return not_run(BAD_STEP, k);
-        }
-        k += 1;
+    for k in 0..whole {
+        let step = step_at(steps, k);
+        let Some(next) = one_step(sorts, arguments, step, &mut values, &mut stack_sorts, top) else {
+            return Err(Refusal::BadStep(k));
+        };
+        top = next;
     }
     if (steps.len() % STEP == 0) & (top == 1) {
-        let value = Value {
+        return Ok(Value {
             sort: stack_sorts[0],
             number: values[0],
-        };
-        return StepsRan {
-            number: 0,
-            place: 0,
-            value: value,
-        };
+        });
     }
-    not_run(BAD_STEP, whole)
+    Err(Refusal::BadStep(whole))
 }

@@ -10,9 +10,6 @@ use terms::Value;
 // How many values the stack holds.
 pub const VALUES: usize = 256;
 
-// What stands for how many values the stack has where a step is refused.
-pub const REFUSED: usize = 257;
-
 // A table without values.
 pub fn no_values() -> [u64; VALUES]
     ensures { result ≡ no_values }
@@ -21,16 +18,16 @@ pub fn no_values() -> [u64; VALUES]
 }
 
 // Puts a value on the stack, where there is room; returns how many it has then.
-pub fn push(values: &mut [u64], stack_sorts: &mut [u64], top: usize, value: Value) -> usize
+pub fn push(values: &mut [u64], stack_sorts: &mut [u64], top: usize, value: Value) -> Option<usize>
     requires { Pushable values.old stack_sorts.old top value }
     ensures { Pushing values.old stack_sorts.old values.new stack_sorts.new top value result }
 {
     if top == VALUES {
-        return REFUSED;
+        return None;
     }
     values[top] = value.number;
     stack_sorts[top] = value.sort;
-    top + 1
+    Some(top + 1)
 }
 
 // The value that an operator, with `high` and `low` the numbers of an `extract`, gives operands that it takes.
@@ -46,7 +43,7 @@ fn value_of(operator: usize, high: u64, low: u64, values: &[u64], sorts: &[u64])
     }
 }
 
-// Puts the value that an operator gives the `count` newest values in their place; returns how many values the stack has then.
+// Puts the value that an operator gives the `count` newest values in their place, if it takes them; returns how many values the stack has then.
 pub fn apply_operator(
     operator: u64,
     high: u64,
@@ -55,18 +52,18 @@ pub fn apply_operator(
     values: &mut [u64],
     stack_sorts: &mut [u64],
     top: usize,
-) -> usize
+) -> Option<usize>
     requires { Ready values.old stack_sorts.old top }
     ensures { Applying operator high low count values.old stack_sorts.old
         values.new stack_sorts.new top result }
 {
     if (top as u64) < count {
-        return REFUSED;
+        return None;
     }
     let number = operator as usize;
     let base = top - count as usize;
     if !has_sort(number, high, low, &stack_sorts[base..top]) {
-        return REFUSED;
+        return None;
     }
     let value = value_of(
         number,
@@ -77,5 +74,5 @@ pub fn apply_operator(
     );
     values[base] = value.number;
     stack_sorts[base] = value.sort;
-    base + 1
+    Some(base + 1)
 }

@@ -1,7 +1,7 @@
 -- What running the list of a body's steps comes to (E11): "Running the list on any arguments of the right sorts ends with the body's value alone on the stack.
 -- After each step the stack holds exactly the values of the finished subterms whose parent is not finished, oldest lowest." A list and arguments have one
 -- outcome, as `ran` is a function: what the runner gives is said by an equation.
-use Rattle.std.specs.Prelude.{ℕ, ◌*◌, ◌≤◌, false, List, [], ◌∷◌, ◌≡◌, length, take}
+use Rattle.std.specs.Prelude.{ℕ, ◌*◌, ◌≤◌, false, List, [], ◌∷◌, ◌≡◌, Ok, length, take}
 use Rattle.std.proofs.Math.Option.{some}
 use Rattle.forest.specs.Limits.{most_nodes}
 use Rattle.operators.specs.Sorts.{AllFit}
@@ -38,6 +38,6 @@ pub record Stated {sorts numbers : List ℕ} {t : Terms} (b : Body sorts numbers
   -- "The list has as many steps as the body has nodes"
   pub as_many : length (steps_of t) ≡ 4 * node_count t
   -- "ends with the body's value alone on the stack"
-  pub alone : ran sorts numbers (steps_of t) ≡ record { number = 0; place = 0; value = b.v }
+  pub alone : ran sorts numbers (steps_of t) ≡ Ok b.v
   -- "After each step the stack holds exactly the values .."
   pub after_each : (n : ℕ) → n ≤ node_count t → Holds b.meaning t n

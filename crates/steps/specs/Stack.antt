@@ -1,5 +1,5 @@
 -- The stack controller (E11): what each step does, and how a list of steps ends. A stack is a list of values, the newest first.
-use Rattle.std.specs.Prelude.{ℕ, ◌+◌, ◌-◌, ◌/◌, Bool, cond, ◌&&◌, List, [], ◌∷◌, ◌++◌, eqb, leb, ltb, drop, get_or, length, take}
+use Rattle.std.specs.Prelude.{ℕ, ◌+◌, ◌-◌, ◌/◌, Bool, cond, ◌&&◌, List, [], ◌∷◌, ◌++◌, Result, Ok, Err, eqb, leb, ltb, drop, get_or, length, take}
 use Rattle.std.proofs.Math.Option.{Option, none as nothing, some}
 use Rattle.forest.specs.Forest.{nodes_of, none, tree}
 use Rattle.operators.specs.Operators.{operator_sort, operator_value}
@@ -8,7 +8,8 @@ use Rattle.terms.specs.Labels.{Terms}
 use Rattle.terms.specs.Values.{numbers_in, operator_gives, sorts_in, value}
 use Rattle.terms.specs.declared.Value.{Value}
 use Rattle.steps.specs.Steps.{apply_operator, is_extract, push_argument, push_constant}
-use Rattle.steps.specs.declared.StepsRan.{StepsRan}
+use Rattle.steps.specs.declared.Refusal.{Refusal}
+use Rattle.steps.specs.declared.Refusal.TheVariants.{BadArgument, BadStep}
 
 -- "would put a 257th value on the stack": how many values it holds.
 abbrev pub most_values : ℕ
@@ -83,25 +84,42 @@ as_values [] numbers = []
 as_values (s ∷ sorts) [] = []
 as_values (s ∷ sorts) (v ∷ numbers) = value s v ∷ as_values sorts numbers
 
--- A refusal by its number and place.
-abbrev pub not_run : (number place : ℕ) → StepsRan
-not_run number place = record { number = number; place = place; value = value 0 0 }
+-- What running a list of steps gives: one value, or a refusal.
+abbrev pub Ran : Type 0
+Ran = Result Value Refusal
+
+-- The number of the answer: 0 for a value, "answer 19" and "answer 20" for the refusals.
+abbrev pub number_of : Ran → ℕ
+number_of (Ok v) = 0
+number_of (Err (BadStep k)) = 19
+number_of (Err (BadArgument k)) = 20
+
+-- Its place.
+abbrev pub place_of : Ran → ℕ
+place_of (Ok v) = 0
+place_of (Err (BadStep k)) = k
+place_of (Err (BadArgument k)) = k
+
+-- Its value, which is 0 of sort 0 after a refusal.
+abbrev pub value_of : Ran → Value
+value_of (Ok v) = v
+value_of (Err e) = value 0 0
 
 -- "A list that ends with anything but one value is answer 19 at its length", which is counted in steps.
-abbrev pub ended_with : (length : ℕ) → Ended → StepsRan
-ended_with n (stopped k) = not_run 19 k
-ended_with n (ended []) = not_run 19 n
-ended_with n (ended (v ∷ [])) = record { number = 0; place = 0; value = v }
-ended_with n (ended (v ∷ u ∷ more)) = not_run 19 n
+abbrev pub ended_with : (length : ℕ) → Ended → Ran
+ended_with n (stopped k) = Err (BadStep k)
+ended_with n (ended []) = Err (BadStep n)
+ended_with n (ended (v ∷ [])) = Ok v
+ended_with n (ended (v ∷ u ∷ more)) = Err (BadStep n)
 
 -- The runner: "with answer 20 arguments of wrong count or range for the list of sorts given along .., tested before the steps", "20 the first bad index
 -- (argument count if counts differ)"; then "answer 19 at the first step that is malformed or cut short ..".
-unfoldable pub ran : (sorts arguments steps : List ℕ) → StepsRan
+unfoldable pub ran : (sorts arguments steps : List ℕ) → Ran
 ran sorts arguments steps =
     cond (eqb (length sorts) (length arguments))
-    (cond (ltb (first_bad 0 sorts arguments) (length arguments)) (not_run 20 (first_bad 0 sorts arguments))
+    (cond (ltb (first_bad 0 sorts arguments) (length arguments)) (Err (BadArgument (first_bad 0 sorts arguments)))
     (ended_with (length steps / 4) (run_from (as_values sorts arguments) 0 steps [])))
-    (not_run 20 (length arguments))
+    (Err (BadArgument (length arguments)))
 
 -- How many nodes terms have.
 abbrev pub node_count : Terms → ℕ

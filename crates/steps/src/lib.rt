@@ -3,8 +3,6 @@
 
 pub mod list;
 
-use terms::Value;
-
 // The four numbers of a step: what it does, and the three behind that.
 #[derive(Clone, Copy)]
 pub struct Step {
@@ -14,16 +12,12 @@ pub struct Step {
     pub fourth: u64,
 }
 
-// A step is refused, or the list ends with anything but one value.
-pub const BAD_STEP: usize = 19;
+// Why a list of steps is not run to its one value, and where.
+#[derive(Clone, Copy, PartialEq, Eq, Debug)]
+pub enum Refusal {
+    // A step is refused, or the list ends with anything but one value.
+    BadStep(usize),
 
-// Sorts and arguments are not as many, or a sort is none, or an argument no value of it.
-pub const BAD_ARGUMENT: usize = 20;
-
-// How running a list of steps ends: the answer's number and its place, and after answer 0 the one value on the stack.
-#[derive(Clone, Copy)]
-pub struct StepsRan {
-    pub number: usize,
-    pub place: usize,
-    pub value: Value,
+    // Sorts and arguments are not as many, or a sort is none, or an argument no value of it.
+    BadArgument(usize),
 }

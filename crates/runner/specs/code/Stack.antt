@@ -1,6 +1,6 @@
 -- The runner's stack in two tables, and what the functions on it ask and give.
-use Rattle.std.specs.Prelude.{ℕ, ◌≤◌, List, ◌≡◌, length, replicate, take}
-use Rattle.std.proofs.Math.Option.{Option, none as nothing, some}
+use Rattle.std.specs.Prelude.{ℕ, ◌≤◌, List, ◌≡◌, None, Option, Some, length, replicate, take}
+use Rattle.std.proofs.Math.Option.{Option as StackIfAny, none as nothing, some}
 use Rattle.operators.specs.Operators.{operator_sort, operator_value}
 use Rattle.operators.specs.Sorts.{AllFit, Fit}
 use Rattle.steps.specs.Stack.{applied, most_values, pushed, turned}
@@ -10,10 +10,6 @@ use Rattle.terms.specs.declared.Value.{Value}
 -- A table without values.
 unfoldable pub no_values : List ℕ
 no_values = replicate {A = ℕ} most_values 0
-
--- What stands for how many values the stack has where a step is refused.
-abbrev pub refused : ℕ
-refused = 257
 
 -- Two tables hold the numbers and the sorts of the values of a stack, the oldest first, each a value of its sort.
 pub record Held (values sorts : List ℕ) (top : ℕ) (stack : List Value) : Type 0 where
@@ -30,10 +26,10 @@ pub record Ready (values sorts : List ℕ) (top : ℕ) : Type 0 where
   pub stack : List Value
   pub held : Held values sorts top stack
 
--- They hold the stack that a step gives, or say that it is refused.
-pub data Stepped (values sorts : List ℕ) (top : ℕ) : Option (List Value) → Type 0 where
-  not_done : top ≡ refused → Stepped values sorts top nothing
-  done : {stack : List Value} → Held values sorts top stack → Stepped values sorts top (some stack)
+-- They hold the stack that a step gives, which has so many values, or the step is refused.
+pub data Stepped (values sorts : List ℕ) : Option ℕ → StackIfAny (List Value) → Type 0 where
+  not_done : Stepped values sorts None nothing
+  done : {top : ℕ} {stack : List Value} → Held values sorts top stack → Stepped values sorts (Some top) (some stack)
 
 -- A stack, and a value to be put on it.
 pub record Pushable (values sorts : List ℕ) (top : ℕ) (v : Value) : Type 0 where
@@ -41,7 +37,7 @@ pub record Pushable (values sorts : List ℕ) (top : ℕ) (v : Value) : Type 0 w
   pub fit : Fit v.sort v.number
 
 -- What pushing gives.
-abbrev pub Pushing : (values sorts values' sorts' : List ℕ) (top : ℕ) (v : Value) (r : ℕ) → Type 0
+abbrev pub Pushing : (values sorts values' sorts' : List ℕ) (top : ℕ) (v : Value) (r : Option ℕ) → Type 0
 Pushing values sorts values' sorts' top v r = (e : Pushable values sorts top v) → Stepped values' sorts' r (pushed e.ready.stack v)
 
 -- Operands of these values and sorts, which an operator takes.
@@ -56,6 +52,6 @@ Given operator high low values sorts r =
     (e : Appliable operator high low values sorts) → r ≡ value e.result (operator_value operator high low sorts values)
 
 -- What applying an operator to the newest values gives.
-abbrev pub Applying : (operator high low count : ℕ) (values sorts values' sorts' : List ℕ) (top r : ℕ) → Type 0
+abbrev pub Applying : (operator high low count : ℕ) (values sorts values' sorts' : List ℕ) (top : ℕ) (r : Option ℕ) → Type 0
 Applying operator high low count values sorts values' sorts' top r =
     (e : Ready values sorts top) → Stepped values' sorts' r (applied operator high low count e.stack)

@@ -1,10 +1,5 @@
-use Prim.Native.Nat.{◌-◌, ◌/◌}
-use lib.ListN.{length}
 use Rattle.runner.proofs.Runs.{Reached}
 use Rattle.runner.proofs.running.run_list.Given as goal
 
 abbrev pub invariant-loop-k : goal.invariant-loop-k
 invariant-loop-k l = Reached l.sorts l.arguments l.steps l.values l.stack_sorts l.top l.k
-
-abbrev pub decreases-loop-k : goal.decreases-loop-k
-decreases-loop-k l = length l.steps / 4 - l.k
