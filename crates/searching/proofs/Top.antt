@@ -8,6 +8,7 @@ use mathlib.Core.Bool.{Bool, true, false, not, true≢false}
 use mathlib.Core.List.{List, [], ◌++◌, ◌∷◌}
 use lib.ListN.{length, replicate, take, drop, length-replicate, length-take}
 use lib.Seq.{sets, sets-eq}
+use Rattle.std.specs.Prelude.{None, Some}
 use Rattle.forest.specs.Forest.{none, tree, count}
 use Rattle.forest.specs.code.Cursors.{size, from, first}
 use Rattle.forest.proofs.Laws.{count_size, first_all, count_zero}
@@ -134,27 +135,21 @@ module _ {rules forms body area : List ℕ} {k n : ℕ} (en : n ≡ length body 
 
     module _ {list : List ℕ} {c : ℕ} (post : Shows rules forms body (take n ms) cs blank list c) where
       -- the answer is no, and the area is as it was
-      pub derive_no : c ≡ 0 → (p : DerivePre rules forms body k area) → DerivePost rules forms body k area p area false 0
-      derive_no e p = record {
-        yes! = λ t. absurd (true≢false (sym t));
-        no! = λ t. record { none_derives = ((post (show_pre p)).no! e).0; unchanged = refl; nothing = refl };
-      }
+      pub derive_no : c ≡ 0 → (p : DerivePre rules forms body k area) → DerivePost rules forms body k area p area None
+      derive_no e p = record { none_derives = ((post (show_pre p)).no! e).0; unchanged = refl }
 
       -- the answer is yes, and the list was copied to its place
       pub derive_yes : (c ≡ 0 → ⊥) → {area' : List ℕ} → area' ≡ sets area (list_size * k) list → (p : DerivePre rules forms body k area)
-          → DerivePost rules forms body k area p area' true (c / per_weight)
+          → DerivePost rules forms body k area p area' (Some (c / per_weight))
       derive_yes e w p =
           let x = (post (show_pre p)).yes! e in
           let few : length x.ds ≤ list_size = omega (arith, x.few, p.fits) in
           let is : list ≡ list_of x.ds = x.wrote ∙ ap (λ (l : List ℕ). sets l 0 x.ds) bl ∙ sets_unused x.ds list_size few in
           record {
-            yes! = λ t. record {
-              ds = x.ds;
-              derivation = x.derivation;
-              least = x.least;
-              weighs = omega (arith, x.rank, few);
-              few = few;
-              shown = w ∙ ap (sets area (list_size * k)) is;
-            };
-            no! = λ t. absurd (true≢false t);
+            ds = x.ds;
+            derivation = x.derivation;
+            least = x.least;
+            weighs = omega (arith, x.rank, few);
+            few = few;
+            shown = w ∙ ap (sets area (list_size * k)) is;
           }

@@ -54,24 +54,17 @@ fn copy<T: Copy>(list: &[T], area: &mut [T], at: usize)
     area[at..at + list.len()].copy_from_slice(list);
 }
 
-// Whether there is a derivation, and what the least one weighs in all; 0 if there is none.
-#[derive(Clone, Copy)]
-pub struct Derived {
-    pub found: bool,
-    pub total: u64,
-}
-
-// Whether the start derives the body; if so, the function's list in the area gets the least derivation, and its other entries are unused.
+// What the least derivation of the body from the start weighs in all, if there is one; the function's list in the area gets it, and its other entries are unused.
 pub fn derive(
     rules: &[u64],
     forms: &[u64],
     body: &[u64],
     function: usize,
     area: &mut [u16],
-) -> Derived
+) -> Option<u64>
     requires { DerivePre rules.now forms.now body.now function area.old }
     ensures { Decides rules.now forms.now body.now function area.old area.new
-        result.found result.total }
+        result }
 {
     let long = body.len() / ROW * MARKS;
     let mut masks = no_masks();
@@ -86,14 +79,8 @@ pub fn derive(
         &mut list,
     );
     if rank == 0 {
-        return Derived {
-            found: false,
-            total: 0,
-        };
+        return None;
     }
     copy(&list, area, LIST * function);
-    Derived {
-        found: true,
-        total: rank / PER_WEIGHT,
-    }
+    Some(rank / PER_WEIGHT)
 }

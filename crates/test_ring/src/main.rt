@@ -60,8 +60,7 @@ fn main(rt: HostRuntime) -> io::Result<()> {
     let forms: [u64; 12] = [5, 1, 0, 1, 5, 0, 0, 1, 513, 0, 0, 1];
     let body: [u64; 4] = [513, 0, 0, 1];
     let mut area = unused_area();
-    let derived = searching::derive(&rules, &forms, &body, 1, &mut area);
-    if derived.found {
+    if searching::derive(&rules, &forms, &body, 1, &mut area).is_some() {
         let line = [
             digit(area[PLACE]),
             b' ',

@@ -3,7 +3,7 @@ use Prim.Native.Nat.{ℕ, suc, ◌+◌, ◌*◌, ◌≤◌, ◌<◌}
 use native.Mathlib.Nat.{add-zero, zero-add}
 use native.Mathlib.Omega.{arith}
 use mathlib.Core.Path.{◌≡◌, refl, ap, ap₂, ◌∙◌}
-use mathlib.Core.Bool.{Bool, true, false}
+use Rattle.std.specs.Prelude.{None, Some}
 use mathlib.Core.List.{List, [], ◌∷◌, ◌++◌, append_assoc, append-nil}
 use lib.ListN.{drop, drop_of_length-le, length, length-append, length-set, set}
 use lib.Seq.{length-sets, sets}
@@ -87,11 +87,11 @@ module _ {places nodes forms area₀ weights₀ : List ℕ} {p : Progress} (q : 
       abbrev pub next_derivable : OneDerivable places nodes forms j area
       next_derivable = record { held = one_held q.held more; sized = g.long ∙ ap length q.blank ∙ blank_long }
 
-      module _ {areaAfter : List ℕ} {answer : Bool} {total : ℕ} (judged : JudgesOne places nodes forms j area areaAfter answer total) where
+      module _ {areaAfter : List ℕ} where
         -- A body that is not derived is the first.
-        pub going_fails : answer ≡ false → Judged q areaAfter weights j
-        going_fails fails =
-            let failed = (judged next_derivable).no! fails in
+        pub going_fails : JudgesOne places nodes forms j area areaAfter None → Judged q areaAfter weights j
+        going_fails judged =
+            let failed = judged next_derivable in
             let first = g.first_all 0 this.body (rw (this.function_is, this.body_is) (here failed.none_derives)) in
             record {
               all! = λ e. absurd (omega arith);
@@ -101,9 +101,10 @@ module _ {places nodes forms area₀ weights₀ : List ℕ} {p : Progress} (q : 
             }
 
         -- One that is derived is shown behind those before it.
-        pub going_turn : answer ≡ true → {weightsAfter : List ℕ} → weightsAfter ≡ set weights j total → Going areaAfter weightsAfter (j + 1)
-        going_turn passes put =
-            let found = (judged next_derivable).yes! passes in
+        pub going_turn : {total : ℕ} → JudgesOne places nodes forms j area areaAfter (Some total) → {weightsAfter : List ℕ}
+            → weightsAfter ≡ set weights j total → Going areaAfter weightsAfter (j + 1)
+        going_turn {total} judged put =
+            let found = judged next_derivable in
             let ds = found.ds in
             let few : j < most_functions = omega (arith, q.held.counted.few_functions) in
             record {

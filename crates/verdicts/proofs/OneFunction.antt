@@ -1,8 +1,8 @@
 -- One function: what the search for its derivation is handed, and what it answers.
 use Prim.Native.Nat.{ℕ, ◌<◌}
 use mathlib.Core.Path.{◌≡◌}
-use mathlib.Core.Bool.{Bool}
 use mathlib.Core.List.{List}
+use Rattle.std.specs.Prelude.{None, Option, Some}
 use Rattle.forest.specs.Limits.{most_functions}
 use Rattle.terms.specs.code.Nodes.{size_at}
 use Rattle.searching.specs.code.Derive.{Decides, DerivePre}
@@ -26,6 +26,6 @@ module _ {places nodes forms area : List ℕ} {j : ℕ} (q : OneDerivable places
   }
 
   -- What the search answers is what is asked of the function.
-  pub one_judged : {areaAfter : List ℕ} {answer : Bool} {total : ℕ} → Decides rules sides body j area areaAfter answer total
-      → OneJudged q areaAfter answer total
-  one_judged decides = let found = decides (sought q.held.low) in record { yes! = found.yes!; no! = found.no! }
+  pub one_judged : (areaAfter : List ℕ) (found : Option ℕ) → Decides rules sides body j area areaAfter found → OneJudged q areaAfter found
+  one_judged areaAfter None decides = decides (sought q.held.low)
+  one_judged areaAfter (Some total) decides = decides (sought q.held.low)

@@ -5,20 +5,20 @@ use forest::numbers::put_entry;
 use one_function::rows_from;
 use script::Progress;
 use script::places::{body_of, form_rows_of, forms_of, rules_of};
-use searching::{Derived, derive};
+use searching::derive;
 use terms::size_at;
 
-// Whether a function's grammar derives the function's body, and what the least derivation weighs; if so, the function's list in the area shows it.
+// What the least derivation of a function's body by its grammar weighs, if there is one; the function's list in the area shows it.
 fn derive_one(
     places: &[u64],
     nodes: &[u64],
     forms: &[u64],
     function: usize,
     shown: &mut [u16],
-) -> Derived
+) -> Option<u64>
     requires { OneDerivable places.now nodes.now forms.now function shown.old }
     ensures { JudgesOne places.now nodes.now forms.now function shown.old shown.new
-        result.found result.total }
+        result }
 {
     let rules = rules_of(places, function);
     let sides = rows_from(
@@ -47,11 +47,10 @@ pub fn derive_all(
 {
     let mut function = 0;
     while function < progress.functions {
-        let derived = derive_one(places, nodes, forms, function, shown);
-        if !derived.found {
+        let Some(total) = derive_one(places, nodes, forms, function, shown) else {
             return function;
-        }
-        put_entry(totals, function, derived.total);
+        };
+        put_entry(totals, function, total);
         function += 1;
     }
     function

@@ -1,5 +1,5 @@
 -- What the check of one body asks and gives.
-use Rattle.std.specs.Prelude.{◌≡◌, Bool, true, false, ℕ, ◌*◌, ◌≤◌, ◌<◌, List, [], length}
+use Rattle.std.specs.Prelude.{◌≡◌, ℕ, ◌*◌, ◌≤◌, ◌<◌, List, [], MatchOption, Option, length}
 use Rattle.std.proofs.lemmas.List.Edits.{sets}
 use Rattle.forest.specs.Forest.{count}
 use Rattle.forest.specs.code.Cursors.{size}
@@ -28,19 +28,16 @@ pub record Shown (G : Grammar) (F : Terms) (k : ℕ) (area areaAfter : List ℕ)
   pub few : length ds ≤ list_size
   pub shown : areaAfter ≡ sets area (list_size * k) (list_of ds)
 
--- No list of rules, of any length, derives the body; the area is as it was, and the total 0.
-pub record NotDerived (G : Grammar) (F : Terms) (area areaAfter : List ℕ) (total : ℕ) : Type 0 where
+-- No list of rules, of any length, derives the body; the area is as it was.
+pub record NotDerived (G : Grammar) (F : Terms) (area areaAfter : List ℕ) : Type 0 where
   pub none_derives : (ds : List ℕ) → Derives G start F ds → ⊥
   pub unchanged : areaAfter ≡ area
-  pub nothing : total ≡ 0
 
--- The answer is yes, and the least derivation is shown; or it is no, and there is none.
-pub record DerivePost (rules forms body : List ℕ) (k : ℕ) (area : List ℕ) (p : DerivePre rules forms body k area) (areaAfter : List ℕ)
-    (answer : Bool) (total : ℕ) : Type 0 where
-  pub yes! : answer ≡ true → Shown p.given.G p.given.F k area areaAfter total
-  pub no! : answer ≡ false → NotDerived p.given.G p.given.F area areaAfter total
+-- There is a total, and the least derivation, which weighs it, is shown; or there is none, and no derivation.
+abbrev pub DerivePost : (rules forms body : List ℕ) (k : ℕ) (area : List ℕ) → DerivePre rules forms body k area → (areaAfter : List ℕ) → Option ℕ → Type 0
+DerivePost rules forms body k area p areaAfter found =
+    MatchOption found (NotDerived p.given.G p.given.F area areaAfter) (Shown p.given.G p.given.F k area areaAfter)
 
 -- The same, for whatever the tables hold.
-abbrev pub Decides : (rules forms body : List ℕ) (k : ℕ) (area areaAfter : List ℕ) → Bool → ℕ → Type 0
-Decides rules forms body k area areaAfter answer total =
-    (p : DerivePre rules forms body k area) → DerivePost rules forms body k area p areaAfter answer total
+abbrev pub Decides : (rules forms body : List ℕ) (k : ℕ) (area areaAfter : List ℕ) → Option ℕ → Type 0
+Decides rules forms body k area areaAfter found = (p : DerivePre rules forms body k area) → DerivePost rules forms body k area p areaAfter found

@@ -1,5 +1,5 @@
 -- What the search for derivations of all bodies asks and gives.
-use Rattle.std.specs.Prelude.{ℕ, Bool, true, false, List, ◌≡◌, length}
+use Rattle.std.specs.Prelude.{ℕ, List, MatchOption, Option, ◌≡◌, length}
 use Rattle.forest.specs.Limits.{area_size}
 use Rattle.searching.specs.code.Derive.{NotDerived, Shown as ShownIn}
 use Rattle.script.specs.Script.{Known}
@@ -55,11 +55,10 @@ pub record OneDerivable (places nodes forms : List ℕ) (j : ℕ) (area : List �
 
 -- The function's rules derive the body, its list in the area shows the least derivation, and the total is what it weighs; or no list of rules does,
 -- and the area is as it was.
-pub record OneJudged {places nodes forms area : List ℕ} {j : ℕ} (q : OneDerivable places nodes forms j area) (areaAfter : List ℕ) (answer : Bool)
-    (total : ℕ) : Type 0 where
-  pub yes! : answer ≡ true → ShownIn q.held.function.grammar q.held.body j area areaAfter total
-  pub no! : answer ≡ false → NotDerived q.held.function.grammar q.held.body area areaAfter total
+abbrev pub OneJudged : {places nodes forms area : List ℕ} {j : ℕ} → OneDerivable places nodes forms j area → (areaAfter : List ℕ) → Option ℕ → Type 0
+OneJudged {area = area} {j = j} q areaAfter found =
+    MatchOption found (NotDerived q.held.function.grammar q.held.body area areaAfter) (ShownIn q.held.function.grammar q.held.body j area areaAfter)
 
 -- The same, for whatever the tables hold.
-abbrev pub JudgesOne : (places nodes forms : List ℕ) → (j : ℕ) → (area areaAfter : List ℕ) → Bool → ℕ → Type 0
-JudgesOne places nodes forms j area areaAfter answer total = (q : OneDerivable places nodes forms j area) → OneJudged q areaAfter answer total
+abbrev pub JudgesOne : (places nodes forms : List ℕ) → (j : ℕ) → (area areaAfter : List ℕ) → Option ℕ → Type 0
+JudgesOne places nodes forms j area areaAfter found = (q : OneDerivable places nodes forms j area) → OneJudged q areaAfter found

@@ -22,4 +22,4 @@ derive-requires c =
 pub returns : goal.returns
 returns c =
     λ q. one_judged q c.rules_of-rules.ensures c.forms_of.ensures c.form_rows_of.ensures c.rows_from-sides.ensures c.body_of-node.ensures
-    c.size_at.ensures c.rows_from-body.ensures c.derive.ensures
+    c.size_at.ensures c.rows_from-body.ensures c.derive.new.area c.derive.result c.derive.ensures
