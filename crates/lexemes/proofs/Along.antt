@@ -2,15 +2,11 @@
 use Prim.Native.Nat.{ℕ, zero, suc, ◌+◌, ◌-◌, ◌*◌, ◌≤◌, ◌<◌}
 use native.Mathlib.Numerals.{add-one}
 use native.Mathlib.Omega.{arith}
-use mathlib.Core.Path.{◌≡◌, refl, sym, ap, ◌∙◌, subst}
+use mathlib.Core.Path.{◌≡◌, refl, sym, ◌∙◌, subst}
 use mathlib.Core.List.{List}
 use lib.ListN.{length}
 use Rattle.forest.specs.Forest.{count, none, tree}
 use Rattle.words.specs.Trees.{Lexeme}
-use lib.Dec.{ltb}
-use borrow.Author.Tests.{ltb-false, ltb-true}
-use Rattle.forest.proofs.Bools.{and_left, and_right}
-use mathlib.Core.Bool.{Bool, true, false, ◌&&◌}
 use Rattle.lexemes.specs.Lists.{Items, after}
 use Rattle.lexemes.specs.code.Table.{next_at, row_width}
 use Rattle.lexemes.specs.code.Standing.{Between, ItemAt, Reached, Stands}
@@ -111,10 +107,6 @@ after_past (suc n) zero F h e = absurd (omega arith)
 after_past (suc n) (suc m) none h e = refl
 after_past (suc n) (suc m) (tree l ops more) h e = after_past n m more (omega arith) e
 
--- a walk to item n that goes on has not come to it
-pub to_pass : (passed n at close : ℕ) → ltb passed n && ltb at close ≡ true → passed + 1 ≤ n
-to_pass passed n at close t = omega (arith, ltb-true passed n (and_left (ltb passed n) (ltb at close) t))
-
 module _ {lexemes : List ℕ} {first close : ℕ} where
   pub count_start : Between lexemes first close → AlongAny lexemes first close first (Counted 0)
   count_start given = along_start (λ b. b) given (λ b. omega arith)
@@ -134,27 +126,16 @@ module _ {lexemes : List ℕ} {first close : ℕ} where
     count_end found a h b = omega (arith, along_end a h b)
 
     module _ (passed n : ℕ) (a : AlongAny lexemes first close at (Passed passed)) where
-      module _ (t : ltb passed n && ltb at close ≡ true) {next : ℕ} (e : next ≡ next_at lexemes at) where
-        in_list : at < close
-        in_list = ltb-true at close (and_right (ltb passed n) (ltb at close) t)
+      pub passed_turn : at < close → {next : ℕ} → next ≡ next_at lexemes at → AlongAny lexemes first close next (Passed (passed + 1))
+      passed_turn h e = along_turn a h e (λ b x source known. after_more passed b.items known)
 
-        pub passed_less : close - next < close - at
-        passed_less = along_less a in_list e
+      -- n items were passed
+      pub passed_all : passed ≡ n → (b : Between lexemes first close) → Reached lexemes first close n b at
+      passed_all same b = let x = a.left b in record { stands = rw (← same, ← x.known) x.stands }
 
-        pub passed_turn : AlongAny lexemes first close next (Passed (passed + 1))
-        passed_turn = along_turn a in_list e (λ b x source known. after_more passed b.items known)
-
-      pub passed_end : passed ≤ n → ltb passed n && ltb at close ≡ false → (b : Between lexemes first close) → Reached lexemes first close n b at
-      passed_end h out b = record { stands = go (ltb passed n) refl }
-        where
-          x : Left b at (Passed passed b)
-          x = a.left b
-
-          go : (t : Bool) → ltb passed n ≡ t → Stands b.source at (after n b.items) close
-          go false e =
-              let same : passed ≡ n = omega (arith, ltb-false passed n e) in
-              rw (← same, ← x.known) x.stands
-          go true e =
-              let over : close ≤ at = ltb-false at close (ap (λ (t : Bool). t && ltb at close) (sym e) ∙ out) in
-              let done = none_left x.stands over in
-              rw (after_past passed n b.items h (sym done ∙ x.known), ← done) x.stands
+      -- there are no more than n
+      pub passed_out : passed ≤ n → close ≤ at → (b : Between lexemes first close) → Reached lexemes first close n b at
+      passed_out h over b =
+          let x = a.left b in
+          let done = none_left x.stands over in
+          record { stands = rw (after_past passed n b.items h (sym done ∙ x.known), ← done) x.stands }

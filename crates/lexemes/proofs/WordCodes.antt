@@ -4,9 +4,10 @@ use mathlib.Core.List.{[], ◌∷◌, map}
 use lib.ListN.{length}
 use Rattle.operators.specs.Operators.{operators}
 use Rattle.lexemes.specs.code.Reserved.{first_words, known_words}
-use Rattle.lexemes.specs.code.Codes.{assume_code, bang_code, bit_vec_code, bool_code, bv_code, check_synth_code, constant_code, constraint_code, declare_var_code}
-use Rattle.lexemes.specs.code.Codes.{define_fun_code, exists_code, extract_code, fail_code, false_code, first_operator_code, forall_code, infeasible_code, let_code}
-use Rattle.lexemes.specs.code.Codes.{other_command_code, set_feature_code, set_logic_code, synth_fun_code, true_code, underscore_code, variable_code, known_count, words_before}
+use Rattle.lexemes.specs.code.Codes.{assume_code, bang_code, bit_vec_code, bool_code, bv_code, check_synth_code, constant_code, constraint_code}
+use Rattle.lexemes.specs.code.Codes.{declare_var_code, define_fun_code, exists_code, extract_code, fail_code, false_code, first_operator_code, forall_code}
+use Rattle.lexemes.specs.code.Codes.{infeasible_code, let_code, other_command_code, set_feature_code, set_logic_code, synth_fun_code, true_code}
+use Rattle.lexemes.specs.code.Codes.{underscore_code, variable_code, known_count, words_before}
 use Rattle.lexemes.proofs.ByCode.{code_for}
 
 -- each code is that of its word

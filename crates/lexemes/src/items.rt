@@ -24,11 +24,12 @@ pub fn item_at(lexemes: &[u64], first: usize, close: usize, n: usize) -> usize
     requires { Between lexemes.now first close }
     ensures { (b : Between lexemes.now first close) → Reached lexemes.now first close n b result }
 {
-    let mut passed = 0;
     let mut word = first;
-    while (passed < n) & (word < close) {
+    for _passed in 0..n {
+        if word >= close {
+            return word;
+        }
         word = next_at(lexemes, word);
-        passed += 1;
     }
     word
 }

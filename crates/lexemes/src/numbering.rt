@@ -89,8 +89,7 @@ pub fn number_words(text: &[u8], words: &[u32], values: &[u64], count: usize, le
     let names_of_operators = operator_names();
     let starts_of_operators = operator_starts();
     let slots_of_operators = operator_slots();
-    let mut word = 0;
-    while word < count {
+    for word in 0..count {
         let start = start_at(words, word);
         let end = end_at(words, word);
         let code = code_of(
@@ -104,6 +103,5 @@ pub fn number_words(text: &[u8], words: &[u32], values: &[u64], count: usize, le
             &slots_of_operators,
         );
         put_row(words, values, word, code, lexemes);
-        word += 1;
     }
 }

@@ -1,4 +1,3 @@
-use native.Mathlib.Omega.{arith}
 use Rattle.lexemes.proofs.Filling.{filling_begins, filling_ends, filling_goes, row_room, word_end, word_start}
 use Rattle.lexemes.proofs.numbering.number_words.Goals as goal
 
@@ -23,9 +22,6 @@ code_of-code-requires c =
 
 pub put_row-requires : goal.put_row-requires
 put_row-requires c = row_room c.requires c.loop-word-test.true c.loop-word.invariant
-
-pub loop-word-smaller : goal.loop-word-smaller
-loop-word-smaller c = omega arith
 
 pub loop-word-preserved : goal.loop-word-preserved
 loop-word-preserved c = filling_goes c.requires c.loop-word-test.true c.loop-word.invariant c.start_at-start.ensures c.end_at-end.ensures c.kind_at.ensures c.code_of-code.ensures c.put_row.ensures
