@@ -30,14 +30,9 @@ pub fn any_uncarried(lexemes: &[u64], first: usize, end: usize) -> bool
     requires { Between lexemes.now first end }
     ensures { (b : Between lexemes.now first end) → result ≡ any_uncarried b.items }
 {
-    let mut at = first;
-    while at < end {
-        if code_at(lexemes, at) != OPEN {
-            at += 1;
-        } else if uncarried_start(lexemes, at) {
+    for at in first..end {
+        if code_at(lexemes, at) == OPEN && uncarried_start(lexemes, at) {
             return true;
-        } else {
-            at += 1; // into the list
         }
     }
     false

@@ -1,10 +1,6 @@
 use Rattle.lexemes.proofs.Pending.{DownAny}
 use Rattle.shapes.proofs.CarriedWalks.{Uncarried}
-use Prim.Native.Nat.{◌-◌}
 use Rattle.shapes.proofs.carried.any_uncarried.Given as goal
 
 abbrev pub invariant-loop-at : goal.invariant-loop-at
 invariant-loop-at l = DownAny l.lexemes l.first l.end l.at Uncarried
-
-abbrev pub decreases-loop-at : goal.decreases-loop-at
-decreases-loop-at l = l.end - l.at
