@@ -21,9 +21,8 @@ fn node_past(
     requires { TermNodes lexemes.now raw.now first end }
     ensures { (p : TermNodes lexemes.now raw.now first end) → NodePast p most nowhere result }
 {
-    let mut node = first;
     let mut counted = 0;
-    while node < end {
+    for node in first..end {
         let at = first_at(raw, node);
         let head = head_at(raw, node);
         if (head != at) | (code_at(lexemes, head) != NUMERAL) {
@@ -32,7 +31,6 @@ fn node_past(
             }
             counted += 1;
         }
-        node += 1;
     }
     nowhere
 }
@@ -60,12 +58,10 @@ fn constants_past(lexemes: &[u64], raw: &[u64], first: usize, end: usize, nowher
     requires { TermNodes lexemes.now raw.now first end }
     ensures { (p : TermNodes lexemes.now raw.now first end) → ConstantsPast p nowhere result }
 {
-    let mut node = first;
     let mut place = nowhere;
-    while node < end {
+    for node in first..end {
         let past = constant_past(lexemes, first_at(raw, node), head_at(raw, node), nowhere);
         place = least(place, past);
-        node += 1;
     }
     place
 }

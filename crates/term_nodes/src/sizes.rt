@@ -10,10 +10,8 @@ fn past_tree(raw: &[u64], node: usize) -> usize
 {
     let operands = operands_at(raw, node);
     let mut next = node + 1;
-    let mut passed = 0;
-    while passed < operands {
+    for _passed in 0..operands {
         next += size_at(raw, next);
-        passed += 1;
     }
     next
 }
@@ -23,9 +21,7 @@ pub fn count_nodes(raw: &mut [u64], count: usize)
     requires { Counting raw.old count }
     ensures { (p : Counting raw.old count) → Counted p raw.new }
 {
-    let mut node = count;
-    while 0 < node {
-        node -= 1;
+    for node in (0..count).rev() {
         raw[ROW * node + 3] = (past_tree(raw, node) - node) as u64;
     }
 }

@@ -1,15 +1,8 @@
-use native.Mathlib.Omega.{arith}
 use Rattle.term_nodes.proofs.ConstantLimits.{look_begins, look_ends, look_goes}
 use Rattle.term_nodes.proofs.limits.constants_past.Goals as goal
 
 pub loop-node-init : goal.loop-node-init
 loop-node-init c = search look_begins
-
-pub overflow_add-node : goal.overflow_add-node
-overflow_add-node c = omega arith
-
-pub loop-node-smaller : goal.loop-node-smaller
-loop-node-smaller c = omega arith
 
 pub loop-node-preserved : goal.loop-node-preserved
 loop-node-preserved c = search look_goes

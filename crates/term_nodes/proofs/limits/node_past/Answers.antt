@@ -12,12 +12,6 @@ returns-then-counted-most c = search seek_finds
 pub overflow_add-counted : goal.overflow_add-counted
 overflow_add-counted c = omega arith
 
-pub overflow_add-node : goal.overflow_add-node
-overflow_add-node c = omega arith
-
-pub loop-node-smaller : goal.loop-node-smaller
-loop-node-smaller c = omega arith
-
 pub loop-node-preserved : goal.loop-node-preserved
 loop-node-preserved c = elim c.if-head-at.branch [ then-head-at+else-counted-most w ↦ search seek_counts | else-head-at w ↦ search seek_skips ]
 

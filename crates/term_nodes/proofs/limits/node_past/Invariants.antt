@@ -1,9 +1,5 @@
-use Prim.Native.Nat.{◌-◌}
 use Rattle.term_nodes.proofs.PastLimit.{Seeking}
 use Rattle.term_nodes.proofs.limits.node_past.Given as goal
 
 abbrev pub invariant-loop-node : goal.invariant-loop-node
 invariant-loop-node l = Seeking l.lexemes l.raw l.first l.end l.most l.nowhere l.node l.counted
-
-abbrev pub decreases-loop-node : goal.decreases-loop-node
-decreases-loop-node l = l.end - l.node

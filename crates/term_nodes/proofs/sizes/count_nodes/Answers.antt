@@ -23,9 +23,6 @@ offset_bounds-raw-node c = omega arith
 pub bounds-raw-node : goal.bounds-raw-node
 bounds-raw-node c = omega arith
 
-pub loop-node-smaller : goal.loop-node-smaller
-loop-node-smaller c = omega arith
-
 pub loop-node-preserved : goal.loop-node-preserved
 loop-node-preserved c = search sweep_goes
 

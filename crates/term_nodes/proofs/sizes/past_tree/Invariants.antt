@@ -1,9 +1,5 @@
-use Prim.Native.Nat.{◌-◌}
 use Rattle.term_nodes.proofs.Counting.{Passes}
 use Rattle.term_nodes.proofs.sizes.past_tree.Given as goal
 
 abbrev pub invariant-loop-passed : goal.invariant-loop-passed
-invariant-loop-passed l = Passes l.raw l.node l.next l.passed
-
-abbrev pub decreases-loop-passed : goal.decreases-loop-passed
-decreases-loop-passed l = l.operands - l.passed
+invariant-loop-passed l = Passes l.raw l.node l.next l._passed
