@@ -1,15 +1,16 @@
 -- The earlier declaration of a name that is taken, by the rows of the table.
 use Prim.Native.Nat.{ℕ, zero, suc, ◌+◌, ◌-◌, ◌≤◌, ◌<◌, max}
-use native.Mathlib.Numerals.{unary_clauses}
 use native.Mathlib.Omega.{arith}
 use mathlib.Core.Path.{◌≡◌, refl, sym, ap, ◌∙◌}
 use mathlib.Core.Bool.{Bool, true, false, cond, ◌&&◌}
 use mathlib.Core.List.{List, [], ◌∷◌, ◌++◌, append_assoc, append-nil}
 use lib.Dec.{eqb, ltb}
-use borrow.Author.Tests.{eq-eqb, le-ltb, lt-ltb, ltb-false, ltb-true, ne_eqb}
+use borrow.Author.Tests.{eq-eqb, ltb-false, ltb-true, ne_eqb}
 use Rattle.forest.specs.Lists.{same_bytes}
 use Rattle.names.specs.Earlier.{Declared, earlier, last_before}
-use Rattle.names.specs.code.Earlier.{FindsRow, Listing, all_rows, before_in, new_rows, old_rows, row_for}
+use Rattle.std.specs.Prelude.{Option, None, Some}
+use Rattle.std.specs.Option.{option_or}
+use Rattle.names.specs.code.Earlier.{Listing, all_rows, before_in, new_row, new_rows, old_rows, row_for}
 use Rattle.names.specs.code.Table.{declared_from, defined_row, function_row, name_in, non_terminal_row, row_count, variable_row, word_in}
 use Rattle.names.specs.declared.Scope.{Scope}
 
@@ -21,31 +22,29 @@ unfolding last_before
 last_both [] es w n = omega arith
 last_both (d ∷ more) es w n = omega (arith, last_both more es w n)
 
--- The rows from a place on, and what was found before them, decide the last of all.
-pub record LastLeft (names name : List ℕ) (first count word place last k : ℕ) : Type 0 where
-  pub passed : k ≤ count
-  pub left : max last (last_before (declared_from names (first + k) (count - k)) word name) ≡ max place (last_before (declared_from names first count) word name)
+-- The rows from a row on, and what was found before them, decide the last of all.
+pub record LastLeft (names name : List ℕ) (first count word place last row : ℕ) : Type 0 where
+  pub left : max last (last_before (declared_from names row (first + count - row)) word name) ≡ max place (last_before (declared_from names first count) word name)
 
 -- Before the first row.
-pub last_begins : (names name : List ℕ) (first count word place : ℕ) → LastLeft names name first count word place place 0
-last_begins names name first count word place = record { passed = omega arith; left = simp unary_clauses }
+pub last_begins : (names name : List ℕ) (first count word place : ℕ) → LastLeft names name first count word place place first
+last_begins names name first count word place = let all : first + count - first ≡ count = omega arith in record { left = rw all }
 
-module _ {names name : List ℕ} {first count word place last k : ℕ} (l : LastLeft names name first count word place last k) where
+module _ {names name : List ℕ} {first count word place last row : ℕ} (l : LastLeft names name first count word place last row) where
   -- a row more
-  pub last_turn : k < count → {later : ℕ} → later ≡ max last (before_in names (first + k) name word)
-      → LastLeft names name first count word place later (k + 1)
+  pub last_turn : row < first + count → {later : ℕ} → later ≡ max last (before_in names row name word)
+      → LastLeft names name first count word place later (row + 1)
   unfolding declared_from last_before
   last_turn h e =
-      let more : count - k ≡ suc (count - (k + 1)) = omega arith in
-      let next : first + k + 1 ≡ first + (k + 1) = omega arith in
-      let step = rw next at (rw more at l.left) in
-      record { passed = omega arith; left = omega arith }
+      let more : first + count - row ≡ suc (first + count - (row + 1)) = omega arith in
+      let step = rw more at l.left in
+      record { left = omega arith }
 
   -- past the last row
-  pub last_ends : count ≤ k → last ≡ max place (last_before (declared_from names first count) word name)
+  pub last_ends : first + count ≤ row → last ≡ max place (last_before (declared_from names first count) word name)
   unfolding declared_from last_before
   last_ends h =
-      let none : count - k ≡ 0 = omega (arith, l.passed) in
+      let none : first + count - row ≡ 0 = omega arith in
       let step = rw none at l.left in
       omega arith
 
@@ -111,104 +110,112 @@ last_of_parts names scope own listed name word ev ed ef eo ea er =
 
 -- ---- the row of a new name
 
--- The rows from a place on, of so many from a row on, decide the row of a word among all of them.
-pub record RowLeft (names : List ℕ) (first count word k : ℕ) : Type 0 where
-  pub passed : k ≤ count
-  pub left : row_for names (first + k) (count - k) word ≡ row_for names first count word
+-- The rows from a row on, of so many from the first on, decide the row of a word among all of them.
+pub record RowLeft (names : List ℕ) (first count word row : ℕ) : Type 0 where
+  pub left : row_for names row (first + count - row) word ≡ row_for names first count word
 
 -- Before the first row.
-pub row_begins : (names : List ℕ) (first count word : ℕ) → RowLeft names first count word 0
-row_begins names first count word = record { passed = omega arith; left = simp unary_clauses }
+pub row_begins : (names : List ℕ) (first count word : ℕ) → RowLeft names first count word first
+row_begins names first count word = let all : first + count - first ≡ count = omega arith in record { left = rw all }
 
-module _ {names : List ℕ} {first count word k : ℕ} (l : RowLeft names first count word k) where
-  module _ (h : k < count) {at : ℕ} (ea : at ≡ word_in names (first + k)) where
+module _ {names : List ℕ} {first count word row : ℕ} (l : RowLeft names first count word row) where
+  module _ (h : row < first + count) {at : ℕ} (ea : at ≡ word_in names row) where
     -- a row decides whether it is the one or one after it
-    row_choice : cond (eqb at word) (first + k) (row_for names (first + (k + 1)) (count - (k + 1)) word) ≡ row_for names first count word
+    row_choice : cond (eqb at word) (Some row) (row_for names (row + 1) (first + count - (row + 1)) word) ≡ row_for names first count word
     unfolding row_for
-    row_choice =
-        let more : count - k ≡ suc (count - (k + 1)) = omega arith in
-        let next : first + k + 1 ≡ first + (k + 1) = omega arith in
-        rw ea (rw next at (rw more at l.left))
+    row_choice = let more : first + count - row ≡ suc (first + count - (row + 1)) = omega arith in rw ea (rw more at l.left)
 
     -- it is the one
-    pub row_found : at ≡ word → first + k ≡ row_for names first count word
+    pub row_found : at ≡ word → Some row ≡ row_for names first count word
     row_found e = rw (eq-eqb at word e) at row_choice
 
     -- it is not
-    pub row_turn : (at ≡ word → ⊥) → RowLeft names first count word (k + 1)
-    row_turn e = record { passed = omega arith; left = rw (ne_eqb at word e) at row_choice }
+    pub row_turn : (at ≡ word → ⊥) → RowLeft names first count word (row + 1)
+    row_turn e = record { left = rw (ne_eqb at word e) at row_choice }
 
   -- it is none
-  pub row_none : count ≤ k → row_count ≡ row_for names first count word
+  pub row_none : first + count ≤ row → None ≡ row_for names first count word
   unfolding row_for
-  row_none h = let none : count - k ≡ 0 = omega (arith, l.passed) in rw none at l.left
+  row_none h = let none : first + count - row ≡ 0 = omega arith in rw none at l.left
+
+-- The row of a word is one of those that are looked at.
+row_within : (names : List ℕ) (first count word : ℕ) → first + count ≤ row_count → {row : ℕ} → Some row ≡ row_for names first count word → row < row_count
+unfolding row_for
+row_within names first zero word h e = cc
+row_within names first (suc n) word h {row} e = go (eqb (word_in names first) word) (row_within names (first + 1) n word (omega arith)) e
+  where
+    later : Option ℕ
+    later = row_for names (first + 1) n word
+
+    go : (here : Bool) → (Some row ≡ later → row < row_count) → Some row ≡ cond here (Some first) later → row < row_count
+    go true behind e = let same : row ≡ first = cc in omega arith
+    go false behind e = behind e
+
+-- The last place before a word at which the name in a row is declared, where there is a row.
+abbrev last_or : (names : List ℕ) → (all : List Declared) → (word otherwise : ℕ) → Option ℕ → ℕ
+last_or names all word otherwise None = otherwise
+last_or names all word otherwise (Some row) = last_before all word (name_in names row)
 
 -- The earlier declaration of the name of a word is that of the row of the word; where it is in none of the rows, it is one of the other names.
-by_row : (names : List ℕ) (first count word : ℕ) (all others : List Declared) → first + count ≤ row_count
-    → earlier all (declared_from names first count ++ others) word
-    ≡ cond (ltb (row_for names first count word) row_count) (last_before all word (name_in names (row_for names first count word))) (earlier all others word)
+by_row : (names : List ℕ) (first count word : ℕ) (all others : List Declared)
+    → earlier all (declared_from names first count ++ others) word ≡ last_or names all word (earlier all others word) (row_for names first count word)
 unfolding declared_from earlier row_for
-by_row names first zero word all others h = refl
-by_row names first (suc n) word all others h = go (eqb (word_in names first) word) (by_row names (first + 1) n word all others (omega arith))
+by_row names first zero word all others = refl
+by_row names first (suc n) word all others = go (eqb (word_in names first) word) (by_row names (first + 1) n word all others)
   where
-    row : ℕ
+    row : Option ℕ
     row = row_for names (first + 1) n word
 
     go : (here : Bool)
-        → earlier all (declared_from names (first + 1) n ++ others) word
-        ≡ cond (ltb row row_count) (last_before all word (name_in names row)) (earlier all others word)
+        → earlier all (declared_from names (first + 1) n ++ others) word ≡ last_or names all word (earlier all others word) row
         → cond here (last_before all word (name_in names first)) (earlier all (declared_from names (first + 1) n ++ others) word)
-        ≡ cond (ltb (cond here first row) row_count) (last_before all word (name_in names (cond here first row))) (earlier all others word)
-    go true later = rw (lt-ltb first row_count (omega arith))
+        ≡ last_or names all word (earlier all others word) (cond here (Some first) row)
+    go true later = refl
     go false later = later
 
-module _ {names : List ℕ} {scope : Scope} {own listed : ℕ} (word : ℕ) (l : Listing names scope own listed) where
-  module _ {itself : ℕ} (eo : itself ≡ row_for names own 1 word) where
-    -- the own name's row is the first
-    own_first : (all : List Declared) → earlier all (new_rows names scope own listed) word
-        ≡ cond (ltb itself row_count) (last_before all word (name_in names itself))
-        (earlier all (declared_from names scope.first scope.arguments ++ declared_from names non_terminal_row listed) word)
-    own_first all =
-        let arguments = declared_from names scope.first scope.arguments in
-        ap (λ (ds : List Declared). earlier all ds word) (append_assoc (declared_from names own 1) arguments (declared_from names non_terminal_row listed))
-        ∙ by_row names own 1 word all _ (omega (arith, l.own_fits))
-        ∙ rw (← eo)
+-- The first of three rows that there is.
+first_of : (names : List ℕ) (all : List Declared) (word : ℕ) (a b c : Option ℕ)
+    → last_or names all word (last_or names all word (last_or names all word 0 c) b) a ≡ last_or names all word 0 (option_or (option_or a b) c)
+first_of names all word None None c = refl
+first_of names all word None (Some row) c = refl
+first_of names all word (Some row) b c = refl
 
-    -- it is that of the own name
-    pub is_own : itself < row_count → FindsRow names scope own listed word itself
-    is_own h = record { by = λ all. own_first all ∙ rw (lt-ltb itself row_count h) }
+module _ (names : List ℕ) (scope : Scope) (own listed word : ℕ) where
+  -- The earlier declaration of the name of a word is that of the row of the new name.
+  by_new_row : (all : List Declared) → earlier all (new_rows names scope own listed) word ≡ last_or names all word 0 (new_row names scope own listed word)
+  unfolding earlier
+  by_new_row all =
+      let itself = declared_from names own 1 in
+      let arguments = declared_from names scope.first scope.arguments in
+      let listing = declared_from names non_terminal_row listed in
+      let last : earlier all listing word ≡ last_or names all word 0 (row_for names non_terminal_row listed word) =
+      ap (λ (ds : List Declared). earlier all ds word) (sym (append-nil listing)) ∙ by_row names non_terminal_row listed word all [] in
+      let next = by_row names scope.first scope.arguments word all listing in
+      let first = by_row names own 1 word all (arguments ++ listing) in
+      ap (λ (ds : List Declared). earlier all ds word) (append_assoc itself arguments listing)
+      ∙ first
+      ∙ rw (next, last)
+      (first_of names all word (row_for names own 1 word) (row_for names scope.first scope.arguments word) (row_for names non_terminal_row listed word))
 
-    module _ (not_own : row_count ≤ itself) {argument : ℕ} (ea : argument ≡ row_for names scope.first scope.arguments word) where
-      -- those of the arguments are next
-      arguments_next : (all : List Declared) → earlier all (new_rows names scope own listed) word
-          ≡ cond (ltb argument row_count) (last_before all word (name_in names argument)) (earlier all (declared_from names non_terminal_row listed) word)
-      arguments_next all =
-          own_first all
-          ∙ rw (le-ltb itself row_count not_own) (by_row names scope.first scope.arguments word all _ l.few.arguments ∙ rw (← ea))
-
-      -- it is that of an argument
-      pub is_argument : argument < row_count → FindsRow names scope own listed word argument
-      is_argument h = record { by = λ all. arguments_next all ∙ rw (lt-ltb argument row_count h) }
-
-      -- it is that of a non-terminal, or there is none
-      pub is_listed : row_count ≤ argument → {r : ℕ} → r ≡ row_for names non_terminal_row listed word → FindsRow names scope own listed word r
-      unfolding earlier
-      is_listed h er = record {
-        by = λ all.
-            arguments_next all
-            ∙ rw (le-ltb argument row_count h)
-            (ap (λ (ds : List Declared). earlier all ds word) (sym (append-nil (declared_from names non_terminal_row listed)))
-            ∙ by_row names non_terminal_row listed word all [] (omega (arith, l.few_listed))
-            ∙ rw (← er));
-      }
-
-module _ {names : List ℕ} {scope : Scope} {own listed word row : ℕ} (f : FindsRow names scope own listed word row) where
   -- no new name is declared at the word
-  pub no_row : row_count ≤ row → 0 ≡ earlier (all_rows names scope own listed) (new_rows names scope own listed) word
-  no_row h = sym (f.by (all_rows names scope own listed) ∙ rw (le-ltb row row_count h))
+  pub no_row : None ≡ new_row names scope own listed word → 0 ≡ earlier (all_rows names scope own listed) (new_rows names scope own listed) word
+  no_row e = sym (rw (← e) at (by_new_row (all_rows names scope own listed)))
 
-  -- the name in the row is
-  pub by_name : row < row_count → {name : List ℕ} → name ≡ name_in names row
-      → {r : ℕ} → r ≡ last_before (all_rows names scope own listed) word name
-      → r ≡ earlier (all_rows names scope own listed) (new_rows names scope own listed) word
-  by_name h en er = er ∙ rw en (sym (f.by (all_rows names scope own listed) ∙ rw (lt-ltb row row_count h)))
+  module _ {row : ℕ} (e : Some row ≡ new_row names scope own listed word) where
+    -- the row is in the table
+    pub new_within : Listing names scope own listed → row < row_count
+    new_within l = go (row_for names own 1 word) (row_for names scope.first scope.arguments word) (row_within names own 1 word (omega (arith, l.own_fits)))
+        (row_within names scope.first scope.arguments word l.few.arguments)
+        (row_within names non_terminal_row listed word (omega (arith, l.few_listed)))
+        e
+      where
+        go : (a b : Option ℕ) {c : Option ℕ} → (Some row ≡ a → row < row_count) → (Some row ≡ b → row < row_count) → (Some row ≡ c → row < row_count)
+            → Some row ≡ option_or (option_or a b) c → row < row_count
+        go None None p q r e = r e
+        go None (Some y) p q r e = q e
+        go (Some x) b p q r e = p e
+
+    -- the name in the row is
+    pub by_name : {name : List ℕ} → name ≡ name_in names row → {r : ℕ} → r ≡ last_before (all_rows names scope own listed) word name
+        → r ≡ earlier (all_rows names scope own listed) (new_rows names scope own listed) word
+    by_name en er = er ∙ rw en (sym (rw (← e) at (by_new_row (all_rows names scope own listed))))

@@ -3,41 +3,33 @@ ghost use Rattle.std.specs.Prelude.{◌≡◌, ◌+◌, ◌<◌, ◌≤◌, max}
 ghost use Rattle.names.specs.Earlier.{earlier, last_before};
 ghost use Rattle.names.specs.code.Lookup.{Names};
 ghost use Rattle.names.specs.code.Table.{declared_from, row_count};
-ghost use Rattle.names.specs.code.Earlier.{FindsRow, Listing, all_rows, before_in, new_rows, row_for};
+ghost use Rattle.names.specs.code.Earlier.{Listing, all_rows, before_in, new_row, new_rows, row_for};
 
 use crate::Scope;
-use crate::table::{DEFINED, FUNCTIONS, NON_TERMINALS, ROWS, VARIABLES, is_name, name_in, word_in};
+use crate::table::{DEFINED, FUNCTIONS, NON_TERMINALS, VARIABLES, is_name, name_in, word_in};
 
-// The row of the name that is declared at a word, among so many rows from a row on; past the last row of the table where it is in none of them.
-fn find_row(names: &[u8], first: usize, count: usize, word: usize) -> usize
+// The row of the name that is declared at a word, among so many rows from a row on.
+fn find_row(names: &[u8], first: usize, count: usize, word: usize) -> Option<usize>
     requires names { Names names.now }
     requires count_bound { first + count ≤ row_count }
     ensures { result ≡ row_for names.now first count word }
 {
-    let mut k = 0;
-    while k < count {
-        if word_in(names, first + k) == word {
-            return first + k;
+    for row in first..first + count {
+        if word_in(names, row) == word {
+            return Some(row);
         }
-        k += 1;
     }
-    ROWS
+    None
 }
 
-// The row of the new name that is declared at a word; past the last row of the table where none is.
-fn new_row(names: &[u8], scope: Scope, own: usize, listed: usize, word: usize) -> usize
+// The row of the new name that is declared at a word.
+fn new_row(names: &[u8], scope: Scope, own: usize, listed: usize, word: usize) -> Option<usize>
     requires { Listing names.now scope own listed }
-    ensures { FindsRow names.now scope own listed word result }
+    ensures { result ≡ new_row names.now scope own listed word }
 {
-    let itself = find_row(names, own, 1, word);
-    if itself < ROWS {
-        return itself;
-    }
-    let argument = find_row(names, scope.first, scope.arguments, word);
-    if argument < ROWS {
-        return argument;
-    }
-    find_row(names, NON_TERMINALS, listed, word)
+    find_row(names, own, 1, word)
+        .or_else(|| find_row(names, scope.first, scope.arguments, word))
+        .or_else(|| find_row(names, NON_TERMINALS, listed, word))
 }
 
 // The greater of a place and the word at which the name in a row is declared, where that is before a word and the name is spelt so.
@@ -67,10 +59,8 @@ fn last_of(
     ensures { result ≡ max place (last_before (declared_from names.now first count) word name.now) }
 {
     let mut last = place;
-    let mut k = 0;
-    while k < count {
-        last = later_of(names, first + k, name, word, last);
-        k += 1;
+    for row in first..first + count {
+        last = later_of(names, row, name, word, last);
     }
     last
 }
@@ -101,9 +91,8 @@ pub fn earlier_place(names: &[u8], scope: Scope, own: usize, listed: usize, word
     requires { Listing names.now scope own listed }
     ensures { result ≡ earlier (all_rows names.now scope own listed) (new_rows names.now scope own listed) word }
 {
-    let row = new_row(names, scope, own, listed, word);
-    if row >= ROWS {
-        return 0;
+    match new_row(names, scope, own, listed, word) {
+        Some(row) => last_of_all(names, scope, own, listed, name_in(names, row), word),
+        None => 0,
     }
-    last_of_all(names, scope, own, listed, name_in(names, row), word)
 }

@@ -37,8 +37,7 @@ pub fn write_forms(
         forms.new result }
 {
     let mut unknown = target.nowhere;
-    let mut node = 0;
-    while node < target.count {
+    for node in 0..target.count {
         let first = first_at(raw, node);
         let head = head_at(raw, node);
         let meaning = node_means(names, seen, text, lexemes, first, head);
@@ -53,7 +52,6 @@ pub fn write_forms(
             unknown,
             unknown_word(meaning.known, lexemes, first, head, target.nowhere),
         );
-        node += 1;
     }
     unknown
 }

@@ -76,14 +76,12 @@ pub fn find_name(names: &[u8], first: usize, count: usize, word: &[u8]) -> usize
     requires count_bound { first + count ≤ row_count }
     ensures { result ≡ place_in (names_from names.now first count) 0 word.now }
 {
-    let mut place = 0;
-    while place < count {
+    for place in 0..count {
         if is_name(names, first + place, word) {
             return place;
         }
-        place += 1;
     }
-    place
+    count
 }
 
 // Writes a name, its sort and the word at which it is declared into a row.
@@ -99,9 +97,8 @@ pub fn put_name(names: &mut [u8], row: usize, sort: u8, place: usize, word: &[u8
     names[at + 1] = (place % 256) as u8;
     names[at + 2] = (place / 256) as u8;
     names[at + 3] = word.len() as u8;
-    let mut k = 0;
-    while k < SYMBOL_BYTES {
-        names[at + 4 + k] = if k < word.len() { word[k] } else { 0 };
-        k += 1;
-    }
+    let start = at + 4;
+    let end = start + word.len();
+    names[start..end].copy_from_slice(word);
+    names[end..at + ROW].fill(0);
 }

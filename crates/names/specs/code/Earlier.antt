@@ -1,8 +1,9 @@
 -- What the look-up of the earlier declaration of a name that is taken asks and gives.
-use Rattle.std.specs.Prelude.{ℕ, zero, suc, ◌+◌, ◌≤◌, ◌<◌, cond, ◌&&◌, List, ◌++◌, ◌≡◌, eqb, ltb}
+use Rattle.std.specs.Prelude.{ℕ, zero, suc, ◌+◌, ◌≤◌, ◌<◌, cond, ◌&&◌, List, ◌++◌, Option, None, Some, eqb, ltb}
+use Rattle.std.specs.Option.{option_or}
 use Rattle.forest.specs.Limits.{most_non_terminals}
 use Rattle.forest.specs.Lists.{same_bytes}
-use Rattle.names.specs.Earlier.{Declared, earlier, last_before}
+use Rattle.names.specs.Earlier.{Declared}
 use Rattle.names.specs.code.Lookup.{Names}
 use Rattle.names.specs.code.New.{Few}
 use Rattle.names.specs.code.Table.{declared_from, defined_row, function_row, name_in, non_terminal_row, row_count, variable_row, word_in}
@@ -29,15 +30,16 @@ pub record Listing (names : List ℕ) (scope : Scope) (own listed : ℕ) : Type 
   pub own_fits : own < row_count
   pub few_listed : listed ≤ most_non_terminals
 
--- The first row, of n from row r on, whose name is declared at word w; past the last row of the table where there is none.
-unfoldable pub row_for : (names : List ℕ) → (r n w : ℕ) → ℕ
-row_for names r zero w = row_count
-row_for names r (suc n) w = cond (eqb (word_in names r) w) r (row_for names (r + 1) n w)
+-- The first row, of n from row r on, whose name is declared at word w.
+unfoldable pub row_for : (names : List ℕ) → (r n w : ℕ) → Option ℕ
+row_for names r zero w = None
+row_for names r (suc n) w = cond (eqb (word_in names r) w) (Some r) (row_for names (r + 1) n w)
+
+-- The row of the new name that is declared at word w.
+abbrev pub new_row : (names : List ℕ) → Scope → (own listed w : ℕ) → Option ℕ
+new_row names scope own listed w =
+    option_or (option_or (row_for names own 1 w) (row_for names scope.first scope.arguments w)) (row_for names non_terminal_row listed w)
 
 -- The word at which the name in row r is declared, where it is spelt n and declared before word w; else 0.
 abbrev pub before_in : (names : List ℕ) → (r : ℕ) → (n : List ℕ) → (w : ℕ) → ℕ
 before_in names r n w = cond (same_bytes (name_in names r) n && ltb (word_in names r) w) (word_in names r) 0
-
--- The earlier declaration of the new name at word w is that of the name in row r; there is none past the last row.
-pub record FindsRow (names : List ℕ) (scope : Scope) (own listed w r : ℕ) : Type 0 where
-  pub by : (all : List Declared) → earlier all (new_rows names scope own listed) w ≡ cond (ltb r row_count) (last_before all w (name_in names r)) 0

@@ -15,9 +15,6 @@ put_form-requires c =
     let inside = c.loop-node-test.true in
     omega (arith, going.long)
 
-pub loop-node-smaller : goal.loop-node-smaller
-loop-node-smaller c = omega arith
-
 pub loop-node-preserved : goal.loop-node-preserved
 loop-node-preserved c =
     turn

@@ -14,12 +14,6 @@ is_name-requires c = record { names = c.requires.names; row_lt_row_count = omega
 pub returns-then-is_name : goal.returns-then-is_name
 returns-then-is_name c = search found
 
-pub overflow_add-place : goal.overflow_add-place
-overflow_add-place c = omega arith
-
-pub loop-place-smaller : goal.loop-place-smaller
-loop-place-smaller c = omega arith
-
 pub loop-place-preserved : goal.loop-place-preserved
 loop-place-preserved c = search passed_by
 
