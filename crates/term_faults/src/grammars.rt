@@ -43,8 +43,7 @@ pub fn rules_misfit(
         count listed nowhere result }
 {
     let mut place = nowhere;
-    let mut rule = 0;
-    while rule < count {
+    for rule in 0..count {
         let start = rules[RULE * rule] as usize;
         let head = rules[RULE * rule + 1] as usize;
         let sort = head_sort(signatures, head, listed);
@@ -52,7 +51,6 @@ pub fn rules_misfit(
             place,
             side_misfit(lexemes, raw, column, start, sort, nowhere),
         );
-        rule += 1;
     }
     place
 }

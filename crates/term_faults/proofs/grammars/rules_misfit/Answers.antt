@@ -34,12 +34,6 @@ pub side_misfit-requires : goal.side_misfit-requires
 side_misfit-requires c =
     root_here c.loop-rule.invariant c.loop-rule-test.true refl refl c.head_sort-sort.ensures
 
-pub overflow_add-rule : goal.overflow_add-rule
-overflow_add-rule c = omega arith
-
-pub loop-rule-smaller : goal.loop-rule-smaller
-loop-rule-smaller c = omega arith
-
 pub loop-rule-preserved : goal.loop-rule-preserved
 loop-rule-preserved c =
     passing_goes
