@@ -3,10 +3,11 @@ use Prim.Native.Nat.{ℕ, ◌+◌, ◌-◌, ◌*◌, ◌<◌}
 use native.Mathlib.Omega.{arith}
 use mathlib.Core.Path.{◌≡◌, refl, sym, ap, ◌∙◌, subst}
 use mathlib.Core.Bool.{Bool, true, false, ◌&&◌, not}
-use mathlib.Core.List.{List, [], ◌∷◌, append_assoc}
+use mathlib.Core.List.{List, [], ◌∷◌, ◌++◌, append_assoc}
 use lib.Dec.{eqb}
 use lib.ListN.{length}
 use borrow.Author.Tests.{eqb-true, not-false, not-true}
+use Rattle.std.specs.Prelude.{Option, Some, is_some, unwrap_or}
 use Rattle.forest.specs.Forest.{count, none, tree}
 use Rattle.forest.specs.Lists.{same_bytes}
 use Rattle.forest.proofs.Bools.{and_left, and_right}
@@ -24,9 +25,9 @@ use Rattle.written_sorts.proofs.Walked.{Come, come_behind, come_first, item_come
 use Rattle.names.specs.code.Lookup.{bytes_at, source_of}
 use Rattle.names.specs.code.Table.{function_row, name_in, own_argument_row}
 use Rattle.headers.specs.code.Compare.{Compared, Differs, Held, PairsAt, PairsHeld}
-use Rattle.headers.specs.Tokens.{argument_tokens, closing, header_of, header_tokens, sort_tokens, words_in}
-use Rattle.headers.proofs.Held.{held_other, held_same}
-use Rattle.headers.proofs.Worded.{item_then, list_held, name_other, name_same, spread, symbol_spelt}
+use Rattle.headers.specs.Tokens.{argument_tokens, closing, header_of, header_tokens, opening, sort_tokens, words_in}
+use Rattle.headers.proofs.Held.{held_found}
+use Rattle.headers.proofs.Worded.{item_then, item_there, list_held, name_other, name_same, spread, symbol_spelt}
 
 -- What the items of a `define-fun` are.
 pub record DefineFun (c : Items) : Type 0 where
@@ -97,11 +98,9 @@ module _ {text lexemes names : List ℕ} {at function arguments result : ℕ} wh
     name_differs e nowhere p =
         let known = define-fun p.command p.shaped in
         let place = (name-word p).placed in
-        held_other nowhere
-        (subst (Held (words_in (header_of p.command)) (header_tokens p.function)) place
-        (name_other (item 1 p.command) p.function.name known.symbol (name_test p ∙ not-true t e) (omega arith) (inside 1 p.command)
-        (spread 2 2 p.command) _))
-        (λ z. omega arith)
+        held_found nowhere
+        (subst (λ (word : ℕ). Held (words_in (header_of p.command)) (header_tokens p.function) (Some word)) place
+        (name_other (item 1 p.command) p.function.name known.symbol (name_test p ∙ not-true t e) (inside 1 p.command) (spread 2 2 p.command) _))
 
   module _ {pairs : ℕ} (ep : pairs ≡ next_at lexemes (at + 2)) where
     -- the list of the pairs is within the table
@@ -122,7 +121,6 @@ module _ {text lexemes names : List ℕ} {at function arguments result : ℕ} wh
             items = inside 2 p.command;
             stands = b.between.stands;
             shaped = b.shaped;
-            later = omega arith;
             table = p.table;
             fits = omega (arith, p.low, p.few);
             declared = p.function.arguments;
@@ -142,38 +140,37 @@ module _ {text lexemes names : List ℕ} {at function arguments result : ℕ} wh
           let close : held.close ≡ sort - 1 = omega (arith, held.next) in
           held.label ∙ ap (list pairs) close
 
-      module _ {t : Bool} (et : t ≡ same_bytes (name_in names (function_row + function)) (bytes_at text lexemes (at + 2))) (e : not t ≡ false) {within : ℕ}
+      module _ {t : Bool} (et : t ≡ same_bytes (name_in names (function_row + function)) (bytes_at text lexemes (at + 2))) (e : not t ≡ false) {within : Option ℕ}
           (by-pairs : (q : PairsAt text lexemes names (pairs + 1) (sort - 1) (own_argument_row function) arguments) → PairsHeld q within) where
-        -- the header, by its pairs and its sort
-        whole : (p : Compared text lexemes names at function arguments result) {r : ℕ}
-            → (within ≡ 0 → Held (words_in (spread 1 3 p.command)) (sort_tokens result) r) → ((within ≡ 0 → ⊥) → r ≡ within)
+        -- the list of the pairs, held to the arguments
+        listed : (p : Compared text lexemes names at function arguments result)
+            → Held (words_in (tree (item 2 p.command) (inside 2 p.command) none)) (opening ∷ (argument_tokens p.function.arguments ++ closing ∷ [])) within
+        listed p = list_held (inside 2 p.command) (argument_tokens p.function.arguments) (list_is p) (by-pairs (pairs_at p))
+
+        -- the header, by what stands behind its name
+        whole : (p : Compared text lexemes names at function arguments result) {r : Option ℕ}
+            → Held (words_in (spread 2 2 p.command)) ((opening ∷ (argument_tokens p.function.arguments ++ closing ∷ [])) ++ sort_tokens result) r
             → Held (words_in (header_of p.command)) (header_tokens p.function) r
-        whole p follow stop =
+        whole p rest =
             let known = define-fun p.command p.shaped in
             let tokens = argument_tokens p.function.arguments in
-            let listed = list_held (inside 2 p.command) tokens (list_is p) (by-pairs (pairs_at p)) in
-            let rest = item_then (item 2 p.command) (inside 2 p.command) (spread 1 3 p.command) listed follow stop in
             let result_is = p.result_is in
             name_same (item 1 p.command) p.function.name known.symbol (name_test et p ∙ not-false t e) (inside 1 p.command)
             (spread 2 2 p.command)
             (rw (append_assoc tokens (closing ∷ []) (sort_tokens result), result_is) at rest)
 
         -- an argument is another
-        pub arguments_differ : (within ≡ 0 → ⊥) → (nowhere : ℕ) (p : Compared text lexemes names at function arguments result)
-            → Differs p nowhere within
-        arguments_differ ne nowhere p = held_other nowhere (whole p (λ z. absurd (ne z)) (λ _. refl)) ne
+        pub arguments_differ : is_some within ≡ true → (nowhere : ℕ) (p : Compared text lexemes names at function arguments result)
+            → Differs p nowhere (unwrap_or within nowhere)
+        arguments_differ differs nowhere p =
+            held_found nowhere (whole p (item_there (item 2 p.command) (inside 2 p.command) (spread 1 3 p.command) _ (listed p) differs))
 
-        module _ (z : within ≡ 0) {own : ℕ}
-            (by-sort : (q : SortAt lexemes sort) → Held (words_in (tree q.here.label q.here.operands none)) (sort_tokens result) own) where
-          -- the header, by its sort alone
-          by_own : (p : Compared text lexemes names at function arguments result)
-              → Held (words_in (header_of p.command)) (header_tokens p.function) own
-          by_own p = whole p (λ _. by-sort (own_sort p)) (λ ne. absurd (ne z))
-
-          -- the sort is another
-          pub sort_differs : (own ≡ 0 → ⊥) → (nowhere : ℕ) (p : Compared text lexemes names at function arguments result) → Differs p nowhere own
-          sort_differs ne nowhere p = held_other nowhere (by_own p) ne
-
-          -- nothing differs
-          pub none_differs : own ≡ 0 → (nowhere : ℕ) (p : Compared text lexemes names at function arguments result) → Differs p nowhere nowhere
-          none_differs zo nowhere p = held_same nowhere (by_own p) zo
+        -- they are the same, and the sort decides
+        pub sort_decides : is_some within ≡ false → {own : Option ℕ}
+            → ((q : SortAt lexemes sort) → Held (words_in (tree q.here.label q.here.operands none)) (sort_tokens result) own)
+            → (nowhere : ℕ) {found : ℕ} → found ≡ unwrap_or own nowhere
+            → (p : Compared text lexemes names at function arguments result) → Differs p nowhere found
+        sort_decides same_pairs by-sort nowhere found_is p =
+            found_is
+            ∙ held_found nowhere
+            (whole p (item_then (item 2 p.command) (inside 2 p.command) (spread 1 3 p.command) (listed p) same_pairs (by-sort (own_sort p))))

@@ -6,6 +6,7 @@ use mathlib.Core.Bool.{Bool, true, false, ◌&&◌, not}
 use mathlib.Core.List.{List, ◌∷◌}
 use lib.Dec.{eqb}
 use borrow.Author.Tests.{eqb-true, not-false, not-true}
+use Rattle.std.specs.Prelude.{Option, Some}
 use Rattle.forest.specs.Forest.{count, none, tree}
 use Rattle.forest.specs.Lists.{same_bytes}
 use Rattle.forest.proofs.Bools.{and_left, and_right}
@@ -67,7 +68,7 @@ module _ {text lexemes names : List ℕ} {at row : ℕ} where
       word_is (item_come x (come_first x) (omega (arith, known.two))).stands (symbol_word (item 0 p.operands) known.symbol)
 
   -- a pair, by its name and its sort
-  by_parts : (p : PairAt text lexemes names at row) {r : ℕ}
+  by_parts : (p : PairAt text lexemes names at row) {r : Option ℕ}
       → Held (words_in (spread 2 0 p.operands)) (named (name_in names row) ∷ sort_tokens (sort_in names row)) r → PairHeld p r
   unfolding after argument_tokens
   by_parts p {r} h =
@@ -85,17 +86,17 @@ module _ {text lexemes names : List ℕ} {at row : ℕ} where
         ap (same_bytes (name_in names row)) (sym (symbol_spelt (item 0 p.operands) known.symbol (name-word p))) ∙ sym et
 
     -- its name is another
-    pub pair_other : not t ≡ true → (p : PairAt text lexemes names at row) → PairHeld p (at + 1)
+    pub pair_other : not t ≡ true → (p : PairAt text lexemes names at row) → PairHeld p (Some (at + 1))
     pair_other e p =
         let known = pair p.label p.operands p.shaped in
         let place = (name-word p).placed in
         by_parts p
-        (subst (Held (words_in (spread 2 0 p.operands)) (named (name_in names row) ∷ sort_tokens (sort_in names row))) place
-        (name_other (item 0 p.operands) (name_in names row) known.symbol (name_test p ∙ not-true t e) (omega arith) (inside 0 p.operands)
+        (subst (λ (word : ℕ). Held (words_in (spread 2 0 p.operands)) (named (name_in names row) ∷ sort_tokens (sort_in names row)) (Some word)) place
+        (name_other (item 0 p.operands) (name_in names row) known.symbol (name_test p ∙ not-true t e) (inside 0 p.operands)
         (spread 1 1 p.operands) (sort_tokens (sort_in names row))))
 
     -- its name is the same
-    pub pair_sorted : not t ≡ false → {sort : ℕ} → sort ≡ sort_in names row → {r : ℕ}
+    pub pair_sorted : not t ≡ false → {sort : ℕ} → sort ≡ sort_in names row → {r : Option ℕ}
         → ((q : SortAt lexemes (at + 2)) → Held (words_in (tree q.here.label q.here.operands none)) (sort_tokens sort) r)
         → (p : PairAt text lexemes names at row) → PairHeld p r
     pair_sorted e {sort} es {r} by-sort p =

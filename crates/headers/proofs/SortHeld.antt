@@ -1,11 +1,12 @@
 -- The words of a sort, held to those of the declared sort.
-use Prim.Native.Nat.{ℕ, ◌+◌, ◌<◌}
+use Prim.Native.Nat.{ℕ, ◌+◌}
 use native.Mathlib.Omega.{arith}
 use mathlib.Core.Path.{◌≡◌, refl, sym, ap, ◌∙◌, subst}
 use mathlib.Core.Bool.{true, false, ◌&&◌}
 use mathlib.Core.List.{List, [], ◌∷◌}
 use lib.Dec.{eqb}
 use borrow.Author.Tests.{eq-eqb, eqb-true, ne_eqb}
+use Rattle.std.specs.Prelude.{Option, None, Some}
 use Rattle.forest.specs.Forest.{count, none, tree}
 use Rattle.forest.specs.Lists.{same_bytes, spelling}
 use Rattle.forest.proofs.Bools.{and_left, and_right, apart}
@@ -25,24 +26,24 @@ use Rattle.headers.proofs.Held.{closed, same_turned}
 use Rattle.headers.proofs.Worded.{list_held, number_other, number_same, one_by_one, spread, word_held}
 
 -- a sort that is another than `Bool`
-other_than_bool : (l : Lexeme) (ops : Items) → sort_shape l ops ≡ true → is "Bool" l ≡ false → 0 < word_of l
-    → Held (words_in (tree l ops none)) (named (spelling "Bool") ∷ []) (word_of l)
+other_than_bool : (l : Lexeme) (ops : Items) → sort_shape l ops ≡ true → is "Bool" l ≡ false
+    → Held (words_in (tree l ops none)) (named (spelling "Bool") ∷ []) (Some (word_of l))
 unfolding words_in
-other_than_bool (symbol at name) ops shape e h = other (same_turned name (spelling "Bool") ∙ e) h
-other_than_bool (list at close) ops shape e h = other refl h
-other_than_bool (numeral at v) ops shape e h = apart shape
-other_than_bool (keyword at name) ops shape e h = apart shape
-other_than_bool (literal at width v written) ops shape e h = apart shape
+other_than_bool (symbol at name) ops shape e = other (same_turned name (spelling "Bool") ∙ e)
+other_than_bool (list at close) ops shape e = other refl
+other_than_bool (numeral at v) ops shape e = apart shape
+other_than_bool (keyword at name) ops shape e = apart shape
+other_than_bool (literal at width v written) ops shape e = apart shape
 
 -- a symbol where a list is declared
-symbol_for_list : (l : Lexeme) (ops : Items) → sort_shape l ops ≡ true → is_list l ≡ false → 0 < word_of l → (ts : List Token)
-    → Held (words_in (tree l ops none)) (opening ∷ ts) (word_of l)
+symbol_for_list : (l : Lexeme) (ops : Items) → sort_shape l ops ≡ true → is_list l ≡ false → (ts : List Token)
+    → Held (words_in (tree l ops none)) (opening ∷ ts) (Some (word_of l))
 unfolding words_in
-symbol_for_list (symbol at name) ops shape e h ts = other refl h
-symbol_for_list (list at close) ops shape e h ts = apart (sym e)
-symbol_for_list (numeral at v) ops shape e h ts = apart shape
-symbol_for_list (keyword at name) ops shape e h ts = apart shape
-symbol_for_list (literal at width v written) ops shape e h ts = apart shape
+symbol_for_list (symbol at name) ops shape e ts = other refl
+symbol_for_list (list at close) ops shape e ts = apart (sym e)
+symbol_for_list (numeral at v) ops shape e ts = apart shape
+symbol_for_list (keyword at name) ops shape e ts = apart shape
+symbol_for_list (literal at width v written) ops shape e ts = apart shape
 
 -- What `(_ BitVec n)` holds.
 record Width (F : Items) : Type 0 where
@@ -80,7 +81,7 @@ width (keyword at name) F e shape = apart e
 width (literal at w v written) F e shape = apart e
 
 -- `(_ BitVec n)`, by its n
-by_number : {i close r : ℕ} {l : Lexeme} (F : Items) → l ≡ list i close → Width F → (sort : ℕ)
+by_number : {i close : ℕ} {r : Option ℕ} {l : Lexeme} (F : Items) → l ≡ list i close → Width F → (sort : ℕ)
     → Held (words_in (tree (item 2 F) (inside 2 F) none)) (numbered sort ∷ []) r
     → Held (words_in (tree l F none)) (opening ∷ named (spelling "_") ∷ named (spelling "BitVec") ∷ numbered sort ∷ closing ∷ []) r
 unfolding after same_bytes
@@ -102,28 +103,27 @@ module _ {lexemes : List ℕ} {at : ℕ} where
     is_bool p = word_code "Bool" refl p.here.label ∙ ap (λ (k : ℕ). eqb k bool_code) (sym (at_item p.here).code ∙ sym ec)
 
     -- `Bool` is declared and stands there
-    pub bool_same : {sort : ℕ} → sort ≡ 0 → code ≡ bool_code → (p : SortAt lexemes at) → Held (sort_words p) (sort_tokens sort) 0
+    pub bool_same : {sort : ℕ} → sort ≡ 0 → code ≡ bool_code → (p : SortAt lexemes at) → Held (sort_words p) (sort_tokens sort) None
     unfolding same_bytes words_in
     bool_same {sort} z e p = rw (eq-eqb sort 0 z) (word_held "Bool" refl p.here.label (is_bool p ∙ eq-eqb code bool_code e) p.here.operands none ended)
 
-    module _ (later : 0 < at) where
-      -- `Bool` is declared, and another sort stands there
-      pub bool_other : {sort : ℕ} → sort ≡ 0 → (code ≡ bool_code → ⊥) → (p : SortAt lexemes at) → Held (sort_words p) (sort_tokens sort) at
-      bool_other {sort} z ne p =
-          let here = placed p.here.stands in
-          rw (eq-eqb sort 0 z, ← here)
-          (other_than_bool p.here.label p.here.operands p.shaped (is_bool p ∙ ne_eqb code bool_code ne) (omega arith))
+    -- `Bool` is declared, and another sort stands there
+    pub bool_other : {sort : ℕ} → sort ≡ 0 → (code ≡ bool_code → ⊥) → (p : SortAt lexemes at) → Held (sort_words p) (sort_tokens sort) (Some at)
+    bool_other {sort} z ne p =
+        let here = placed p.here.stands in
+        rw (eq-eqb sort 0 z, ← here)
+        (other_than_bool p.here.label p.here.operands p.shaped (is_bool p ∙ ne_eqb code bool_code ne))
 
-      -- a width is declared, and a symbol stands there
-      pub width_missing : {sort : ℕ} → (sort ≡ 0 → ⊥) → (code ≡ open_code → ⊥) → (p : SortAt lexemes at) → Held (sort_words p) (sort_tokens sort) at
-      width_missing {sort} nz ne p =
-          let here = placed p.here.stands in
-          rw (ne_eqb sort 0 nz, ← here)
-          (symbol_for_list p.here.label p.here.operands p.shaped (no_list ec ne p.here) (omega arith) _)
+    -- a width is declared, and a symbol stands there
+    pub width_missing : {sort : ℕ} → (sort ≡ 0 → ⊥) → (code ≡ open_code → ⊥) → (p : SortAt lexemes at) → Held (sort_words p) (sort_tokens sort) (Some at)
+    width_missing {sort} nz ne p =
+        let here = placed p.here.stands in
+        rw (ne_eqb sort 0 nz, ← here)
+        (symbol_for_list p.here.label p.here.operands p.shaped (no_list ec ne p.here) _)
 
     module _ {sort : ℕ} (nz : sort ≡ 0 → ⊥) (opens : code ≡ open_code) {found : ℕ} (ev : found ≡ value_at lexemes (at + 3)) where
       -- the declared width stands there
-      pub width_same : found ≡ sort → (p : SortAt lexemes at) → Held (sort_words p) (sort_tokens sort) 0
+      pub width_same : found ≡ sort → (p : SortAt lexemes at) → Held (sort_words p) (sort_tokens sort) None
       width_same e p =
           let l = is-list ec opens p.here in
           let w = width p.here.label p.here.operands l p.shaped in
@@ -132,11 +132,11 @@ module _ {lexemes : List ℕ} {at : ℕ} where
           (number_same (item 2 p.here.operands) sort w.number (sym (width_of p l).value ∙ sym ev ∙ e) (inside 2 p.here.operands)))
 
       -- another width stands there
-      pub width_other : (found ≡ sort → ⊥) → (p : SortAt lexemes at) → Held (sort_words p) (sort_tokens sort) (at + 3)
+      pub width_other : (found ≡ sort → ⊥) → (p : SortAt lexemes at) → Held (sort_words p) (sort_tokens sort) (Some (at + 3))
       width_other ne p =
           let l = is-list ec opens p.here in
           let w = width p.here.label p.here.operands l p.shaped in
           let place = (width_of p l).place in
           rw (ne_eqb sort 0 nz, ← place)
           (by_number p.here.operands ((at_item p.here).a_list l).label w sort
-          (number_other (item 2 p.here.operands) sort w.number (λ e. ne (ev ∙ (width_of p l).value ∙ e)) (omega arith) (inside 2 p.here.operands)))
+          (number_other (item 2 p.here.operands) sort w.number (λ e. ne (ev ∙ (width_of p l).value ∙ e)) (inside 2 p.here.operands)))

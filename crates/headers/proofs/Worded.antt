@@ -1,11 +1,12 @@
 -- The words of items, held to those that were declared.
-use Prim.Native.Nat.{ℕ, zero, suc, ◌+◌, ◌≤◌, ◌<◌}
+use Prim.Native.Nat.{ℕ, zero, suc, ◌+◌, ◌≤◌}
 use Prim.Native.String.{String}
 use native.Mathlib.Omega.{arith}
 use mathlib.Core.Path.{◌≡◌, refl, sym, ap, ◌∙◌}
 use mathlib.Core.Bool.{true, false}
 use mathlib.Core.List.{List, [], ◌∷◌, ◌++◌, append_assoc}
 use borrow.Author.Tests.{eq-eqb, ne_eqb}
+use Rattle.std.specs.Prelude.{Option, None, Some, is_some}
 use Rattle.forest.specs.Forest.{count, none, tree}
 use Rattle.forest.specs.Lists.{same_bytes, spelling}
 use Rattle.forest.proofs.Bools.{apart}
@@ -16,7 +17,7 @@ use Rattle.lexemes.specs.code.Standing.{Source, WordIs, spelt}
 use Rattle.lexemes.proofs.Listed.{from_item}
 use Rattle.headers.specs.code.Compare.{Held, ended, other, same}
 use Rattle.headers.specs.Tokens.{Placed, Token, closing, named, numbered, opening, words_in}
-use Rattle.headers.proofs.Held.{held_then, same_turned}
+use Rattle.headers.proofs.Held.{held_then, held_there, same_turned}
 
 -- past the last item there is none
 none_past : (n : ℕ) (F : Items) → count F ≤ n → after n F ≡ none
@@ -47,13 +48,18 @@ words_first (numeral at v) ops more = refl
 words_first (keyword at name) ops more = refl
 words_first (literal at width v written) ops more = refl
 
--- an item, and the items behind it where the item is the same
-pub item_then : (l : Lexeme) (ops more : Items) {q r : ℕ} {ts ss : List Token} → Held (words_in (tree l ops none)) ts q → (q ≡ 0 → Held (words_in more) ss r)
-    → ((q ≡ 0 → ⊥) → r ≡ q) → Held (words_in (tree l ops more)) (ts ++ ss) r
-item_then l ops more h follow stop = rw (words_first l ops more) (held_then h follow stop)
+-- an item that is the same, and the items behind it
+pub item_then : (l : Lexeme) (ops more : Items) {q r : Option ℕ} {ts ss : List Token} → Held (words_in (tree l ops none)) ts q → is_some q ≡ false
+    → Held (words_in more) ss r → Held (words_in (tree l ops more)) (ts ++ ss) r
+item_then l ops more h same_item behind = rw (words_first l ops more) (held_then h same_item behind)
+
+-- an item in which a word differs
+pub item_there : (l : Lexeme) (ops more : Items) {q : Option ℕ} {ts : List Token} (ss : List Token) → Held (words_in (tree l ops none)) ts q → is_some q ≡ true
+    → Held (words_in (tree l ops more)) (ts ++ ss) q
+item_there l ops more ss h differs = rw (words_first l ops more) (held_there _ ss h differs)
 
 -- a list, by what its brackets hold
-pub list_held : {i close r : ℕ} {l : Lexeme} (ops : Items) (ts : List Token) → l ≡ list i close
+pub list_held : {i close : ℕ} {r : Option ℕ} {l : Lexeme} (ops : Items) (ts : List Token) → l ≡ list i close
     → Held (words_in ops ++ record { at = close; token = closing } ∷ []) (ts ++ closing ∷ []) r
     → Held (words_in (tree l ops none)) (opening ∷ (ts ++ closing ∷ [])) r
 unfolding words_in
@@ -68,7 +74,7 @@ symbol_spelt (keyword at name) e w = apart e
 symbol_spelt (literal at width v written) e w = apart e
 
 -- a symbol that is the declared name
-pub name_same : (l : Lexeme) (name : List ℕ) → is_symbol l ≡ true → same_bytes name (name_of l) ≡ true → (ops more : Items) {r : ℕ} {ts : List Token}
+pub name_same : (l : Lexeme) (name : List ℕ) → is_symbol l ≡ true → same_bytes name (name_of l) ≡ true → (ops more : Items) {r : Option ℕ} {ts : List Token}
     → Held (words_in more) ts r → Held (words_in (tree l ops more)) (named name ∷ ts) r
 unfolding words_in
 name_same (symbol at bytes) name e t ops more h = same (same_turned bytes name ∙ t) h
@@ -78,17 +84,17 @@ name_same (keyword at bytes) name e t ops more h = apart e
 name_same (literal at width v written) name e t ops more h = apart e
 
 -- a symbol that is another
-pub name_other : (l : Lexeme) (name : List ℕ) → is_symbol l ≡ true → same_bytes name (name_of l) ≡ false → 0 < word_of l → (ops more : Items) (ts : List Token)
-    → Held (words_in (tree l ops more)) (named name ∷ ts) (word_of l)
+pub name_other : (l : Lexeme) (name : List ℕ) → is_symbol l ≡ true → same_bytes name (name_of l) ≡ false → (ops more : Items) (ts : List Token)
+    → Held (words_in (tree l ops more)) (named name ∷ ts) (Some (word_of l))
 unfolding words_in
-name_other (symbol at bytes) name e t h ops more ts = other (same_turned bytes name ∙ t) h
-name_other (list at close) name e t h ops more ts = apart e
-name_other (numeral at v) name e t h ops more ts = apart e
-name_other (keyword at bytes) name e t h ops more ts = apart e
-name_other (literal at width v written) name e t h ops more ts = apart e
+name_other (symbol at bytes) name e t ops more ts = other (same_turned bytes name ∙ t)
+name_other (list at close) name e t ops more ts = apart e
+name_other (numeral at v) name e t ops more ts = apart e
+name_other (keyword at bytes) name e t ops more ts = apart e
+name_other (literal at width v written) name e t ops more ts = apart e
 
 -- a numeral that is the declared number
-pub number_same : (l : Lexeme) (n : ℕ) → is_numeral l ≡ true → numeral_of l ≡ n → (ops : Items) → Held (words_in (tree l ops none)) (numbered n ∷ []) 0
+pub number_same : (l : Lexeme) (n : ℕ) → is_numeral l ≡ true → numeral_of l ≡ n → (ops : Items) → Held (words_in (tree l ops none)) (numbered n ∷ []) None
 unfolding words_in
 number_same (numeral at v) n e t ops = same (eq-eqb v n t) ended
 number_same (symbol at name) n e t ops = apart e
@@ -97,14 +103,14 @@ number_same (keyword at name) n e t ops = apart e
 number_same (literal at width v written) n e t ops = apart e
 
 -- a numeral that is another
-pub number_other : (l : Lexeme) (n : ℕ) → is_numeral l ≡ true → (numeral_of l ≡ n → ⊥) → 0 < word_of l → (ops : Items)
-    → Held (words_in (tree l ops none)) (numbered n ∷ []) (word_of l)
+pub number_other : (l : Lexeme) (n : ℕ) → is_numeral l ≡ true → (numeral_of l ≡ n → ⊥) → (ops : Items)
+    → Held (words_in (tree l ops none)) (numbered n ∷ []) (Some (word_of l))
 unfolding words_in
-number_other (numeral at v) n e t h ops = other (ne_eqb v n t) h
-number_other (symbol at name) n e t h ops = apart e
-number_other (list at close) n e t h ops = apart e
-number_other (keyword at name) n e t h ops = apart e
-number_other (literal at width v written) n e t h ops = apart e
+number_other (numeral at v) n e t ops = other (ne_eqb v n t)
+number_other (symbol at name) n e t ops = apart e
+number_other (list at close) n e t ops = apart e
+number_other (keyword at name) n e t ops = apart e
+number_other (literal at width v written) n e t ops = apart e
 
 -- a known word is a symbol
 word_symbol : (word : String) → is_word word [] ≡ false → (l : Lexeme) → is word l ≡ true → is_symbol l ≡ true
@@ -115,6 +121,6 @@ word_symbol word nothing (keyword at name) e = apart (sym nothing ∙ e)
 word_symbol word nothing (literal at width v written) e = apart (sym nothing ∙ e)
 
 -- it is held to itself
-pub word_held : (word : String) → is_word word [] ≡ false → (l : Lexeme) → is word l ≡ true → (ops more : Items) {r : ℕ} {ts : List Token}
+pub word_held : (word : String) → is_word word [] ≡ false → (l : Lexeme) → is word l ≡ true → (ops more : Items) {r : Option ℕ} {ts : List Token}
     → Held (words_in more) ts r → Held (words_in (tree l ops more)) (named (spelling word) ∷ ts) r
 word_held word nothing l e ops more h = name_same l (spelling word) (word_symbol word nothing l e) e ops more h

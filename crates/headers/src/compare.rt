@@ -23,39 +23,37 @@ fn is_named(text: &[u8], lexemes: &[u64], names: &[u8], word: usize, row: usize)
     find_name(names, row, 1, bytes_at(text, lexemes, word)) == 0
 }
 
-// The first word of the sort at a word that differs from those of a declared sort; 0 where none does.
-fn sort_differs(lexemes: &[u64], at: usize, sort: u64) -> usize
-    requires sort_at { SortAt lexemes.now at }
-    requires at_nonzero { 0 < at }
+// The first word of the sort at a word that differs from those of a declared sort.
+fn sort_differs(lexemes: &[u64], at: usize, sort: u64) -> Option<usize>
+    requires { SortAt lexemes.now at }
     ensures { (p : SortAt lexemes.now at) → Held (words_in (tree p.here.label p.here.operands none)) (sort_tokens sort) result }
 {
     let code = code_at(lexemes, at);
     if sort == 0 {
-        return if code == BOOL { 0 } else { at };
+        return if code == BOOL { None } else { Some(at) };
     }
     if code != OPEN {
-        return at;
+        return Some(at);
     }
     if value_at(lexemes, at + 3) == sort {
-        0
+        None
     } else {
-        at + 3
+        Some(at + 3)
     }
 }
 
-// The first word of the pair at a word that differs from those of the argument in a row; 0 where none does.
-fn pair_differs(text: &[u8], lexemes: &[u64], names: &[u8], at: usize, row: usize) -> usize
+// The first word of the pair at a word that differs from those of the argument in a row.
+fn pair_differs(text: &[u8], lexemes: &[u64], names: &[u8], at: usize, row: usize) -> Option<usize>
     requires { PairAt text.now lexemes.now names.now at row }
     ensures { (p : PairAt text.now lexemes.now names.now at row) → PairHeld p result }
 {
     if !is_named(text, lexemes, names, at + 1, row) {
-        return at + 1;
+        return Some(at + 1);
     }
     sort_differs(lexemes, at + 2, sort_in(names, row))
 }
 
-// The first word of the pairs from a word to the bracket that closes their list, or that bracket, that differs from those of so many arguments from a row on; 0
-// where none does.
+// The first word of the pairs from a word to the bracket that closes their list, or that bracket, that differs from those of so many arguments from a row on.
 fn pairs_differ(
     text: &[u8],
     lexemes: &[u64],
@@ -64,27 +62,22 @@ fn pairs_differ(
     close: usize,
     row: usize,
     arguments: usize,
-) -> usize
+) -> Option<usize>
     requires { PairsAt text.now lexemes.now names.now first close row arguments }
     ensures { (p : PairsAt text.now lexemes.now names.now first close row arguments) → PairsHeld p result }
 {
-    let mut passed = 0;
     let mut at = first;
-    while at < close {
-        if passed == arguments {
-            return at;
+    for argument in row..row + arguments {
+        if at >= close {
+            return Some(close);
         }
-        let found = pair_differs(text, lexemes, names, at, row + passed);
-        if found != 0 {
+        let found = pair_differs(text, lexemes, names, at, argument);
+        if found.is_some() {
             return found;
         }
         at = next_at(lexemes, at);
-        passed += 1;
     }
-    if passed < arguments {
-        return close;
-    }
-    0
+    if at < close { Some(at) } else { None }
 }
 
 // The first word of the name, arguments and sort of the `define-fun` at a word that differs from those of a synthesized function; `nowhere` where none does.
@@ -107,13 +100,8 @@ pub fn header_differs(
     let list = next_at(lexemes, at + 2);
     let sort = next_at(lexemes, list);
     let row = OWN_ARGUMENTS + limits::ARGUMENTS * function;
-    let within = pairs_differ(text, lexemes, names, list + 1, sort - 1, row, arguments);
-    if within != 0 {
-        return within;
+    match pairs_differ(text, lexemes, names, list + 1, sort - 1, row, arguments) {
+        Some(within) => within,
+        None => sort_differs(lexemes, sort, res).unwrap_or(nowhere),
     }
-    let own = sort_differs(lexemes, sort, res);
-    if own != 0 {
-        return own;
-    }
-    nowhere
 }

@@ -1,5 +1,5 @@
 -- What the comparison of a header with the declared one asks and gives.
-use Rattle.std.specs.Prelude.{ℕ, ◌+◌, ◌≤◌, ◌<◌, true, false, List, [], ◌∷◌, ◌++◌, ◌≡◌}
+use Rattle.std.specs.Prelude.{ℕ, ◌+◌, ◌≤◌, ◌<◌, true, false, List, [], ◌∷◌, ◌++◌, ◌≡◌, Option, None, Some}
 use Rattle.forest.specs.Forest.{none, tree}
 use Rattle.forest.specs.Limits.{most_arguments, most_functions}
 use Rattle.words.specs.Trees.{Lexeme, list}
@@ -34,13 +34,13 @@ abbrev pub Differs : {text lexemes names : List ℕ} {i j arguments result : ℕ
     → (nowhere r : ℕ) → Type 0
 Differs p nowhere r = r ≡ differing nowhere (words_in (header_of p.command)) (header_tokens p.function)
 
--- Words held to those that were declared: 0 where they are the same, else the first that differs, before the end of either.
-pub data Held : List Placed → List Token → (r : ℕ) → Type 0 where
-  ended : Held [] [] 0
-  same : {at r : ℕ} {u t : Token} {ws : List Placed} {ts : List Token} → same_token u t ≡ true → Held ws ts r
+-- Words held to those that were declared: the first that differs, before the end of either.
+pub data Held : List Placed → List Token → (r : Option ℕ) → Type 0 where
+  ended : Held [] [] None
+  same : {at : ℕ} {r : Option ℕ} {u t : Token} {ws : List Placed} {ts : List Token} → same_token u t ≡ true → Held ws ts r
       → Held (record { at = at; token = u } ∷ ws) (t ∷ ts) r
-  other : {at : ℕ} {u t : Token} {ws : List Placed} {ts : List Token} → same_token u t ≡ false → 0 < at
-      → Held (record { at = at; token = u } ∷ ws) (t ∷ ts) at
+  other : {at : ℕ} {u t : Token} {ws : List Placed} {ts : List Token} → same_token u t ≡ false
+      → Held (record { at = at; token = u } ∷ ws) (t ∷ ts) (Some at)
 
 -- A pair of a name and a sort stands at word i, and the table has a row.
 pub record PairAt (text lexemes names : List ℕ) (i row : ℕ) : Type 0 where
@@ -54,16 +54,15 @@ pub record PairAt (text lexemes names : List ℕ) (i row : ℕ) : Type 0 where
   pub low : row < row_count
 
 -- The pair is held to the argument in the row.
-abbrev pub PairHeld : {text lexemes names : List ℕ} {i row : ℕ} → PairAt text lexemes names i row → (r : ℕ) → Type 0
+abbrev pub PairHeld : {text lexemes names : List ℕ} {i row : ℕ} → PairAt text lexemes names i row → (r : Option ℕ) → Type 0
 PairHeld {names = names} {row = row} p r =
     Held (words_in (tree p.label p.operands none)) (argument_tokens (record { name = name_in names row; at = word_in names row; sort = sort_in names row } ∷ [])) r
 
--- Pairs stand from word i, which is not the first of the text, to the bracket that closes their list, and the table has so many arguments from a row on.
+-- Pairs stand from word i to the bracket that closes their list, and the table has so many arguments from a row on.
 pub record PairsAt (text lexemes names : List ℕ) (i close row arguments : ℕ) : Type 0 where
   pub items : Items
   pub stands : Stands (source_of text lexemes) i items close
   pub shaped : all pair_shape items ≡ true
-  pub later : 0 < i
   pub table : Names names
   pub fits : row + arguments ≤ row_count
   pub declared : List Named
@@ -72,5 +71,5 @@ pub record PairsAt (text lexemes names : List ℕ) (i close row arguments : ℕ)
 
 -- The pairs and the bracket are held to the arguments.
 abbrev pub PairsHeld : {text lexemes names : List ℕ} {i close row arguments : ℕ} → PairsAt text lexemes names i close row arguments
-    → (r : ℕ) → Type 0
+    → (r : Option ℕ) → Type 0
 PairsHeld {close = close} p r = Held (words_in p.items ++ record { at = close; token = closing } ∷ []) (argument_tokens p.declared ++ closing ∷ []) r

@@ -1,7 +1,6 @@
 use mathlib.Core.Bool.{not}
-use mathlib.Core.Path.{ap}
-use Rattle.headers.proofs.HeaderHeld.{arguments_differ, pairs_within, name_differs, name_within, none_differs, own_sort, pairs_at, sort_behind}
-use Rattle.headers.proofs.HeaderHeld.{sort_differs}
+use mathlib.Core.Path.{ap, refl}
+use Rattle.headers.proofs.HeaderHeld.{arguments_differ, name_differs, name_within, own_sort, pairs_at, pairs_within, sort_behind, sort_decides}
 use native.Mathlib.Omega.{arith}
 use Rattle.headers.proofs.compare.header_differs.Goals as goal
 
@@ -24,50 +23,32 @@ pub overflow_sub-sort : goal.overflow_sub-sort
 overflow_sub-sort c =
     omega (arith, sort_behind c.next_at-list.ensures c.next_at-sort.ensures c.requires)
 
-pub pairs_differ-within-requires : goal.pairs_differ-within-requires
-pairs_differ-within-requires c = pairs_at c.next_at-list.ensures c.next_at-sort.ensures c.requires
+pub pairs_differ-requires : goal.pairs_differ-requires
+pairs_differ-requires c = pairs_at c.next_at-list.ensures c.next_at-sort.ensures c.requires
 
-pub returns-then-within-ne0 : goal.returns-then-within-ne0
-returns-then-within-ne0 c =
+pub returns-in-Some : goal.returns-in-Some
+returns-in-Some c =
     arguments_differ
     c.next_at-list.ensures
     c.next_at-sort.ensures
     c.is_named.ensures
     (ap not c.if-not-is_named.false)
-    c.pairs_differ-within.ensures
-    c.if-within-ne0.true
+    c.in-Some.ensures
+    refl
     _
 
-pub sort_differs-own-requires : goal.sort_differs-own-requires
-sort_differs-own-requires c =
-    let list = c.next_at-list.ensures in
-    let sort = c.next_at-sort.ensures in
-    let given = c.requires in
-    let behind = sort_behind list sort given in
-    record { sort_at = own_sort list sort given; at_nonzero = omega arith }
+pub sort_differs-requires : goal.sort_differs-requires
+sort_differs-requires c = own_sort c.next_at-list.ensures c.next_at-sort.ensures c.requires
 
-pub returns-then-own-ne0 : goal.returns-then-own-ne0
-returns-then-own-ne0 c =
-    sort_differs
+pub returns-in-None : goal.returns-in-None
+returns-in-None c =
+    sort_decides
     c.next_at-list.ensures
     c.next_at-sort.ensures
     c.is_named.ensures
     (ap not c.if-not-is_named.false)
-    c.pairs_differ-within.ensures
-    c.if-within-ne0.false
-    c.sort_differs-own.ensures
-    c.if-own-ne0.true
+    c.in-None.ensures
+    refl
+    c.sort_differs.ensures
     _
-
-pub returns : goal.returns
-returns c =
-    none_differs
-    c.next_at-list.ensures
-    c.next_at-sort.ensures
-    c.is_named.ensures
-    (ap not c.if-not-is_named.false)
-    c.pairs_differ-within.ensures
-    c.if-within-ne0.false
-    c.sort_differs-own.ensures
-    c.if-own-ne0.false
-    _
+    c.unwrap_or.ensures

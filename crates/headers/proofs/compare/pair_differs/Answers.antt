@@ -16,7 +16,7 @@ pub overflow_add-at-2 : goal.overflow_add-at-2
 overflow_add-at-2 c = omega (arith, item_room (sort_of_pair c.requires).here)
 
 pub sort_differs-requires : goal.sort_differs-requires
-sort_differs-requires c = record { sort_at = sort_of_pair c.requires; at_nonzero = omega arith }
+sort_differs-requires c = sort_of_pair c.requires
 
 pub returns : goal.returns
 returns c = search pair_sorted

@@ -13,10 +13,10 @@ pub returns-then-code-ne-OPEN : goal.returns-then-code-ne-OPEN
 returns-then-code-ne-OPEN c = search width_missing
 
 pub overflow_add-at : goal.overflow_add-at
-overflow_add-at c = omega (arith, item_room c.requires.sort_at.here)
+overflow_add-at c = omega (arith, item_room c.requires.here)
 
 pub overflow_add-result : goal.overflow_add-result
-overflow_add-result c = omega (arith, item_room c.requires.sort_at.here)
+overflow_add-result c = omega (arith, item_room c.requires.here)
 
 pub returns-then-value_at-sort : goal.returns-then-value_at-sort
 returns-then-value_at-sort c = search width_same
