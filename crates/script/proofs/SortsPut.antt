@@ -45,10 +45,6 @@ pub record Sorting (names before places : List ℕ) (listed k : ℕ) : Type 0 wh
   pub front : take (signature_width * non_terminal_signature) places ≡ take (signature_width * non_terminal_signature) before
   pub back : drop (signature_width * all_rows) places ≡ drop (signature_width * all_rows) before
 
--- None is written at first.
-pub unsorted : (names before : List ℕ) (listed : ℕ) → Sorting names before before listed 0
-unsorted names before listed = record { long = refl; passed = omega arith; rows = λ j h. absurd (omega arith); front = refl; back = refl }
-
 module _ {names before : List ℕ} {listed : ℕ} (given : Listing names before listed) {places : List ℕ} {k : ℕ} (w : Sorting names before places listed k) where
   module _ (h : k < listed) where
     -- the next row may be written

@@ -1,8 +1,7 @@
 -- The sorts of a function's arguments, written one after the other behind the first two numbers of its row.
 use Prim.Native.Nat.{ℕ, suc, ◌+◌, ◌-◌, ◌≤◌, ◌<◌}
-use native.Mathlib.Numerals.{unary_clauses}
 use native.Mathlib.Omega.{arith}
-use mathlib.Core.Path.{◌≡◌, refl, ◌∙◌}
+use mathlib.Core.Path.{◌≡◌, ◌∙◌}
 use mathlib.Core.List.{List, ◌∷◌}
 use lib.ListN.{length, set, length-set}
 use lib.Seq.{sets}
@@ -13,10 +12,6 @@ pub record Writing (before names places : List ℕ) (first arguments at k : ℕ)
   pub long : length places ≡ length before
   pub passed : k ≤ arguments
   pub left : sets places (at + 2 + k) (sorts_from names (first + k) (arguments - k)) ≡ sets before (at + 2) (sorts_from names first arguments)
-
--- None is written at first.
-pub unwritten : (before names : List ℕ) (first arguments at : ℕ) → Writing before names before first arguments at 0
-unwritten before names first arguments at = record { long = refl; passed = omega arith; left = simp unary_clauses }
 
 module _ {before names places : List ℕ} {first arguments at k : ℕ} (w : Writing before names places first arguments at k) where
   -- one more

@@ -30,10 +30,8 @@ pub fn put_signature(
     let at = ROW * row;
     places[at] = arguments as u64;
     places[at + 1] = res;
-    let mut k = 0;
-    while k < arguments {
+    for k in 0..arguments {
         places[at + 2 + k] = sort_in(names, first + k);
-        k += 1;
     }
 }
 
@@ -42,10 +40,8 @@ pub fn put_sorts(names: &[u8], places: &mut [u64], listed: usize)
     requires { Listing names.now places.old listed }
     ensures { Listed names.now places.old listed places.new }
 {
-    let mut k = 0;
-    while k < listed {
+    for k in 0..listed {
         let sort = sort_in(names, NON_TERMINALS + k);
         put_signature(names, places, NON_TERMINAL_ROW + k, 0, 0, sort);
-        k += 1;
     }
 }

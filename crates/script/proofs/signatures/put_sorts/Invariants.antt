@@ -1,9 +1,5 @@
-use Prim.Native.Nat.{◌-◌}
 use Rattle.script.proofs.SortsPut.{Sorting}
 use Rattle.script.proofs.signatures.put_sorts.Given as goal
 
 abbrev pub invariant-loop-k : goal.invariant-loop-k
 invariant-loop-k l = Sorting l.names l.initial.places l.places l.listed l.k
-
-abbrev pub decreases-loop-k : goal.decreases-loop-k
-decreases-loop-k l = l.listed - l.k
