@@ -12,3 +12,4 @@ pub mod Results
 pub mod SortTests
 pub mod Wholes
 pub mod SignedValues
+pub mod Entries

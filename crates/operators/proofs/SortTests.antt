@@ -2,17 +2,19 @@
 use Rattle.std.proofs.Common.{◌≡◌, ℕ, ◌+◌, ◌-◌, ◌^◌, ◌<◌, ◌≤◌, Bool, true, false, cond, ◌&&◌, eqb, ltb, leb, List, [], ◌∷◌, length, get_or, drop, sym, refl, ap}
 use Rattle.std.proofs.Common.{◌∙◌, arith, ltb-false, ltb-true, lt-ltb, eqb-true, le-leb, leb-false, leb-true}
 use mathlib.Core.Bool.{and-false}
+use mathlib.Core.Logic.{◌⊎◌, inl, inr}
 use borrow.Author.Tests.{lt-leb}
 use lib.ListN.{get_or-replicate}
 use Rattle.std.specs.List.{list_all}
 use Rattle.forest.proofs.Bools.{and_left, and_right}
 use Rattle.operators.specs.Operators.{Operator, operator_at, operator_count, operator_sort, operators, takes}
-use Rattle.operators.specs.Sorts.{SortRule, all_are, bool, choice, cutting, equality, joining, logic, max_width, order, sort_by, sort_where, values_of, vector}
+use Rattle.operators.specs.Sorts.{SortRule, all_are, bool, choice, cutting, equality, joining, max_width, order, sort_by, sort_where, values_of, vector}
 use Rattle.operators.specs.Sorts.{width}
-use Rattle.operators.specs.code.RuleNumbers.{rule_number}
-use Rattle.operators.specs.code.Sorting.{RuleTold, Ruled, has_sort, least_operands}
+use Rattle.operators.specs.code.Rules.{sort_rule}
+use Rattle.operators.specs.declared.rules.Rule.{Rule}
+use Rattle.operators.specs.declared.rules.Rule.TheVariants.{Logic, Equality, Choice, Width, Order, Joining, Cutting}
+use Rattle.operators.specs.code.Sorting.{has_sort, least_operands}
 use Rattle.operators.proofs.Below.{mod_below}
-use Rattle.operators.proofs.Results.{rule_told}
 use Rattle.operators.proofs.Table.{column}
 
 -- A number is below b where it is at most b - 1.
@@ -96,45 +98,32 @@ module _ (i j : ℕ) where
   order_by [] h = absurd (omega arith)
   order_by (s ∷ more) h = when_test (vector s && all_are s more) bool
 
-module _ {rule : ℕ} (i j : ℕ) {ss : List ℕ} {first second : ℕ} (first_is : first ≡ get_or ss 0 0) (second_is : second ≡ get_or ss 1 0) where
+module _ (rule : Rule) (ss : List ℕ) (i j : ℕ) where
+  -- Whether the rule gives a sort.
+  abbrev pub Gives : Bool → Type 0
+  Gives r = r ≡ has_sort (sort_by (sort_rule rule) i j ss)
+
   -- What the code tests for each rule.
-  pub logic_told : {t : Bool} → rule ≡ rule_number logic → t ≡ all_are 0 (drop 0 ss) → RuleTold rule i j ss t
-  unfolding sort_by
-  logic_told q z e = z ∙ (rw (rule_told e.which logic (sym e.is ∙ q)) (when_test (all_are bool ss) bool))
+  module _ (enough : least_operands (sort_rule rule) ≤ length ss) {first second : ℕ} (first_is : first ≡ get_or ss 0 0) (second_is : second ≡ get_or ss 1 0) where
+    pub logic_told : {t : Bool} → rule ≡ Logic → t ≡ all_are 0 (drop 0 ss) → Gives t
+    unfolding sort_by
+    logic_told q z = z ∙ (rw q (when_test (all_are bool ss) bool))
 
-  pub equality_told : {t : Bool} → rule ≡ rule_number equality → t ≡ all_are first (drop 1 ss) → RuleTold rule i j ss t
-  equality_told q z e =
-      let w = rule_told e.which equality (sym e.is ∙ q) in
-      z ∙ (rw (w, first_is) (equality_by i j ss (rw w at e.enough)))
+    pub equality_told : {t : Bool} → rule ≡ Equality → t ≡ all_are first (drop 1 ss) → Gives t
+    equality_told q z = z ∙ (rw (q, first_is) (equality_by i j ss (rw q at enough)))
 
-  pub choice_told : {t : Bool} → rule ≡ rule_number choice → t ≡ all_are second (drop 2 ss) → RuleTold rule i j ss (eqb first 0 && t)
-  choice_told q z e =
-      let w = rule_told e.which choice (sym e.is ∙ q) in
-      rw (w, z, first_is, second_is) (choice_by i j ss (rw w at e.enough))
+    pub choice_told : {t : Bool} → rule ≡ Choice → t ≡ all_are second (drop 2 ss) → Gives (eqb first 0 && t)
+    choice_told q z = rw (q, z, first_is, second_is) (choice_by i j ss (rw q at enough))
 
-  pub joining_told : {t : Bool} → rule ≡ rule_number joining → t ≡ (vector first && vector second && leb (first + second) max_width) → RuleTold rule i j ss t
-  joining_told q z e =
-      let w = rule_told e.which joining (sym e.is ∙ q) in
-      z ∙ (rw (w, first_is, second_is) (joining_by i j ss (rw w at e.enough)))
+    pub joining_told : {t : Bool} → rule ≡ Joining → t ≡ (vector first && vector second && leb (first + second) max_width) → Gives t
+    joining_told q z = z ∙ (rw (q, first_is, second_is) (joining_by i j ss (rw q at enough)))
 
-  pub cutting_told : rule ≡ rule_number cutting → RuleTold rule i j ss (leb j i && ltb i first)
-  cutting_told q e =
-      let w = rule_told e.which cutting (sym e.is ∙ q) in
-      rw (w, first_is) (cutting_by i j ss (rw w at e.enough))
+    pub cutting_told : rule ≡ Cutting → Gives (leb j i && ltb i first)
+    cutting_told q = rw (q, first_is) (cutting_by i j ss (rw q at enough))
 
-  pub width_told : {t : Bool} → (rule ≡ rule_number logic → ⊥) → (rule ≡ rule_number equality → ⊥) → (rule ≡ rule_number choice → ⊥)
-      → (rule ≡ rule_number joining → ⊥) → (rule ≡ rule_number cutting → ⊥) → t ≡ all_are first (drop 1 ss) → RuleTold rule i j ss (ltb 0 first && t)
-  width_told a b c d g z e = rw (z, first_is) (by_rule e.which e.is e.enough)
-    where
-      by_rule : (which : SortRule) → rule ≡ rule_number which → least_operands which ≤ length ss
-          → (ltb 0 (get_or ss 0 0) && all_are (get_or ss 0 0) (drop 1 ss)) ≡ has_sort (sort_by which i j ss)
-      by_rule logic q l = absurd (a q)
-      by_rule equality q l = absurd (b q)
-      by_rule choice q l = absurd (c q)
-      by_rule joining q l = absurd (d q)
-      by_rule cutting q l = absurd (g q)
-      by_rule width q l = width_by i j ss l
-      by_rule order q l = order_by i j ss l
+    pub width_told : {t : Bool} → (rule ≡ Width) ⊎ (rule ≡ Order) → t ≡ all_are first (drop 1 ss) → Gives (ltb 0 first && t)
+    width_told (inl q) z = rw (q, z, first_is) (width_by i j ss (rw q at enough))
+    width_told (inr q) z = rw (q, z, first_is) (order_by i j ss (rw q at enough))
 
 -- Whether an operator has as many operands as its rule looks at.
 abbrev enough_in : Operator → Bool
@@ -153,23 +142,19 @@ taken_least r n h = go r.many h
     go true e = leb-true r.operands n e
     go false e = omega (arith, eqb-true n r.operands e)
 
-module _ (o : ℕ) {k : ℕ} (ss : List ℕ) {t : Bool} (known : ltb o operator_count && t ≡ true) (t-is : t ≡ takes (operator_at o) (length ss))
-    (rule_is : k ≡ rule_number (operator_at o).rule) where
+module _ (o : ℕ) (ss : List ℕ) {rule : SortRule} {t : Bool} (known : ltb o operator_count && t ≡ true) (t-is : t ≡ takes (operator_at o) (length ss))
+    (rule_is : rule ≡ (operator_at o).rule) where
   -- An operator that takes so many operands looks at no more.
-  pub operator_ruled : Ruled k ss
+  pub operator_ruled : least_operands rule ≤ length ss
   operator_ruled =
       let low = ltb-true o operator_count (and_left (ltb o operator_count) t known) in
       let least = leb-true (least_operands (operator_at o).rule) (operator_at o).operands (all_enough low) in
-      record {
-        which = (operator_at o).rule;
-        is = rule_is;
-        enough = omega (arith, least, taken_least (operator_at o) (length ss) (sym t-is ∙ and_right (ltb o operator_count) t known));
-      }
+      rw rule_is (omega (arith, least, taken_least (operator_at o) (length ss) (sym t-is ∙ and_right (ltb o operator_count) t known)))
 
   -- It has a sort where its rule gives one.
-  pub sort_told : (i j : ℕ) {r : Bool} → RuleTold k i j ss r → r ≡ has_sort (operator_sort o i j ss)
-  unfolding operator_ruled operator_sort
-  sort_told i j g = g operator_ruled ∙ (rw (← t-is, known))
+  pub sort_told : (i j : ℕ) {r : Bool} → r ≡ has_sort (sort_by rule i j ss) → r ≡ has_sort (operator_sort o i j ss)
+  unfolding operator_sort
+  sort_told i j g = g ∙ (rw (← t-is, known, rule_is))
 
 -- An operator that is not there, or takes another number of operands, has none.
 pub sort_none : (o i j : ℕ) (ss : List ℕ) {t : Bool} → ltb o operator_count && t ≡ false → t ≡ takes (operator_at o) (length ss)

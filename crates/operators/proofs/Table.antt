@@ -1,5 +1,6 @@
 -- The columns of the operator table as lists: what the constant arrays hold is computed from the rows, once for all of them.
-use Rattle.std.proofs.Common.{◌≡◌, ℕ, zero, suc, ◌+◌, ◌<◌, ◌≤◌, List, [], ◌∷◌, map, length, get_or, drop, sym, refl, ap, add-one, drop-cons}
+use Rattle.std.proofs.Common.{◌≡◌, ℕ, zero, suc, ◌+◌, ◌<◌, ◌≤◌, List, [], ◌∷◌, map, length, get_or, drop, sym, refl, ap, ◌∙◌, add-one, drop-cons}
+use Rattle.std.proofs.lemmas.List.{get_or_default}
 use lib.ListN.{get_or-eq_default, get_or-map}
 use Rattle.operators.specs.Operators.{Operator, no_operator, operator_at, operator_count, operators}
 
@@ -12,6 +13,11 @@ operators_counted = refl
 pub column : {A : Type 0} (f : Operator → A) (o : ℕ) → get_or (map f operators) o (f no_operator) ≡ f (operator_at o)
 unfolding operator_at
 column f o = get_or-map f operators o no_operator
+
+-- What an array of entries has for operator o, where each is what e makes of a row.
+pub entry_at : {E A : Type 0} (g : E → A) (e : Operator → E) (d : E) {o : ℕ} → o < operator_count → g (get_or (map e operators) o d) ≡ g (e (operator_at o))
+unfolding operators
+entry_at g e d {o} h = ap g (get_or_default (map e operators) o d (e no_operator) h ∙ column e o)
 
 -- Past the last operator a column has what it has for no operator.
 pub past : {A : Type 0} (f : Operator → A) {o : ℕ} → operator_count ≤ o → f no_operator ≡ f (operator_at o)

@@ -1,4 +1,4 @@
 pub mod Operators
 pub mod Vectors
-pub mod RuleNumbers
+pub mod Rules
 pub mod Sorting

@@ -1,12 +1,12 @@
-//! The operator table: names, operand counts and sort rules as constant arrays, and the value of an operator by its number.
+//! The operator table: names, and operand counts and sort rules, as constant arrays, and the value of an operator by its number.
 ghost use Rattle.std.specs.Prelude.{◌≡◌};
 ghost use Rattle.forest.specs.code.Search.{SlotsOf, TablesOf, joined, starts_of};
 ghost use Rattle.operators.specs.Operators.{operator_at, operator_of, operators, takes};
-ghost use Rattle.operators.specs.code.RuleNumbers.{rule_number};
+ghost use Rattle.operators.specs.code.Rules.{sort_rule};
 ghost use Rattle.operators.specs.code.Operators.{Applied, FixedApplied, FixedOperable, LaterApplied, LaterOperable, Operable};
 ghost use Rattle.operators.specs.code.Operators.{ResultSort, Sortable, spellings};
 
-use crate::rules::{CHOICE, CUTTING, EQUALITY, JOINING, LOGIC, ORDER, WIDTH};
+use crate::rules::Rule;
 use crate::signed::{bvashr, bvsdiv, bvsle, bvslt, bvsmod, bvsrem};
 use crate::truth::{
     AND, OR, XOR, all_alike, all_differ, and_of, bvule, bvult, group_left, group_right, ite,
@@ -74,118 +74,46 @@ const SLOTS_OF: [u8; SLOTS] =
       ~~\x13~~~~~~~~~~~~~~~~~~\x07~~~~~~~~~~~~~~~~~~~~\x0c~~~~~~~~\x0f~~~~~~~~~~~~~~\x08~~~~~~~~~\x0b~~~~~~~~~~~~~~~~~~~\x19~\x01~~~~~~~~~~~~~~~~~\x16~~~~~~~~~~~\
       ~~~~~~~~~~~~~~~\x17~~~~~~~~~~~~~~~~~\x06~~~~~~~~~~~~~~~~~~~~~~~~~~~~~~~~~~~~~~~~~~~~~~~~~~~~~~~~~~~~\x03~~~~~~~~~~~~~~~~~\x1e~~~~~\x00~\x02~~~~~\x12\x1d";
 
-// How many operands each operator has, or has at least.
-const OPERANDS: [usize; OPERATORS] = [
-    1, // not
-    2, // and
-    2, // or
-    2, // xor
-    2, // =>
-    2, // =
-    2, // distinct
-    3, // ite
-    1, // bvnot
-    1, // bvneg
-    2, // bvand
-    2, // bvor
-    2, // bvxor
-    2, // bvadd
-    2, // bvsub
-    2, // bvmul
-    2, // bvudiv
-    2, // bvurem
-    2, // bvshl
-    2, // bvlshr
-    2, // bvult
-    2, // concat
-    1, // extract
-    2, // bvsdiv
-    2, // bvsrem
-    2, // bvsmod
-    2, // bvashr
-    2, // bvslt
-    2, // bvsle
-    2, // bvsgt
-    2, // bvsge
-    2, // bvule
-    2, // bvugt
-    2, // bvuge
-];
+// How many operands an operator has, or has at least; whether it takes any number of operands from that on; and its sort rule.
+#[derive(Clone, Copy)]
+struct Entry(usize, bool, Rule);
 
-// Whether each operator takes any number of operands from that on.
-const MANY: [bool; OPERATORS] = [
-    false, // not
-    true, // and
-    true, // or
-    true, // xor
-    true, // =>
-    true, // =
-    true, // distinct
-    false, // ite
-    false, // bvnot
-    false, // bvneg
-    false, // bvand
-    false, // bvor
-    false, // bvxor
-    false, // bvadd
-    false, // bvsub
-    false, // bvmul
-    false, // bvudiv
-    false, // bvurem
-    false, // bvshl
-    false, // bvlshr
-    false, // bvult
-    false, // concat
-    false, // extract
-    false, // bvsdiv
-    false, // bvsrem
-    false, // bvsmod
-    false, // bvashr
-    false, // bvslt
-    false, // bvsle
-    false, // bvsgt
-    false, // bvsge
-    false, // bvule
-    false, // bvugt
-    false, // bvuge
-];
-
-// The sort rule of each operator.
-const RULES: [u8; OPERATORS] = [
-    LOGIC, // not
-    LOGIC, // and
-    LOGIC, // or
-    LOGIC, // xor
-    LOGIC, // =>
-    EQUALITY, // =
-    EQUALITY, // distinct
-    CHOICE, // ite
-    WIDTH, // bvnot
-    WIDTH, // bvneg
-    WIDTH, // bvand
-    WIDTH, // bvor
-    WIDTH, // bvxor
-    WIDTH, // bvadd
-    WIDTH, // bvsub
-    WIDTH, // bvmul
-    WIDTH, // bvudiv
-    WIDTH, // bvurem
-    WIDTH, // bvshl
-    WIDTH, // bvlshr
-    ORDER, // bvult
-    JOINING, // concat
-    CUTTING, // extract
-    WIDTH, // bvsdiv
-    WIDTH, // bvsrem
-    WIDTH, // bvsmod
-    WIDTH, // bvashr
-    ORDER, // bvslt
-    ORDER, // bvsle
-    ORDER, // bvsgt
-    ORDER, // bvsge
-    ORDER, // bvule
-    ORDER, // bvugt
-    ORDER, // bvuge
+// The entry of each operator.
+const ENTRIES: [Entry; OPERATORS] = [
+    Entry(1, false, Rule::Logic), // not
+    Entry(2, true, Rule::Logic), // and
+    Entry(2, true, Rule::Logic), // or
+    Entry(2, true, Rule::Logic), // xor
+    Entry(2, true, Rule::Logic), // =>
+    Entry(2, true, Rule::Equality), // =
+    Entry(2, true, Rule::Equality), // distinct
+    Entry(3, false, Rule::Choice), // ite
+    Entry(1, false, Rule::Width), // bvnot
+    Entry(1, false, Rule::Width), // bvneg
+    Entry(2, false, Rule::Width), // bvand
+    Entry(2, false, Rule::Width), // bvor
+    Entry(2, false, Rule::Width), // bvxor
+    Entry(2, false, Rule::Width), // bvadd
+    Entry(2, false, Rule::Width), // bvsub
+    Entry(2, false, Rule::Width), // bvmul
+    Entry(2, false, Rule::Width), // bvudiv
+    Entry(2, false, Rule::Width), // bvurem
+    Entry(2, false, Rule::Width), // bvshl
+    Entry(2, false, Rule::Width), // bvlshr
+    Entry(2, false, Rule::Order), // bvult
+    Entry(2, false, Rule::Joining), // concat
+    Entry(1, false, Rule::Cutting), // extract
+    Entry(2, false, Rule::Width), // bvsdiv
+    Entry(2, false, Rule::Width), // bvsrem
+    Entry(2, false, Rule::Width), // bvsmod
+    Entry(2, false, Rule::Width), // bvashr
+    Entry(2, false, Rule::Order), // bvslt
+    Entry(2, false, Rule::Order), // bvsle
+    Entry(2, false, Rule::Order), // bvsgt
+    Entry(2, false, Rule::Order), // bvsge
+    Entry(2, false, Rule::Order), // bvule
+    Entry(2, false, Rule::Order), // bvugt
+    Entry(2, false, Rule::Order), // bvuge
 ];
 
 // The table of the names of the operators.
@@ -217,48 +145,44 @@ pub fn operator_of(names: &[u8], starts: &[usize], slots: &[u8], word: &[u8]) ->
     find_word(names, starts, slots, word)
 }
 
+// The entry of an operator; past the last operator one with no operands.
+fn entry_of(operator: usize) -> Entry
+    ensures operands { result.0 ≡ (operator_at operator).operands }
+    ensures many { result.1 ≡ (operator_at operator).many }
+    ensures rule { sort_rule result.2 ≡ (operator_at operator).rule }
+{
+    if operator < OPERATORS {
+        ENTRIES[operator]
+    } else {
+        Entry(0, false, Rule::Logic)
+    }
+}
+
 // How many operands an operator has, or has at least; 0 past the last operator.
 pub fn operands_of(operator: usize) -> usize
     ensures { result ≡ (operator_at operator).operands }
 {
-    if operator < OPERATORS {
-        OPERANDS[operator]
-    } else {
-        0
-    }
-}
-
-// Whether an operator takes any number of operands from its number of operands on; not so past the last operator.
-fn many_of(operator: usize) -> bool
-    ensures { result ≡ (operator_at operator).many }
-{
-    if operator < OPERATORS {
-        MANY[operator]
-    } else {
-        false
-    }
+    let Entry(operands, _, _) = entry_of(operator);
+    operands
 }
 
 // Whether an operator takes a number of operands.
 pub fn takes(operator: usize, count: usize) -> bool
     ensures { result ≡ takes (operator_at operator) count }
 {
-    let least = operands_of(operator);
-    if many_of(operator) {
+    let Entry(least, many, _) = entry_of(operator);
+    if many {
         return least <= count;
     }
     count == least
 }
 
-// The number of an operator's sort rule; 0 past the last operator.
-pub fn rule_of(operator: usize) -> u8
-    ensures { result ≡ rule_number (operator_at operator).rule }
+// An operator's sort rule; `Logic` past the last operator.
+pub fn rule_of(operator: usize) -> Rule
+    ensures { sort_rule result ≡ (operator_at operator).rule }
 {
-    if operator < OPERATORS {
-        RULES[operator]
-    } else {
-        0
-    }
+    let Entry(_, _, rule) = entry_of(operator);
+    rule
 }
 
 // The sort of an operator, with `high` and `low` the numbers of an `extract`, over operands that it takes, of which the first two have the sorts `first` and
@@ -267,13 +191,12 @@ pub fn result_sort(operator: usize, high: u64, low: u64, first: u64, second: u64
     requires { Sortable operator high low first second }
     ensures { ResultSort operator high low first second result }
 {
-    let rule = rule_of(operator);
-    match rule {
-        CHOICE => second,
-        WIDTH => first,
-        JOINING => first + second,
-        CUTTING => high - low + 1,
-        _ => 0,
+    match rule_of(operator) {
+        Rule::Choice => second,
+        Rule::Width => first,
+        Rule::Joining => first + second,
+        Rule::Cutting => high - low + 1,
+        Rule::Logic | Rule::Equality | Rule::Order => 0,
     }
 }
 

@@ -1,17 +1,23 @@
-//! The numbers of the sort rules, and the widest sort.
-pub const LOGIC: u8 = 0;
+//! The sort rules of the operators, and the widest sort.
 
-pub const EQUALITY: u8 = 1;
-
-pub const CHOICE: u8 = 2;
-
-pub const WIDTH: u8 = 3;
-
-pub const ORDER: u8 = 4;
-
-pub const JOINING: u8 = 5;
-
-pub const CUTTING: u8 = 6;
+// A sort rule.
+#[derive(Clone, Copy, Debug, PartialEq, Eq)]
+pub enum Rule {
+    // Operands Bool, result Bool.
+    Logic,
+    // Operands of one sort, result Bool.
+    Equality,
+    // A Bool and two operands of one sort, which is the result's.
+    Choice,
+    // Operands of one width, which is the result's.
+    Width,
+    // Operands of one width, result Bool.
+    Order,
+    // The result as wide as its two operands together.
+    Joining,
+    // Some bits of the operand.
+    Cutting,
+}
 
 // The widest vector.
 pub const MAX_WIDTH: u64 = 64;

@@ -1,11 +1,12 @@
 //! Whether a number is a value of a sort, and whether an operator takes operands of given sorts.
-ghost use Rattle.std.specs.Prelude.{◌≡◌, ◌+◌, ◌≤◌, ◌&&◌, drop, nat_le, nat_lt};
+ghost use Rattle.std.specs.Prelude.{◌≡◌, ◌+◌, ◌≤◌, ◌&&◌, drop, length, nat_le, nat_lt};
 ghost use Rattle.operators.specs.Operators.{operator_sort};
-ghost use Rattle.operators.specs.Sorts.{all_are, max_width, values_of, vector};
-ghost use Rattle.operators.specs.code.Sorting.{RuleTold, Ruled, has_sort};
+ghost use Rattle.operators.specs.Sorts.{all_are, sort_by, max_width, values_of, vector};
+ghost use Rattle.operators.specs.code.Rules.{sort_rule};
+ghost use Rattle.operators.specs.code.Sorting.{has_sort, least_operands};
 
 use crate::operators::{OPERATORS, rule_of, takes};
-use crate::rules::{CHOICE, CUTTING, EQUALITY, JOINING, LOGIC, MAX_WIDTH};
+use crate::rules::{MAX_WIDTH, Rule};
 use crate::truth::operand;
 use crate::vectors::ones;
 
@@ -38,19 +39,19 @@ fn joins(first: u64, second: u64) -> bool
 }
 
 // Whether a rule gives a sort over operands of these sorts, with `high` and `low` the numbers of an `extract`.
-fn rule_gives(rule: u8, high: u64, low: u64, sorts: &[u64]) -> bool
-    requires { Ruled rule sorts.now }
-    ensures { RuleTold rule high low sorts.now result }
+fn rule_gives(rule: Rule, high: u64, low: u64, sorts: &[u64]) -> bool
+    requires { least_operands (sort_rule rule) ≤ length sorts.now }
+    ensures { result ≡ has_sort (sort_by (sort_rule rule) high low sorts.now) }
 {
     let first = operand(sorts, 0);
     let second = operand(sorts, 1);
     match rule {
-        LOGIC => all_are(0, sorts, 0),
-        EQUALITY => all_are(first, sorts, 1),
-        CHOICE => (first == 0) & all_are(second, sorts, 2),
-        JOINING => joins(first, second),
-        CUTTING => (low <= high) & (high < first),
-        _ => (0 < first) & all_are(first, sorts, 1),
+        Rule::Logic => all_are(0, sorts, 0),
+        Rule::Equality => all_are(first, sorts, 1),
+        Rule::Choice => (first == 0) & all_are(second, sorts, 2),
+        Rule::Joining => joins(first, second),
+        Rule::Cutting => (low <= high) & (high < first),
+        Rule::Width | Rule::Order => (0 < first) & all_are(first, sorts, 1),
     }
 }
 

@@ -1,4 +1,4 @@
--- The sorts that the rules give, by the numbers that the code compares.
+-- The sorts that the rules give, by what the code compares.
 use Prim.Native.Nat.{ℕ, zero, suc, ◌+◌, ◌-◌, ◌≤◌, ◌<◌}
 use native.Mathlib.Omega.{arith}
 use mathlib.Core.Bool.{Bool, true, false, cond, ◌&&◌, and-false, and-true}
@@ -8,8 +8,9 @@ use borrow.Author.Tests.{le-leb, lt-leb, lt-ltb, ne_eqb}
 use lib.Dec.{eqb, leb, ltb}
 use lib.ListN.{get_or, length}
 use Rattle.operators.specs.Sorts.{SortRule, all_are, bool, choice, cutting, equality, joining, logic, max_width, order, sort_by, vector, sort_where, width}
-use Rattle.operators.specs.code.RuleNumbers.{rule_number}
-use Rattle.operators.proofs.Results.{rule_told}
+use Rattle.operators.specs.code.Rules.{sort_rule}
+use Rattle.operators.specs.declared.rules.Rule.{Rule}
+use Rattle.operators.specs.declared.rules.Rule.TheVariants.{Logic, Equality, Choice, Width, Order, Joining, Cutting}
 use Rattle.terms.specs.code.Codes.{high_in, low_in}
 use Rattle.terms.specs.code.Nodes.{size_at}
 use Rattle.term_sorts.specs.code.Forms.{sort_number}
@@ -69,25 +70,10 @@ order_number : (b : Bool) (s : ℕ) → cond (ltb 1 (sort_number (sort_where b s
 order_number true s = rw (over_one s, and-true) (number_of (vector s) bool)
 order_number false s = rw and-false
 
--- A rule's number tells it.
-told : (by be : SortRule) {rule : ℕ} → rule ≡ rule_number by → rule ≡ rule_number be → by ≡ be
-told by be e h = rule_told by be (sym e ∙ h)
-
 -- The number that a rule gives, by what the rule and the operands are.
-given_by : {by be : SortRule} {ss ts : List ℕ} (i j : ℕ) → by ≡ be → ss ≡ ts → sort_number (sort_by be i j ts) ≡ sort_number (sort_by by i j ss)
+given_by : {rule be : Rule} {ss ts : List ℕ} (i j : ℕ) → rule ≡ be → ss ≡ ts
+    → sort_number (sort_by (sort_rule be) i j ts) ≡ sort_number (sort_by (sort_rule rule) i j ss)
 given_by i j p q = rw (p, q)
-
--- The one rule that has none of the other numbers.
-last_rule : (by : SortRule) → (rule_number by ≡ rule_number cutting → ⊥) → (rule_number by ≡ rule_number joining → ⊥)
-    → (rule_number by ≡ rule_number choice → ⊥) → (rule_number by ≡ rule_number logic → ⊥) → (rule_number by ≡ rule_number equality → ⊥)
-    → (rule_number by ≡ rule_number width → ⊥) → rule_number by ≡ rule_number order
-last_rule cutting a b c d e f = absurd (a refl)
-last_rule joining a b c d e f = absurd (b refl)
-last_rule choice a b c d e f = absurd (c refl)
-last_rule logic a b c d e f = absurd (d refl)
-last_rule equality a b c d e f = absurd (e refl)
-last_rule width a b c d e f = absurd (f refl)
-last_rule order a b c d e f = refl
 
 -- Every rule asks for an operand.
 least_some : (by : SortRule) → 1 ≤ least by
@@ -99,10 +85,10 @@ least_some order = omega arith
 least_some joining = omega arith
 least_some cutting = omega arith
 
-module _ {forms column : List ℕ} {place count rule : ℕ} where
+module _ {forms column : List ℕ} {place count : ℕ} {rule : Rule} where
   -- The first operand.
   first_operand : (e : Ruled forms column place count rule) → Turn (λ (s : ℕ). s + 1) forms column place count (λ (rest : List ℕ). e.trees.sorts ≡ rest)
-  first_operand e = turn (all_left e.trees refl) (omega (arith, least_some e.by, e.enough))
+  first_operand e = turn (all_left e.trees refl) (omega (arith, least_some (sort_rule rule), e.enough))
 
   -- It has a sort.
   pub first_there : Ruled forms column place count rule → 1 ≤ get_or column place 0
@@ -114,12 +100,12 @@ module _ {forms column : List ℕ} {place count rule : ℕ} where
 
   -- There is at least one.
   pub all_operands : Ruled forms column place count rule → SomeTrees forms column place count
-  all_operands e = record { trees = e.trees; any = omega (arith, least_some e.by, e.enough) }
+  all_operands e = record { trees = e.trees; any = omega (arith, least_some (sort_rule rule), e.enough) }
 
-  module _ {size : ℕ} (size_is : size ≡ size_at forms place) (be : SortRule) (two : least be ≡ 2) (is : rule ≡ rule_number be) where
+  module _ {size : ℕ} (size_is : size ≡ size_at forms place) (be : Rule) (two : least (sort_rule be) ≡ 2) (is : rule ≡ be) where
     -- There are two where the rule asks for two.
     two_enough : Ruled forms column place count rule → 2 ≤ count
-    two_enough e = let z : least e.by ≡ 2 = rw (told e.by be e.rule_is is) two in omega (arith, e.enough)
+    two_enough e = let z : least (sort_rule rule) ≡ 2 = rw is two in omega (arith, e.enough)
 
     -- Those that follow the first operand.
     pub other_operands : Ruled forms column place count rule → SomeTrees forms column (place + size) (count - 1)
@@ -138,81 +124,76 @@ module _ {forms column : List ℕ} {place count rule : ℕ} where
 
   module _ (value : ℕ) {found : ℕ} (found_is : found ≡ get_or column place 0) where
     -- The sort of `(_ extract i j)`.
-    pub cutting_gives : {high low r : ℕ} → rule ≡ rule_number cutting → high ≡ high_in value → low ≡ low_in value
+    pub cutting_gives : {high low r : ℕ} → rule ≡ Cutting → high ≡ high_in value → low ≡ low_in value
         → r ≡ sort_number (sort_where (leb low high && ltb high (found - 1)) (high - low + 1)) → RuleGives forms column place count rule value r
     unfolding sort_by
     cutting_gives {high} {low} {r} is is-high is-low w e =
         let t = first_operand e in
         let first : found - 1 ≡ t.first = omega (arith, found_is, t.number_is) in
-        (rw (first, is-high, is-low) at w) ∙ given_by (high_in value) (low_in value) (told e.by cutting e.rule_is is) t.owed
+        (rw (first, is-high, is-low) at w) ∙ given_by (high_in value) (low_in value) is t.owed
 
     module _ {size : ℕ} (size_is : size ≡ size_at forms place) where
       -- The first two operands.
-      first_two : (be : SortRule) (two : least be ≡ 2) (is : rule ≡ rule_number be) (e : Ruled forms column place count rule)
+      first_two : (be : Rule) (two : least (sort_rule be) ≡ 2) (is : rule ≡ be) (e : Ruled forms column place count rule)
           → e.trees.sorts ≡ (first_operand e).first ∷ (second_operand size_is be two is e).first ∷ (second_operand size_is be two is e).more
       unfolding other_operands
       first_two be two is e = (first_operand e).owed ∙ ap (λ (x : List ℕ). (first_operand e).first ∷ x) (second_operand size_is be two is e).owed
 
       -- The sort of `concat`.
-      pub joining_gives : {second r : ℕ} → rule ≡ rule_number joining → second ≡ get_or column (place + size) 0
+      pub joining_gives : {second r : ℕ} → rule ≡ Joining → second ≡ get_or column (place + size) 0
           → r ≡ sort_number (sort_where (vector (found - 1) && vector (second - 1) && leb (found - 1 + (second - 1)) max_width) (found - 1 + (second - 1)))
           → RuleGives forms column place count rule value r
       unfolding sort_by
       joining_gives {second} is q w e =
           let t = first_operand e in
-          let u = second_operand size_is joining refl is e in
+          let u = second_operand size_is Joining refl is e in
           let one : found - 1 ≡ t.first = omega (arith, found_is, t.number_is) in
           let two : second - 1 ≡ u.first = omega (arith, q, u.number_is) in
-          (rw (one, two) at w) ∙ given_by (high_in value) (low_in value) (told e.by joining e.rule_is is) (first_two joining refl is e)
+          (rw (one, two) at w) ∙ given_by (high_in value) (low_in value) is (first_two Joining refl is e)
 
       -- The sort of `ite`.
-      pub choice_gives : {common r : ℕ} → rule ≡ rule_number choice → Common forms column (place + size) (count - 1) common → r ≡ cond (eqb (found - 1) 0) common 0
+      pub choice_gives : {common r : ℕ} → rule ≡ Choice → Common forms column (place + size) (count - 1) common → r ≡ cond (eqb (found - 1) 0) common 0
           → RuleGives forms column place count rule value r
       unfolding sort_by common_sort
       choice_gives {common} {r} is q w e =
           let t = first_operand e in
-          let u = second_operand size_is choice refl is e in
+          let u = second_operand size_is Choice refl is e in
           let one : found - 1 ≡ t.first = omega (arith, found_is, t.number_is) in
           let same : common ≡ sort_number (common_sort (u.first ∷ u.more)) =
-          q (other_operands size_is choice refl is e) ∙ ap (λ (x : List ℕ). sort_number (common_sort x)) u.owed
+          q (other_operands size_is Choice refl is e) ∙ ap (λ (x : List ℕ). sort_number (common_sort x)) u.owed
           in
           (rw (one, same) at w) ∙ number_both (eqb t.first 0) (all_are u.first u.more) u.first
-          ∙ given_by (high_in value) (low_in value) (told e.by choice e.rule_is is) (first_two choice refl is e)
+          ∙ given_by (high_in value) (low_in value) is (first_two Choice refl is e)
 
   module _ (value : ℕ) {common r : ℕ} (common-is : Common forms column place count common) where
     -- A rule over operands that are all of one sort.
-    same_gives : (be : SortRule) (number : ℕ → ℕ)
-        → ((s : ℕ) (more : List ℕ) → number (sort_number (common_sort (s ∷ more))) ≡ sort_number (sort_by be (high_in value) (low_in value) (s ∷ more)))
-        → r ≡ number common → (e : Ruled forms column place count rule) → rule ≡ rule_number be
-        → r ≡ sort_number (sort_by e.by (high_in value) (low_in value) e.trees.sorts)
+    same_gives : (be : Rule) (number : ℕ → ℕ)
+        → ((s : ℕ) (more : List ℕ) → number (sort_number (common_sort (s ∷ more))) ≡ sort_number (sort_by (sort_rule be) (high_in value) (low_in value) (s ∷ more)))
+        → r ≡ number common → (e : Ruled forms column place count rule) → rule ≡ be
+        → r ≡ sort_number (sort_by (sort_rule rule) (high_in value) (low_in value) e.trees.sorts)
     unfolding all_operands
     same_gives be number law w e is =
         let t = first_operand e in
         w ∙ ap number (common-is (all_operands e) ∙ ap (λ (x : List ℕ). sort_number (common_sort x)) t.owed)
         ∙ law t.first t.more
-        ∙ given_by (high_in value) (low_in value) (told e.by be e.rule_is is) t.owed
+        ∙ given_by (high_in value) (low_in value) is t.owed
 
     -- The sort by the rule `logic`.
-    pub logic_gives : rule ≡ rule_number logic → r ≡ cond (eqb common 1) 1 0 → RuleGives forms column place count rule value r
+    pub logic_gives : rule ≡ Logic → r ≡ cond (eqb common 1) 1 0 → RuleGives forms column place count rule value r
     unfolding common_sort sort_by
-    logic_gives is w e = same_gives logic (λ (n : ℕ). cond (eqb n 1) 1 0) logic_number w e is
+    logic_gives is w e = same_gives Logic (λ (n : ℕ). cond (eqb n 1) 1 0) logic_number w e is
 
     -- The sort by the rule `equality`.
-    pub equality_gives : rule ≡ rule_number equality → r ≡ cond (leb 1 common) 1 0 → RuleGives forms column place count rule value r
+    pub equality_gives : rule ≡ Equality → r ≡ cond (leb 1 common) 1 0 → RuleGives forms column place count rule value r
     unfolding common_sort sort_by
-    equality_gives is w e = same_gives equality (λ (n : ℕ). cond (leb 1 n) 1 0) (λ s more. equality_number (all_are s more) s) w e is
+    equality_gives is w e = same_gives Equality (λ (n : ℕ). cond (leb 1 n) 1 0) (λ s more. equality_number (all_are s more) s) w e is
 
     -- The sort by the rule `width`.
-    pub width_gives : rule ≡ rule_number width → r ≡ cond (ltb 1 common) common 0 → RuleGives forms column place count rule value r
+    pub width_gives : rule ≡ Width → r ≡ cond (ltb 1 common) common 0 → RuleGives forms column place count rule value r
     unfolding common_sort sort_by
-    width_gives is w e = same_gives width (λ (n : ℕ). cond (ltb 1 n) n 0) (λ s more. width_number (all_are s more) s) w e is
+    width_gives is w e = same_gives Width (λ (n : ℕ). cond (ltb 1 n) n 0) (λ s more. width_number (all_are s more) s) w e is
 
-    -- The sort by the rule `order`, which is left where the rule is none of the others.
-    pub order_gives : (rule ≡ rule_number cutting → ⊥) → (rule ≡ rule_number joining → ⊥) → (rule ≡ rule_number choice → ⊥)
-        → (rule ≡ rule_number logic → ⊥) → (rule ≡ rule_number equality → ⊥) → (rule ≡ rule_number width → ⊥) → r ≡ cond (ltb 1 common) 1 0
-        → RuleGives forms column place count rule value r
+    -- The sort by the rule `order`.
+    pub order_gives : rule ≡ Order → r ≡ cond (ltb 1 common) 1 0 → RuleGives forms column place count rule value r
     unfolding common_sort sort_by
-    order_gives a b c d f g w e =
-        let q = e.rule_is in
-        let is : rule ≡ rule_number order = q ∙ last_rule e.by (rw q at a) (rw q at b) (rw q at c) (rw q at d) (rw q at f) (rw q at g) in
-        same_gives order (λ (n : ℕ). cond (ltb 1 n) 1 0) (λ s more. order_number (all_are s more) s) w e is
+    order_gives is w e = same_gives Order (λ (n : ℕ). cond (ltb 1 n) 1 0) (λ s more. order_number (all_are s more) s) w e is

@@ -7,7 +7,7 @@ ghost use Rattle.term_sorts.specs.code.Operands.{SortedTrees};
 
 use crate::operands::{common_sort, sort_at};
 use operators::operators::{OPERATORS, rule_of, takes};
-use operators::rules::{CHOICE, CUTTING, EQUALITY, JOINING, LOGIC, MAX_WIDTH, WIDTH};
+use operators::rules::{MAX_WIDTH, Rule};
 use terms::codes::{high_in, low_in};
 use terms::size_at;
 
@@ -49,32 +49,31 @@ fn cut_sort(sort: u64, high: u64, low: u64) -> u64
 }
 
 // The sort that a rule gives over the trees from node `place` on, `count` of them; `value` tells the numbers of `(_ extract i j)`.
-fn rule_sort(forms: &[u64], column: &[u8], place: usize, count: usize, rule: u8, value: u64) -> u64
+fn rule_sort(
+    forms: &[u64],
+    column: &[u8],
+    place: usize,
+    count: usize,
+    rule: Rule,
+    value: u64,
+) -> u64
     requires { Ruled forms.now column.now place count rule }
     ensures { RuleGives forms.now column.now place count rule value result }
 {
     let first = sort_at(column, place) - 1;
-    if rule == CUTTING {
-        return cut_sort(first, high_in(value), low_in(value));
-    }
     let second = place + size_at(forms, place);
-    if rule == JOINING {
-        return joined_sort(first, sort_at(column, second) - 1);
+    match rule {
+        Rule::Cutting => cut_sort(first, high_in(value), low_in(value)),
+        Rule::Joining => joined_sort(first, sort_at(column, second) - 1),
+        Rule::Choice => number_when(first == 0, common_sort(forms, column, second, count - 1)),
+        Rule::Logic => number_when(common_sort(forms, column, place, count) == BOOL, BOOL),
+        Rule::Equality => number_when(BOOL <= common_sort(forms, column, place, count), BOOL),
+        Rule::Order => number_when(BOOL < common_sort(forms, column, place, count), BOOL),
+        Rule::Width => {
+            let common = common_sort(forms, column, place, count);
+            number_when(BOOL < common, common)
+        }
     }
-    if rule == CHOICE {
-        return number_when(first == 0, common_sort(forms, column, second, count - 1));
-    }
-    let common = common_sort(forms, column, place, count);
-    if rule == LOGIC {
-        return number_when(common == BOOL, BOOL);
-    }
-    if rule == EQUALITY {
-        return number_when(BOOL <= common, BOOL);
-    }
-    if rule == WIDTH {
-        return number_when(BOOL < common, common);
-    }
-    number_when(BOOL < common, BOOL)
 }
 
 // The sort of an operator over the trees from node `place` on, `count` of them; `value` tells the numbers of `(_ extract i j)`.

@@ -1,16 +1,18 @@
 -- The operands that the program makes are such as the operators take.
-use Rattle.std.proofs.Common.{◌≡◌, ℕ, ◌+◌, ◌-◌, ◌%◌, ◌^◌, ◌<◌, ◌≤◌, Bool, true, false, cond, ◌||◌, eqb, ltb, leb, List, [], ◌∷◌, length, get_or, take, sym, refl, ap, ◌∙◌, mod-lt, arith, lt-ltb, eq-eqb, eqb-true, le-leb}
+use Rattle.std.proofs.Common.{◌≡◌, ℕ, ◌+◌, ◌-◌, ◌%◌, ◌^◌, ◌<◌, ◌≤◌, Bool, true, false, cond, ◌||◌, eqb, ltb, leb, List, [], ◌∷◌, length, get_or, take, sym, refl, subst, ◌∙◌, mod-lt, arith, lt-ltb, eq-eqb, eqb-true, le-leb}
+use mathlib.Core.Logic.{◌⊎◌, inl, inr}
 use mathlib.Core.Option.{some}
 use lib.Bits.{bit_and, mask_lt}
 use lib.ListN.{get_or-replicate}
 use Rattle.operators.specs.Operators.{Operator, operator_at, operator_count, operator_sort, operators}
 use Rattle.operators.specs.Sorts.{AllFit, Fit, SortRule, all_are, bool, choice, cutting, equality, joining, logic, order, sort_by, width}
-use Rattle.operators.specs.code.RuleNumbers.{rule_number}
+use Rattle.operators.specs.code.Rules.{sort_rule}
+use Rattle.operators.specs.declared.rules.Rule.{Rule}
+use Rattle.operators.specs.declared.rules.Rule.TheVariants.{Equality, Order, Width as of_width}
 use Rattle.operators.specs.code.Operators.{Operable}
 use Rattle.operators.specs.Sorts.AllFit.{no_more, also}
 use Rattle.operators.specs.code.Vectors.{Width, Word, Words}
 use Rattle.test_operators.specs.Alike.{Alike}
-use Rattle.operators.proofs.Results.{rule-at, rule_at}
 use Rattle.operators.proofs.RuledOperands.{gives_bool, word_fits}
 use Rattle.operators.proofs.Table.{column}
 
@@ -92,20 +94,15 @@ module _ {operator s a b : ℕ} (x : Alike operator s a b) where
       → Operable operator 0 0 s other (take count (a ∷ b ∷ []))
   alike_taken e d = rw (e, d) both_taken
 
--- The rule of an operator, by its number.
-pub rule_is : (operator : ℕ) {k l : ℕ} → k ≡ rule_number (operator_at operator).rule → k ≡ l → (operator_at operator).rule ≡ rule_at l
-rule_is operator e q = rule-at (operator_at operator).rule ∙ ap rule_at (sym e ∙ q)
-
 -- An operator has as many operands as its rule says.
 counted : {operator : ℕ} {r : SortRule} → operator < operator_count → (operator_at operator).rule ≡ r → usual r (operator_at operator).operands ≡ true
 counted h e = rw e at (all_usual h)
 
 -- The operands of `not` to `=>`.
-pub logic_alike : {operator k x y : ℕ} → operator < operator_count → k ≡ rule_number (operator_at operator).rule → k ≡ rule_number logic → Word 1 x → Word 1 y
-    → Alike operator 0 x y
+pub logic_alike : {operator x y : ℕ} → operator < operator_count → logic ≡ (operator_at operator).rule → Word 1 x → Word 1 y → Alike operator 0 x y
 unfolding sort_by usual
-logic_alike {operator} l e q v w =
-    let r = rule_is operator e q in
+logic_alike {operator} l e v w =
+    let r = sym e in
     record { known = l; counted = counted l r; result = 0; sorted = λ more h. rw (r, h); first = bit_fits v; second = bit_fits w }
 
 -- The operands of `ite`.
@@ -144,45 +141,56 @@ cut_taken {operator} {high} {low} {n} {a} l r v h g =
     operable l (high - low + 1) (n ∷ []) (a ∷ []) (sym (eqb-true _ _ (counted l r))) (rw (r, le-leb low high h, lt-ltb high n g))
     (also (word_fits v.width v.below) no_more)
 
--- A number of none of the rules `logic`, `choice`, `joining` and `cutting`.
-abbrev pub Plain : ℕ → Type 0
-Plain k = (((Unit × (k ≡ rule_number logic → ⊥)) × (k ≡ rule_number choice → ⊥)) × (k ≡ rule_number joining → ⊥)) × (k ≡ rule_number cutting → ⊥)
+-- The rules of operands that are all of one sort, of any width.
+abbrev Plain : SortRule → Type 0
+Plain logic = ⊥
+Plain equality = Unit
+Plain choice = ⊥
+Plain width = Unit
+Plain order = Unit
+Plain joining = ⊥
+Plain cutting = ⊥
 
--- The other rules take one operand or two of one width.
-plain : (r : SortRule) {k n : ℕ} → k ≡ rule_number r → Plain k → Width n → (more : List ℕ) → all_are n more ≡ true
-    → sort_by r 0 0 (n ∷ more) ≡ some (cond (gives_bool r) bool n)
+-- They give those a sort.
+plain : (r : SortRule) → Plain r → {n : ℕ} → Width n → (more : List ℕ) → all_are n more ≡ true → sort_by r 0 0 (n ∷ more) ≡ some (cond (gives_bool r) bool n)
 unfolding sort_by
-plain logic e p w more h = absurd (p.0.0.0.1 e)
-plain choice e p w more h = absurd (p.0.0.1 e)
-plain joining e p w more h = absurd (p.0.1 e)
-plain cutting e p w more h = absurd (p.1 e)
-plain equality e p w more h = rw h
-plain width {n = n} e p w more h = rw (lt-ltb 0 n w.least, h)
-plain order {n = n} e p w more h = rw (lt-ltb 0 n w.least, h)
+plain logic p w more h = absurd p
+plain equality p w more h = rw h
+plain choice p w more h = absurd p
+plain width p {n} w more h = rw (lt-ltb 0 n w.least, h)
+plain order p {n} w more h = rw (lt-ltb 0 n w.least, h)
+plain joining p w more h = absurd p
+plain cutting p w more h = absurd p
 
 -- Their operators have one operand or two.
-plain_count : (r : SortRule) (c : ℕ) {k : ℕ} → k ≡ rule_number r → Plain k → usual r c ≡ true → (eqb c 1 || eqb c 2) ≡ true
+plain_count : (r : SortRule) → Plain r → (c : ℕ) → usual r c ≡ true → (eqb c 1 || eqb c 2) ≡ true
 unfolding usual
-plain_count logic c e p h = h
-plain_count choice c e p h = absurd (p.0.0.1 e)
-plain_count joining c e p h = absurd (p.0.1 e)
-plain_count cutting c e p h = absurd (p.1 e)
-plain_count equality c e p h = h
-plain_count width c e p h = h
-plain_count order c e p h = h
+plain_count logic p c h = absurd p
+plain_count equality p c h = h
+plain_count choice p c h = absurd p
+plain_count width p c h = h
+plain_count order p c h = h
+plain_count joining p c h = absurd p
+plain_count cutting p c h = absurd p
 
--- The operands of `=`, `distinct` and `bvnot` to `bvult`.
-pub plain_alike : {operator k n a b : ℕ} → operator < operator_count → k ≡ rule_number (operator_at operator).rule → Plain k → Word n a → Word n b
-    → Alike operator n a b
-plain_alike {operator} {n = n} l e p v w =
+-- The operands of `=`, `distinct`, `bvnot` to `bvult` and `bvsdiv` to `bvuge`.
+pub plain_alike : {operator n a b : ℕ} {rule : Rule} → operator < operator_count → sort_rule rule ≡ (operator_at operator).rule
+    → (rule ≡ Equality) ⊎ ((rule ≡ of_width) ⊎ (rule ≡ Order)) → Word n a → Word n b → Alike operator n a b
+plain_alike {operator} {n = n} {rule = rule} l e p v w =
+    let q : Plain (operator_at operator).rule = subst Plain e (is_plain p) in
     record {
       known = l;
-      counted = plain_count (operator_at operator).rule _ e p (all_usual l);
+      counted = plain_count (operator_at operator).rule q _ (all_usual l);
       result = cond (gives_bool (operator_at operator).rule) bool n;
-      sorted = plain (operator_at operator).rule e p v.width;
+      sorted = plain (operator_at operator).rule q v.width;
       first = word_fits v.width v.below;
       second = word_fits w.width w.below;
     }
+  where
+    is_plain : (rule ≡ Equality) ⊎ ((rule ≡ of_width) ⊎ (rule ≡ Order)) → Plain (sort_rule rule)
+    is_plain (inl q) = rw q tt
+    is_plain (inr (inl q)) = rw q tt
+    is_plain (inr (inr q)) = rw q tt
 
 -- A remainder by i + 1 is at most i.
 pub at_most : (z i : ℕ) → z % (i + 1) ≤ i

@@ -1,17 +1,20 @@
 -- More than two operands of one sort are such as the operators take that may have more.
-use Rattle.std.proofs.Common.{◌≡◌, ℕ, zero, suc, ◌+◌, ◌*◌, ◌/◌, ◌%◌, ◌^◌, ◌<◌, ◌≤◌, Bool, true, cond, ◌&&◌, ◌||◌, eqb, leb, List, [], ◌∷◌, take, replicate, sym, refl, ◌∙◌, mod-lt, arith, lt-ltb, eq-eqb, ne_eqb, eqb-true, le-leb, leb-true}
+use Rattle.std.proofs.Common.{◌≡◌, ℕ, zero, suc, ◌+◌, ◌*◌, ◌/◌, ◌%◌, ◌^◌, ◌<◌, ◌≤◌, Bool, true, false, cond, ◌&&◌, leb, List, [], ◌∷◌, take, replicate, sym, refl, ◌∙◌, mod-lt, arith, lt-ltb, eq-eqb, le-leb, leb-true}
 use mathlib.Core.Option.{some}
 use lib.ListN.{get_or-replicate, length-replicate}
 use Rattle.operators.specs.Operators.{Operator, operator_at, operator_count, operator_sort, operators, takes}
-use Rattle.operators.specs.Sorts.{AllFit, Fit, all_are, bool, equality, logic, sort_by}
+use Rattle.operators.specs.Sorts.{AllFit, Fit, SortRule, all_are, bool, choice, cutting, equality, joining, logic, order, sort_by, width}
 use Rattle.operators.specs.Sorts.AllFit.{no_more, also}
 use Rattle.operators.specs.code.Operators.{Operable}
-use Rattle.operators.specs.code.RuleNumbers.{rule_number}
-use Rattle.operators.specs.code.Vectors.{Width, Word}
+use Rattle.operators.specs.code.Rules.{sort_rule}
+use Rattle.operators.specs.declared.rules.Rule.{Rule}
+use Rattle.operators.specs.declared.rules.Rule.TheVariants.{Logic, Equality, Choice, Width, Order, Joining, Cutting}
+use Rattle.std.proofs.lemmas.Bool.{false≢true}
+use Rattle.operators.specs.code.Vectors.{Width as IsWidth, Word}
 use Rattle.operators.proofs.RuledOperands.{both, word_fits}
 use Rattle.operators.proofs.Table.{column}
 use Rattle.test_operators.specs.Wide.{Wide, most_operands}
-use Rattle.test_operators.proofs.Taken.{bit_fits, rule_is}
+use Rattle.test_operators.proofs.Taken.{bit_fits}
 
 -- The shift of an operand is below the number of bits.
 pub short : (x right : ℕ) → right < 2 ^ 64 → x % (2 + 6 * (right / 2 ^ 63)) < 64
@@ -25,43 +28,58 @@ bool_fits e w = rw e (bit_fits w)
 pub vector_fits : {s v : ℕ} → Word s v → Fit s v
 vector_fits w = word_fits w.width w.below
 
--- Whether the number of a rule is that of `logic` or of `equality`.
-abbrev uniform : ℕ → Bool
-uniform k = eqb k (rule_number logic) || eqb k (rule_number equality)
+-- Whether a rule is `logic` or `equality`.
+abbrev uniform : SortRule → Bool
+uniform logic = true
+uniform equality = true
+uniform choice = false
+uniform width = false
+uniform order = false
+uniform joining = false
+uniform cutting = false
 
 -- What holds of a row that takes as many operands as the program makes.
 wide_row : Operator → Bool
-wide_row r = cond (takes r most_operands) (uniform (rule_number r.rule) && (r.many && leb r.operands 3)) true
+wide_row r = cond (takes r most_operands) (uniform r.rule && (r.many && leb r.operands 3)) true
+
+-- Of those two, which is left beside the first.
+other_uniform : (rule : Rule) → uniform (sort_rule rule) ≡ true → (rule ≡ Logic → ⊥) → sort_rule rule ≡ equality
+other_uniform Logic u p = absurd (p refl)
+other_uniform Equality u p = refl
+other_uniform Choice u p = absurd (false≢true u)
+other_uniform Width u p = absurd (false≢true u)
+other_uniform Order u p = absurd (false≢true u)
+other_uniform Joining u p = absurd (false≢true u)
+other_uniform Cutting u p = absurd (false≢true u)
 
 module _ {operator : ℕ} (known : operator < operator_count) (taken : takes (operator_at operator) most_operands ≡ true) where
   -- It holds of every row.
-  all_wide : uniform (rule_number (operator_at operator).rule) && ((operator_at operator).many && leb (operator_at operator).operands 3) ≡ true
+  all_wide : uniform (operator_at operator).rule && ((operator_at operator).many && leb (operator_at operator).operands 3) ≡ true
   unfolding operators wide_row
   all_wide = rw taken at (sym (column wide_row operator) ∙ get_or-replicate operator_count operator true true known)
 
   -- An operator that takes as many takes fewer.
   fewer : {count : ℕ} → 3 ≤ count → takes (operator_at operator) count ≡ true
   fewer {count} h =
-      let w = (both (uniform (rule_number (operator_at operator).rule)) _ all_wide).1 in
+      let w = (both (uniform (operator_at operator).rule) _ all_wide).1 in
       let m = both (operator_at operator).many _ w in
       let few = leb-true (operator_at operator).operands 3 m.1 in
       rw (m.0, le-leb (operator_at operator).operands count (omega arith))
 
-  module _ {k : ℕ} (e : k ≡ rule_number (operator_at operator).rule) where
-    -- Operands of `and` to `=>` are Bools.
-    pub wide_logic : k ≡ rule_number logic → Wide operator 0
-    unfolding sort_by
-    wide_logic q =
-        let r = rule_is operator e q in
-        record { known = known; taken = taken; within = omega arith; sorted = λ more h. rw (r, h) }
+  -- Operands of `and` to `=>` are Bools.
+  pub wide_logic : logic ≡ (operator_at operator).rule → Wide operator 0
+  unfolding sort_by
+  wide_logic e =
+      let r = sym e in
+      record { known = known; taken = taken; within = omega arith; sorted = λ more h. rw (r, h) }
 
-    -- Those of `=` and `distinct` have any sort.
-    pub wide_equality : {n : ℕ} → (k ≡ rule_number logic → ⊥) → Width n → Wide operator n
-    unfolding sort_by
-    wide_equality p w =
-        let u : uniform k ≡ true = rw e (both (uniform (rule_number (operator_at operator).rule)) _ all_wide).0 in
-        let r = rule_is operator e (eqb-true k (rule_number equality) (rw (ne_eqb k (rule_number logic) p) at u)) in
-        record { known = known; taken = taken; within = w.most; sorted = λ more h. rw (r, h) }
+  -- Those of `=` and `distinct` have any sort.
+  pub wide_equality : {n : ℕ} {rule : Rule} → sort_rule rule ≡ (operator_at operator).rule → (rule ≡ Logic → ⊥) → IsWidth n → Wide operator n
+  unfolding sort_by
+  wide_equality {rule = rule} e p w =
+      let u : uniform (sort_rule rule) ≡ true = rw e (both (uniform (operator_at operator).rule) _ all_wide).0 in
+      let r : (operator_at operator).rule ≡ equality = sym e ∙ other_uniform rule u p in
+      record { known = known; taken = taken; within = w.most; sorted = λ more h. rw (r, h) }
 
 -- Sorts that are all the same.
 all_are_lem : (n s : ℕ) → all_are s (replicate n s) ≡ true

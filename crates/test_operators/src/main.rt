@@ -13,7 +13,7 @@ ghost use Rattle.test_operators.specs.Wide.{Wide, most_operands};
 
 use operators::ones;
 use operators::operators::{OPERATORS, apply, operands_of, rule_of, takes};
-use operators::rules::{CHOICE, CUTTING, JOINING, LOGIC};
+use operators::rules::Rule;
 use std::io;
 use std::io::Write;
 
@@ -128,11 +128,11 @@ fn value(operator: usize, width: u64, left: u64, right: u64) -> u64
     let one = low(left, width);
     let two = low(right, width);
     match rule_of(operator) {
-        LOGIC => alike(operator, 0, low(left, 1), low(right, 1)),
-        CHOICE => chosen(operator, width, low(left, 1), one, two),
-        JOINING => joined(operator, width, one, right),
-        CUTTING => extracted(operator, width, one, right),
-        _ => alike(operator, width, one, two),
+        Rule::Logic => alike(operator, 0, low(left, 1), low(right, 1)),
+        Rule::Choice => chosen(operator, width, low(left, 1), one, two),
+        Rule::Joining => joined(operator, width, one, right),
+        Rule::Cutting => extracted(operator, width, one, right),
+        Rule::Equality | Rule::Width | Rule::Order => alike(operator, width, one, two),
     }
 }
 
@@ -242,10 +242,10 @@ fn sort_of(operator: usize, width: u64) -> u64
     requires { (operator < operator_count) × (takes (operator_at operator) most_operands ≡ true) × Width width }
     ensures { Wide operator result }
 {
-    if rule_of(operator) == LOGIC {
-        return 0;
+    match rule_of(operator) {
+        Rule::Logic => 0,
+        _ => width,
     }
-    width
 }
 
 // Prints a hash.

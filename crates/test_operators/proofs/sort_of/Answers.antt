@@ -1,8 +1,8 @@
 use Rattle.test_operators.proofs.WideTaken.{wide_equality, wide_logic}
 use Rattle.test_operators.proofs.sort_of.Goals as goal
 
-pub returns-then-rule_of-eq-LOGIC : goal.returns-then-rule_of-eq-LOGIC
-returns-then-rule_of-eq-LOGIC c = search wide_logic
+pub returns-in-Logic : goal.returns-in-Logic
+returns-in-Logic c = wide_logic c.requires.0 c.requires.1 c.in-Logic.ensures
 
-pub returns : goal.returns
-returns c = search wide_equality
+pub returns-in_default : goal.returns-in_default
+returns-in_default c = search wide_equality

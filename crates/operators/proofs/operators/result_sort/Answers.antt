@@ -1,27 +1,27 @@
-use Rattle.std.proofs.Common.{refl, arith}
+use Rattle.std.proofs.Common.{arith}
 use Rattle.operators.proofs.Results.{bool_result, chosen_result, cut_below, cut_order, cut_result, joined_narrow, joined_result, width_result}
 use Rattle.operators.proofs.operators.result_sort.Goals as goal
 
 pub overflow_add-result : goal.overflow_add-result
-overflow_add-result c = omega (arith, joined_narrow c.rule_of-rule.ensures c.in-5.is refl c.requires)
+overflow_add-result c = omega (arith, joined_narrow c.in-Joining.ensures c.requires)
 
 pub overflow_sub-result : goal.overflow_sub-result
-overflow_sub-result c = cut_order c.rule_of-rule.ensures c.in-6.is refl c.requires
+overflow_sub-result c = cut_order c.in-Cutting.ensures c.requires
 
-pub overflow_add-result-in-6 : goal.overflow_add-result-in-6
-overflow_add-result-in-6 c = omega (arith, cut_below c.rule_of-rule.ensures c.in-6.is refl c.requires)
+pub overflow_add-result-in-Cutting : goal.overflow_add-result-in-Cutting
+overflow_add-result-in-Cutting c = omega (arith, cut_below c.in-Cutting.ensures c.requires)
 
-pub returns-in-2 : goal.returns-in-2
-returns-in-2 c = chosen_result c.rule_of-rule.ensures c.in-2.is refl
+pub returns-in-Choice : goal.returns-in-Choice
+returns-in-Choice c = chosen_result c.in-Choice.ensures
 
-pub returns-in-3 : goal.returns-in-3
-returns-in-3 c = width_result c.rule_of-rule.ensures c.in-3.is refl
+pub returns-in-Width : goal.returns-in-Width
+returns-in-Width c = width_result c.in-Width.ensures
 
-pub returns-in-5 : goal.returns-in-5
-returns-in-5 c = joined_result c.rule_of-rule.ensures c.in-5.is refl
+pub returns-in-Joining : goal.returns-in-Joining
+returns-in-Joining c = joined_result c.in-Joining.ensures
 
-pub returns-in-6 : goal.returns-in-6
-returns-in-6 c = cut_result c.rule_of-rule.ensures c.in-6.is refl
+pub returns-in-Cutting : goal.returns-in-Cutting
+returns-in-Cutting c = cut_result c.in-Cutting.ensures
 
-pub returns-in_default : goal.returns-in_default
-returns-in_default c = let n = c.in_default.in_default-own.rest in bool_result c.rule_of-rule.ensures n.0.0.0.1 n.0.0.1 n.0.1 n.1
+pub returns-in-Logic : goal.returns-in-Logic
+returns-in-Logic c = bool_result c.in-Logic.is c.rule_of.ensures
