@@ -79,7 +79,7 @@ const SLOTS_OF: [u8; SLOTS] =
 struct Entry(usize, bool, Rule);
 
 // The entry of each operator.
-const ENTRIES: [Entry; OPERATORS] = [
+static ENTRIES: [Entry; OPERATORS] = [
     Entry(1, false, Rule::Logic), // not
     Entry(2, true, Rule::Logic), // and
     Entry(2, true, Rule::Logic), // or
