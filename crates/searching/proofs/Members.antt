@@ -17,7 +17,8 @@ use Rattle.searching.proofs.Uses.{live_take, prices_of}
 use Rattle.derivation.specs.code.Masks.{has, Puts}
 use Rattle.searching.specs.code.Masks.{mark_width}
 use Rattle.derivation.specs.code.Rules.{non_terminal_at, rule_width}
-use Rattle.searching.specs.code.Filling.{NodeIs, Chooses, Live, PricedLive, Prices, RowPre, SettlePre, Settles}
+use Rattle.searching.specs.code.Filling.{NodeIs, Chooses, Live, Price, PricedLive, Prices, RowPre, SettlePre, Settles, nothing}
+use Rattle.searching.specs.declared.filling.Choice.{Choice}
 use Rattle.searching.specs.code.Ranks.{most}
 use Rattle.forest.specs.Limits.{most_non_terminals, most_rules}
 
@@ -46,10 +47,14 @@ module _ {rules forms costs live row₀ chosen₀ : List ℕ} where
       → SettlePre rules forms costs live row₀ chosen₀
   other p q = record { body = p.body; masks = p.masks; i = p.i; asks = q; priced = p.priced; held = p.held; room = p.room }
 
-  module _ {row chosen : List ℕ} {s r c : ℕ} (v : State rules forms costs live row₀ chosen₀ row chosen s)
-      (ch : Chooses rules forms costs row s (length rules / rule_width) r c) where
-    pub node_done : c ≡ 0 → (p : SettlePre rules forms costs live row₀ chosen₀) → NodeIs rules forms p.body p.masks p.i row chosen s
-    node_done z p = record {
+  module _ {row chosen : List ℕ} {s : ℕ} (v : State rules forms costs live row₀ chosen₀ row chosen s) where
+    -- no rule has a price
+    none_chosen : ((k : ℕ) → k < length rules / rule_width → Price rules forms costs row s k 0) → Chooses rules forms costs row s (length rules / rule_width) 0 0
+    none_chosen priceless = record { is = λ nz. absurd (nz refl); all = λ k l. (0, priceless k l, nothing refl) }
+
+    pub node_done : ((k : ℕ) → k < length rules / rule_width → Price rules forms costs row s k 0) → (p : SettlePre rules forms costs live row₀ chosen₀)
+        → NodeIs rules forms p.body p.masks p.i row chosen s
+    node_done priceless p = record {
       sixteen = v.sixteen;
       seventeen = v.seventeen;
       exact = λ a.
@@ -57,7 +62,7 @@ module _ {rules forms costs live row₀ chosen₀ : List ℕ} where
           record {
             sound = λ A l t. chain_derives a (me A l t).1;
             complete = λ A l d.
-                complete a s (closed a p.priced me r (subst (λ (x : ℕ). Chooses rules forms costs row s (length rules / rule_width) r x) z ch)) A d;
+                complete a s (closed a p.priced me 0 (none_chosen priceless)) A d;
             ranked = λ A l t.
                 let m = (me A l t).3 in
                 record { ds = m.ds; least = m.least; rank = m.rank; few = omega (arith, m.few, full a s) };
@@ -65,7 +70,19 @@ module _ {rules forms costs live row₀ chosen₀ : List ℕ} where
       chains = λ a A l t. let o = v.members (other p a) A l t in (o.0, o.1, omega (arith, o.2, cnt_le (has s) most_non_terminals));
     }
 
-    module _ (nz : c ≡ 0 → ⊥) where
+    module _ {choice : Choice} (made : (choice.rank ≡ 0 → ⊥) × Chooses rules forms costs row s (length rules / rule_width) choice.rule choice.rank) where
+      abbrev r : ℕ
+      r = choice.rule
+
+      abbrev c : ℕ
+      c = choice.rank
+
+      abbrev nz : c ≡ 0 → ⊥
+      nz = made.0
+
+      abbrev ch : Chooses rules forms costs row s (length rules / rule_width) r c
+      ch = made.1
+
       is_rule : (p : SettlePre rules forms costs live row₀ chosen₀) → r < length p.asks.given.G.rules
       is_rule p = omega (arith, (ch.is nz).0, rules_count p.asks.given)
 

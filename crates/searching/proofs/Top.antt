@@ -5,7 +5,7 @@ use native.Mathlib.Nat.{zero-add}
 use native.Mathlib.Omega.{arith}
 use borrow.Author.Tests.{not-true, not-false}
 use mathlib.Core.Bool.{Bool, true, false, not, true≢false}
-use mathlib.Core.List.{List, [], ◌++◌, ◌∷◌}
+use mathlib.Core.List.{List, [], ◌++◌}
 use lib.ListN.{length, replicate, take, drop, length-replicate, length-take}
 use lib.Seq.{sets, sets-eq}
 use Rattle.std.specs.Prelude.{None, Some}
@@ -20,7 +20,6 @@ use Rattle.searching.specs.code.Search.{ExactAt, Asks}
 use Rattle.derivation.specs.Answer.{start, list_of}
 use Rattle.forest.specs.Limits.{list_size, most_nodes, most_non_terminals, unused}
 use Rattle.derivation.proofs.Order.{least_unique}
-use Rattle.searching.proofs.LeastParts.{never}
 use Rattle.searching.proofs.Sweep.{body_size}
 use Rattle.derivation.specs.code.Masks.{has}
 use Rattle.searching.specs.code.Masks.{mask_at, rank_at, mark_width}
@@ -48,13 +47,10 @@ module _ {rules forms body masks₀ choices₀ masks choices shown : List ℕ} (
   unfolding from
   first_mask p = subst (λ (x : ℕ). ExactAt p.given.G p.given.F x (rank_at masks 0)) (sym em) (ex.exact p.given 0 (some p))
 
-  pub show_no : not b ≡ true → (p : ShowPre rules forms body masks₀ choices₀ shown) → ShowPost rules forms body masks₀ choices₀ shown p shown 0
+  pub show_no : not b ≡ true → (p : ShowPre rules forms body masks₀ choices₀ shown) → ShowPost rules forms body masks₀ choices₀ shown p shown None
   show_no n p = record {
-    yes! = λ t. absurd (t refl);
-    no! = λ t. (
-      (λ ds d. true≢false (sym ((first_mask p).complete 0 (omega arith) (to_at p.given.G 0 p.given.F p.one ds d)) ∙ sym eb ∙ not-true b n)),
-      refl,
-    );
+    none_derives = λ ds d. true≢false (sym ((first_mask p).complete 0 (omega arith) (to_at p.given.G 0 p.given.F p.one ds d)) ∙ sym eb ∙ not-true b n);
+    unchanged = refl;
   }
 
   module _ (y : not b ≡ false) where
@@ -78,16 +74,9 @@ module _ {rules forms body masks₀ choices₀ masks choices shown : List ℕ} (
         → Ranked p.given.G start (first 1 p.given.F) (most_non_terminals * size (first 1 p.given.F)) (rank_at masks 0 0)
     top p = (first_mask p).ranked 0 (omega arith) (sym eb ∙ not-false b y)
 
-    some_rank : (p : ShowPre rules forms body masks₀ choices₀ shown) → {c : ℕ} → c ≡ rank_at masks 0 0 → c ≡ 0 → ⊥
-    some_rank p e z = go (top p).ds (top p).rank (top p).least.derivation
-      where
-        go : (ds : List ℕ) → rank_at masks 0 0 ≡ rank_of p.given.G ds → Derives p.given.G start (first 1 p.given.F) ds → ⊥
-        go [] q d = never p.given.G d refl
-        go (x ∷ ds) q d = omega arith
-
     pub show_yes : {shown' : List ℕ} {w : ℕ}
         → ((e : EmitPre rules forms body choices 0 0 shown 0) → EmitPost rules forms body choices 0 0 shown 0 e shown' w) → {c : ℕ} → c ≡ rank_at masks 0 0
-        → (p : ShowPre rules forms body masks₀ choices₀ shown) → ShowPost rules forms body masks₀ choices₀ shown p shown' c
+        → (p : ShowPre rules forms body masks₀ choices₀ shown) → ShowPost rules forms body masks₀ choices₀ shown p shown' (Some c)
     unfolding from emit_pre
     show_yes post {c} ec p =
         let x = post (emit_pre p) in
@@ -95,15 +84,12 @@ module _ {rules forms body masks₀ choices₀ masks choices shown : List ℕ} (
         let o = top p in
         let u : o.ds ≡ x.ds = least_unique p.given.G o.least x.least in
         record {
-          yes! = λ t. record {
-            ds = x.ds;
-            derivation = subst (λ (F : Terms). Simple p.given.G [] start F x.ds) whole x.derivation;
-            least = subst (λ (F : Terms). Least p.given.G start F x.ds) whole x.least;
-            wrote = x.wrote;
-            few = subst (λ (F : Terms). length x.ds ≤ most_non_terminals * size F) whole x.few;
-            rank = ec ∙ o.rank ∙ ap (rank_of p.given.G) u;
-          };
-          no! = λ t. absurd (some_rank p ec t);
+          ds = x.ds;
+          derivation = subst (λ (F : Terms). Simple p.given.G [] start F x.ds) whole x.derivation;
+          least = subst (λ (F : Terms). Least p.given.G start F x.ds) whole x.least;
+          wrote = x.wrote;
+          few = subst (λ (F : Terms). length x.ds ≤ most_non_terminals * size F) whole x.few;
+          rank = ec ∙ o.rank ∙ ap (rank_of p.given.G) u;
         }
 
 drop_replicate : (k n v : ℕ) → drop k (replicate n v) ≡ replicate (n - k) v
@@ -133,16 +119,17 @@ module _ {rules forms body area : List ℕ} {k n : ℕ} (en : n ≡ length body 
       room = omega (arith, ap length bl, length-replicate {A = ℕ} list_size unused, p.fits);
     }
 
-    module _ {list : List ℕ} {c : ℕ} (post : Shows rules forms body (take n ms) cs blank list c) where
-      -- the answer is no, and the area is as it was
-      pub derive_no : c ≡ 0 → (p : DerivePre rules forms body k area) → DerivePost rules forms body k area p area None
-      derive_no e p = record { none_derives = ((post (show_pre p)).no! e).0; unchanged = refl }
+    module _ {list : List ℕ} where
+      -- there is none, and the area is as it was
+      pub derive_no : Shows rules forms body (take n ms) cs blank list None → (p : DerivePre rules forms body k area)
+          → DerivePost rules forms body k area p area None
+      derive_no post p = record { none_derives = (post (show_pre p)).none_derives; unchanged = refl }
 
-      -- the answer is yes, and the list was copied to its place
-      pub derive_yes : (c ≡ 0 → ⊥) → {area' : List ℕ} → area' ≡ sets area (list_size * k) list → (p : DerivePre rules forms body k area)
-          → DerivePost rules forms body k area p area' (Some (c / per_weight))
-      derive_yes e w p =
-          let x = (post (show_pre p)).yes! e in
+      -- there is one, and the list was copied to its place
+      pub derive_yes : {c : ℕ} → Shows rules forms body (take n ms) cs blank list (Some c) → {area' : List ℕ} → area' ≡ sets area (list_size * k) list
+          → (p : DerivePre rules forms body k area) → DerivePost rules forms body k area p area' (Some (c / per_weight))
+      derive_yes post w p =
+          let x = post (show_pre p) in
           let few : length x.ds ≤ list_size = omega (arith, x.few, p.fits) in
           let is : list ≡ list_of x.ds = x.wrote ∙ ap (λ (l : List ℕ). sets l 0 x.ds) bl ∙ sets_unused x.ds list_size few in
           record {

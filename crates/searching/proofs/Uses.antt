@@ -256,6 +256,15 @@ module _ {rules forms costs live row : List ℕ} {s : ℕ} where
             subst (λ (y : ℕ). (x : ℕ) × Price rules forms costs row s y x × Worse least best x y) w.2 (v.all w.0 (omega (arith, w.1)))
         go r (inr w) = (0, no_price r w.0 w.1, nothing refl)
 
+    -- none has a price
+    pub search_none : length live ≤ i → least ≡ 0 → (k : ℕ) → k < length rules / rule_width → Price rules forms costs row s k 0
+    search_none h z k l = let o = (search_end h).all k l in rw (priceless o.2) at o.1
+      where
+        priceless : {x : ℕ} → Worse least best x k → x ≡ 0
+        priceless (nothing e) = e
+        priceless (dearer nc o) = absurd (nc z)
+        priceless (later nc e o) = absurd (nc z)
+
     module _ (h : i < length live) where
       pub search_rule : get_or live i 0 < length rules / rule_width
       search_rule = v.held.below i h

@@ -3,7 +3,7 @@ ghost use Rattle.std.specs.Prelude.{◌≡◌, ◌&&◌, ◌||◌, not, ◌+◌,
 ghost use Rattle.forest.specs.Limits.{most_rules};
 ghost use Rattle.derivation.specs.code.Rules.{rule_width};
 ghost use Rattle.searching.specs.code.Search.{Asks};
-ghost use Rattle.searching.specs.code.Filling.{AllExact, Chooses, Live, MasksPre, NodeIs, Price, PricedLive, Prices, RowPre, SettlePre, Settles};
+ghost use Rattle.searching.specs.code.Filling.{AllExact, Chose, Live, MasksPre, NodeIs, Price, PricedLive, Prices, RowPre, SettlePre, Settles};
 
 use crate::copy;
 use crate::masks::{MARKS, MASK};
@@ -15,7 +15,7 @@ use forest::numbers::entry_at;
 use terms::codes::NON_TERMINAL;
 use terms::{ROW, code_at, value_at};
 
-// The rule that leads to the least list, and the rank of that list; 0 if there is none.
+// The rule that leads to the least list, and the rank of that list.
 #[derive(Clone, Copy)]
 struct Choice {
     rule: usize,
@@ -80,7 +80,7 @@ fn better(cost: u64, least: u64) -> bool
     (cost != 0) & ((least == 0) | (cost < least))
 }
 
-// Of the rules of non-terminals that are not known the one of the least price, the first of equals; `live` has all that can add something.
+// Of the rules of non-terminals that are not known the one of the least price, the first of equals, if one has a price; `live` has all that can add something.
 fn choose(
     rules: &[u64],
     forms: &[u64],
@@ -88,11 +88,11 @@ fn choose(
     live: &[u16],
     row: &[u64],
     known: u64,
-) -> Choice
+) -> Option<Choice>
     requires { Prices rules.now forms.now row.now
         × Live rules.now forms.now costs.now (length rules.now / rule_width) live.now (length live.now) }
-    ensures { Chooses rules.now forms.now costs.now row.now known
-        (length rules.now / rule_width) result.rule result.rank }
+    ensures { Chose rules.now forms.now costs.now row.now known
+        (length rules.now / rule_width) result }
 {
     let mut best: usize = 0;
     let mut least: u64 = 0;
@@ -104,10 +104,13 @@ fn choose(
             least = cost;
         }
     }
-    Choice {
+    if least == 0 {
+        return None;
+    }
+    Some(Choice {
         rule: best,
         rank: least,
-    }
+    })
 }
 
 // Settles the non-terminals of a node one by one, the cheapest first; `row` gets their ranks, `chosen` for each the rule to use.
@@ -124,18 +127,13 @@ fn settle(
         row.new chosen.new result }
 {
     let mut known: u64 = 0;
-    loop {
-        let choice = choose(rules, forms, costs, live, row, known);
-        let rank = choice.rank;
-        if rank == 0 {
-            return known;
-        }
-        let rule = choice.rule;
-        let nonterminal = non_terminal_at(rules, rule);
-        chosen[nonterminal as usize] = rule as u16;
-        row[nonterminal as usize] = rank;
+    while let Some(choice) = choose(rules, forms, costs, live, row, known) {
+        let nonterminal = non_terminal_at(rules, choice.rule);
+        chosen[nonterminal as usize] = choice.rule as u16;
+        row[nonterminal as usize] = choice.rank;
         known = put(known, nonterminal);
     }
+    known
 }
 
 // No price for each rule.

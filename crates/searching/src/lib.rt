@@ -77,10 +77,7 @@ pub fn derive(
         &mut masks[..long],
         &mut choices,
         &mut list,
-    );
-    if rank == 0 {
-        return None;
-    }
+    )?;
     copy(&list, area, LIST * function);
     Some(rank / PER_WEIGHT)
 }

@@ -108,7 +108,7 @@ fn spread(
     next
 }
 
-// The rank of the least list by which the start derives the body, which goes to the front of the list; 0 if there is none.
+// The rank of the least list by which the start derives the body, if there is one, which goes to the front of the list.
 pub fn show(
     rules: &[u64],
     forms: &[u64],
@@ -116,15 +116,15 @@ pub fn show(
     masks: &mut [u64],
     choices: &mut [u16],
     shown: &mut [u16],
-) -> u64
+) -> Option<u64>
     requires { ShowPre rules.now forms.now body.now masks.old choices.old shown.old }
     ensures { Shows rules.now forms.now body.now masks.old choices.old
         shown.old shown.new result }
 {
     fill_masks(rules, forms, body, masks, choices);
     if !has(mask_at(masks, 0), START) {
-        return 0;
+        return None;
     }
     emit(rules, forms, body, choices, 0, START, shown, 0);
-    rank_at(masks, 0, START)
+    Some(rank_at(masks, 0, START))
 }

@@ -24,18 +24,18 @@ slice_bounds-show-end c =
       c.no_masks-masks.ensures,
     )
 
-pub show-rank-requires : goal.show-rank-requires
-show-rank-requires c =
+pub show-requires : goal.show-requires
+show-requires c =
     show_pre refl c.no_masks-masks.result c.no_masks-masks.ensures c.no_choices-choices.ensures
     c.blank-list.ensures c.requires
 
-pub returns-then-rank-eq0 : goal.returns-then-rank-eq0
-returns-then-rank-eq0 c =
-    derive_no refl c.no_masks-masks.result c.no_masks-masks.ensures c.no_choices-choices.ensures
-    c.blank-list.ensures c.show-rank.ensures c.if-rank-eq0.true
+pub returns-in_err-rank : goal.returns-in_err-rank
+returns-in_err-rank c =
+    rw c.from_residual.ensures
+    (derive_no refl c.no_masks-masks.result c.no_masks-masks.ensures c.no_choices-choices.ensures
+    c.blank-list.ensures c.in_err-rank.ensures)
 
 pub returns : goal.returns
 returns c =
     derive_yes refl c.no_masks-masks.result c.no_masks-masks.ensures c.no_choices-choices.ensures
-    c.blank-list.ensures c.show-rank.ensures c.if-rank-eq0.false
-    c.copy.ensures
+    c.blank-list.ensures c.in_ok-rank.ensures c.copy.ensures

@@ -1,6 +1,6 @@
 -- What filling the masks and ranks of the nodes asks and gives.
 use Rattle.forest.specs.Limits.{most_nodes, most_non_terminals, most_rules}
-use Rattle.std.specs.Prelude.{◌≡◌, ◌⊎◌, true, false, ℕ, ◌+◌, ◌*◌, ◌/◌, ◌<◌, ◌≤◌, List, length, get_or}
+use Rattle.std.specs.Prelude.{◌≡◌, ◌⊎◌, true, false, ℕ, ◌+◌, ◌*◌, ◌/◌, ◌<◌, ◌≤◌, List, MatchOption, Option, length, get_or}
 use Rattle.forest.specs.Forest.{none, tree}
 use Rattle.forest.specs.code.Cursors.{size, from}
 use Rattle.terms.specs.Labels.{Terms}
@@ -15,6 +15,7 @@ use Rattle.searching.specs.code.Ranks.{per_weight, most}
 use Rattle.derivation.specs.code.Forms.{Fits, NoChain}
 use Rattle.searching.specs.code.Search.{Asks, Chained, ExactAt, choice_at}
 use Rattle.searching.specs.code.Matching.{Matched}
+use Rattle.searching.specs.declared.filling.Choice.{Choice}
 
 -- Rule r can be used at the place of F's first tree, where the set s is known to be derived.
 pub data Applies (G : Grammar) (F : Terms) (s r : ℕ) : Type 0 where
@@ -71,6 +72,12 @@ pub data Worse (c r x k : ℕ) : Type 0 where
 pub record Chooses (rules forms costs row : List ℕ) (s n r c : ℕ) : Type 0 where
   pub is : (c ≡ 0 → ⊥) → (r < n) × Price rules forms costs row s r c
   pub all : (k : ℕ) → k < n → (x : ℕ) × Price rules forms costs row s k x × Worse c r x k
+
+-- What is chosen of the rules before the n-th, or none of them has a price.
+abbrev pub Chose : (rules forms costs row : List ℕ) (s n : ℕ) → Option Choice → Type 0
+Chose rules forms costs row s n found =
+    MatchOption found ((k : ℕ) → k < n → Price rules forms costs row s k 0)
+    (λ choice. (choice.rank ≡ 0 → ⊥) × Chooses rules forms costs row s n choice.rule choice.rank)
 
 -- s is the exact set at node i, the row has the ranks, and the choices lead from each of its members to a derivation.
 pub record NodeIs (rules forms body masks : List ℕ) (i : ℕ) (row chosen : List ℕ) (s : ℕ) : Type 0 where

@@ -1,6 +1,6 @@
 -- What writing the rules of a derivation asks and gives.
 use Rattle.forest.specs.Limits.{most_nodes, most_non_terminals}
-use Rattle.std.specs.Prelude.{◌≡◌, ℕ, ◌+◌, ◌*◌, ◌<◌, ◌≤◌, List, [], ◌++◌, length}
+use Rattle.std.specs.Prelude.{◌≡◌, ℕ, ◌+◌, ◌*◌, ◌<◌, ◌≤◌, List, [], ◌++◌, MatchOption, Option, length}
 use Rattle.std.proofs.lemmas.List.Edits.{sets}
 use Rattle.forest.specs.Forest.{none, tree, count}
 use Rattle.forest.specs.code.Cursors.{size, from, first}
@@ -117,12 +117,17 @@ pub record Written (G : Grammar) (F : Terms) (shown shown' : List ℕ) (r : ℕ)
   pub few : length ds ≤ most_non_terminals * size F
   pub rank : r ≡ rank_of G ds
 
--- The rank is that of the least derivation, which was written; or it is 0, and there is none.
-pub record ShowPost (rules forms body masks choices shown : List ℕ) (p : ShowPre rules forms body masks choices shown) (shown' : List ℕ) (r : ℕ) : Type 0 where
-  pub yes! : (r ≡ 0 → ⊥) → Written p.given.G p.given.F shown shown' r
-  pub no! : r ≡ 0 → ((ds : List ℕ) → Derives p.given.G start p.given.F ds → ⊥) × (shown' ≡ shown)
+-- No rules derive the body, and the list is as it was.
+pub record NotWritten (G : Grammar) (F : Terms) (shown shown' : List ℕ) : Type 0 where
+  pub none_derives : (ds : List ℕ) → Derives G start F ds → ⊥
+  pub unchanged : shown' ≡ shown
+
+-- There is a rank, that of the least derivation, which was written; or there is none.
+abbrev pub ShowPost : (rules forms body masks choices shown : List ℕ) → ShowPre rules forms body masks choices shown → (shown' : List ℕ) → Option ℕ → Type 0
+ShowPost rules forms body masks choices shown p shown' found =
+    MatchOption found (NotWritten p.given.G p.given.F shown shown') (Written p.given.G p.given.F shown shown')
 
 -- The same, for whatever the tables hold.
-abbrev pub Shows : (rules forms body masks choices shown shown' : List ℕ) → ℕ → Type 0
-Shows rules forms body masks choices shown shown' r =
-    (p : ShowPre rules forms body masks choices shown) → ShowPost rules forms body masks choices shown p shown' r
+abbrev pub Shows : (rules forms body masks choices shown shown' : List ℕ) → Option ℕ → Type 0
+Shows rules forms body masks choices shown shown' found =
+    (p : ShowPre rules forms body masks choices shown) → ShowPost rules forms body masks choices shown p shown' found
