@@ -5,9 +5,9 @@ ghost use Rattle.derivation.specs.code.Rules.{rule_width};
 ghost use Rattle.searching.specs.code.Search.{Asks};
 ghost use Rattle.searching.specs.code.Filling.{AllExact, Chose, Live, MasksPre, NodeIs, Price, PricedLive, Prices, RowPre, SettlePre, Settles};
 
-use crate::copy;
 use crate::masks::{MARKS, MASK};
 use crate::matching::{PER_WEIGHT, rank_of};
+use crate::{copy, filled};
 use derivation::masks::{has, put};
 use derivation::rules::{non_terminal_at, rules_in, start_at, weight_at};
 use forest::limits::{NON_TERMINALS, RULES};
@@ -136,20 +136,6 @@ fn settle(
     known
 }
 
-// No price for each rule.
-fn no_costs() -> [u64; RULES]
-    ensures { length result ≡ most_rules }
-{
-    [0u64; RULES]
-}
-
-// No rule for each place of a list of rules.
-fn no_rules() -> [u16; RULES]
-    ensures { length result ≡ most_rules }
-{
-    [0u16; RULES]
-}
-
 // The non-terminals that derive the tree at a node, with their ranks in `row`; `chosen` gets for each the rule to use.
 fn derivers(
     rules: &[u64],
@@ -163,8 +149,8 @@ fn derivers(
     requires { Asks rules.now forms.now body.now masks.now node × RowPre row.old chosen.old }
     ensures { NodeIs rules.now forms.now body.now masks.now node row.new chosen.new result }
 {
-    let mut costs = no_costs();
-    let mut live = no_rules();
+    let mut costs: [u64; RULES] = filled(0);
+    let mut live: [u16; RULES] = filled(0);
     let kept = price_rules(rules, forms, body, masks, node, &mut costs, &mut live);
     settle(rules, forms, &costs, &live[..kept], row, chosen)
 }

@@ -25,18 +25,11 @@ const MARKED: usize = NODES * MARKS;
 // How many numbers the table of choices has room for.
 const CHOSEN: usize = NODES * NON_TERMINALS;
 
-// A mask and the ranks for each node of a body.
-fn no_masks() -> [u64; MARKED]
-    ensures { length result ≡ most_nodes * mark_width }
+// A table with one number everywhere.
+fn filled<T: Copy, const N: usize>(number: T) -> [T; N]
+    ensures { length result ≡ N }
 {
-    [0u64; MARKED]
-}
-
-// A rule for each non-terminal at each node of a body.
-fn no_choices() -> [u16; CHOSEN]
-    ensures { length result ≡ most_nodes * most_non_terminals }
-{
-    [0u16; CHOSEN]
+    [number; N]
 }
 
 // A list of one function with every entry unused.
@@ -67,8 +60,8 @@ pub fn derive(
         result }
 {
     let long = body.len() / ROW * MARKS;
-    let mut masks = no_masks();
-    let mut choices = no_choices();
+    let mut masks: [u64; MARKED] = filled(0);
+    let mut choices: [u16; CHOSEN] = filled(0);
     let mut list = blank();
     let rank = showing::show(
         rules,
