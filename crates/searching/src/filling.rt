@@ -1,5 +1,5 @@
 //! Which non-terminals derive the tree at each node of the body, the rank of the least list of each, and the rule that it begins with.
-ghost use Rattle.std.specs.Prelude.{◌≡◌, ◌&&◌, ◌||◌, not, ◌+◌, ◌/◌, ◌<◌, ◌≤◌, eqb, ltb, length};
+ghost use Rattle.std.specs.Prelude.{◌≡◌, ◌&&◌, ◌||◌, not, ◌+◌, ◌/◌, ◌<◌, eqb, ltb, length};
 ghost use Rattle.forest.specs.Limits.{most_rules};
 ghost use Rattle.derivation.specs.code.Rules.{rule_width};
 ghost use Rattle.searching.specs.code.Search.{Asks};
@@ -80,7 +80,7 @@ fn better(cost: u64, least: u64) -> bool
     (cost != 0) & ((least == 0) | (cost < least))
 }
 
-// Of the rules of non-terminals that are not known the one of the least price, the first of equals, if one has a price; `live` has all that can add something.
+// Of the rules of non-terminals that are not known the one of the least price, the first of equals; `live` has all that can add something.
 fn choose(
     rules: &[u64],
     forms: &[u64],

@@ -3,11 +3,10 @@
 //! `rules`, `forms` and `body` are the tables of crate `derivation`.
 #![tactic(auto)]
 
-ghost use Rattle.std.specs.Prelude.{◌≡◌, ◌+◌, ◌*◌, ◌≤◌, length, replicate};
+ghost use Rattle.std.specs.Prelude.{◌≡◌, ◌+◌, ◌≤◌, length, replicate};
 ghost use Rattle.std.proofs.lemmas.List.Edits.{sets};
 ghost use Rattle.searching.specs.code.Derive.{Decides, DerivePre};
-ghost use Rattle.searching.specs.code.Masks.{mark_width};
-ghost use Rattle.forest.specs.Limits.{list_size, most_nodes, most_non_terminals, unused};
+ghost use Rattle.forest.specs.Limits.{list_size, unused};
 
 use forest::limits::{LIST, NODES, NON_TERMINALS, UNUSED};
 use masks::MARKS;
@@ -47,7 +46,7 @@ fn copy<T: Copy>(list: &[T], area: &mut [T], at: usize)
     area[at..at + list.len()].copy_from_slice(list);
 }
 
-// What the least derivation of the body from the start weighs in all, if there is one; the function's list in the area gets it, and its other entries are unused.
+// What the least derivation of the body weighs in all, if there is one; the function's list in the area gets it, and its other entries are unused.
 pub fn derive(
     rules: &[u64],
     forms: &[u64],
