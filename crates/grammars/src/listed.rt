@@ -97,23 +97,20 @@ pub fn listing_misfit(
     ensures { (p : GroupsAt text.now lexemes.now names.now at listed) → ListingTested p nowhere result }
 {
     let close = next_at(lexemes, at) - 1;
-    let past = NON_TERMINALS + listed;
     let mut place = usize::MAX;
     let mut group = at + 1;
-    let mut row = NON_TERMINALS;
-    while group < close {
-        if row >= past {
-            return least(place, group + 1);
+    for row in NON_TERMINALS..NON_TERMINALS + listed {
+        if group >= close {
+            return least(place, close);
         }
         place = least(
             place,
             group_misfit(text, lexemes, names, group, row, nowhere),
         );
         group = next_at(lexemes, group);
-        row += 1;
     }
-    if row < past {
-        return least(place, close);
+    if group < close {
+        return least(place, group + 1);
     }
     least(place, nowhere)
 }
