@@ -6,7 +6,7 @@ ghost use Rattle.lexemes.specs.code.Reserved.{KnownTables};
 ghost use Rattle.lexemes.specs.code.Table.{keyword_code, lexeme_table};
 ghost use Rattle.words.specs.Words.{words_of};
 
-use crate::reserved::{first_names, first_slots, first_starts, word_number};
+use crate::reserved::{WordTable, first_names, first_slots, first_starts, word_number};
 use crate::{OTHER_KEYWORD, ROW, SYMBOL, WEIGHT, WEIGHTS};
 use forest::search::same_bytes;
 use operators::operators::{operator_names, operator_slots, operator_starts};
@@ -15,35 +15,22 @@ use words::table::{KEYWORD, end_at, kind_at, next_at, start_at, width_at};
 // The number of a keyword's kind.
 const KEYWORD_KIND: u64 = KEYWORD as u64;
 
-// The keyword of the feature; that of a rule's weight is all of it but its last byte.
-const FEATURE: [u8; 8] = *b":weights";
-
 // The code of a keyword.
 fn keyword_code(word: &[u8]) -> u64
     ensures { result ≡ keyword_code word.now }
 {
-    let name = FEATURE;
-    if same_bytes(&name, word) {
+    if same_bytes(b":weights", word) {
         return WEIGHTS;
     }
-    if same_bytes(&name[..7], word) {
+    if same_bytes(b":weight", word) {
         return WEIGHT;
     }
     OTHER_KEYWORD
 }
 
 // The code of a word by the number of its kind and its bytes.
-fn code_of(
-    kind: u64,
-    word: &[u8],
-    names: &[u8],
-    starts: &[usize],
-    slots: &[u8],
-    operator_names: &[u8],
-    operator_starts: &[usize],
-    operator_slots: &[u8],
-) -> u64
-    requires { KnownTables names.now starts.now slots.now operator_names.now operator_starts.now operator_slots.now }
+fn code_of(kind: u64, word: &[u8], first: WordTable, operators: WordTable) -> u64
+    requires { KnownTables first operators }
     ensures { result ≡ code_by kind word.now }
 {
     if kind < WEIGHTS {
@@ -52,15 +39,7 @@ fn code_of(
     if kind == KEYWORD_KIND {
         return keyword_code(word);
     }
-    let number = word_number(
-        word,
-        names,
-        starts,
-        slots,
-        operator_names,
-        operator_starts,
-        operator_slots,
-    );
+    let number = word_number(word, first, operators);
     SYMBOL + number as u64
 }
 
@@ -86,21 +65,27 @@ pub fn number_words(text: &[u8], words: &[u32], values: &[u64], count: usize, le
     let names = first_names();
     let starts = first_starts();
     let slots = first_slots();
+    let first = WordTable {
+        names: &names,
+        starts: &starts,
+        slots: &slots,
+    };
     let names_of_operators = operator_names();
     let starts_of_operators = operator_starts();
     let slots_of_operators = operator_slots();
+    let operators = WordTable {
+        names: &names_of_operators,
+        starts: &starts_of_operators,
+        slots: &slots_of_operators,
+    };
     for word in 0..count {
         let start = start_at(words, word);
         let end = end_at(words, word);
         let code = code_of(
             kind_at(words, word) as u64,
             &text[start..end],
-            &names,
-            &starts,
-            &slots,
-            &names_of_operators,
-            &starts_of_operators,
-            &slots_of_operators,
+            first,
+            operators,
         );
         put_row(words, values, word, code, lexemes);
     }

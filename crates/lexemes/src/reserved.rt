@@ -78,6 +78,14 @@ const SLOTS_OF: [u8; SLOTS] =
       ~~~~~~~~~\x26\x07~~~~\x21\x13\x09~~~~~~~~~~~~\x0f~~~~~~~~~~~~\x1c~~~~~~~~~~~\x04~~~~\x22~~~~~~~~~~~~~~~~~\x25~~~~~~~~~~~~~~~~~~~~~~~~~~~~~~~\x03~~~~~~~~~~~\x05~\x14~~~\
       ~~~~~~~~~~~~~\x02\x0a~~~~~~~~~~~~~\x19~\x1b~~~~~~~\x1d~~~~~~~~~~~~~~~~\x1a~~~~~~~~~~~~~~~~\x11~~~~~\x0d~~~\x17~~~~~~~~~~~~~~~~~~~~~~~~\x15~~~~~\x29~~~~~~~\x0e~~~~~~";
 
+// Words one after the other in one list of bytes, where each of them starts, and in the slot of each its number.
+#[derive(Clone, Copy)]
+pub(crate) struct WordTable<'a> {
+    pub names: &'a [u8],
+    pub starts: &'a [usize],
+    pub slots: &'a [u8],
+}
+
 // The table of the words before the operators.
 pub(crate) fn first_names() -> [u8; 504]
     ensures { result ≡ joined first_spellings }
@@ -100,16 +108,8 @@ pub(crate) fn first_slots() -> [u8; SLOTS]
 }
 
 // The number of a symbol among the known words; past the last of them where it is none, and beyond that for the word of a constant.
-pub(crate) fn word_number(
-    word: &[u8],
-    names: &[u8],
-    starts: &[usize],
-    slots: &[u8],
-    operator_names: &[u8],
-    operator_starts: &[usize],
-    operator_slots: &[u8],
-) -> usize
-    requires { KnownTables names.now starts.now slots.now operator_names.now operator_starts.now operator_slots.now }
+pub(crate) fn word_number(word: &[u8], first: WordTable, operators: WordTable) -> usize
+    requires { KnownTables first operators }
     ensures { result ≡ word_number word.now }
 {
     if is_decimal(word) {
@@ -118,9 +118,9 @@ pub(crate) fn word_number(
         }
         return CONSTANT;
     }
-    let place = find_word(names, starts, slots, word);
+    let place = find_word(first.names, first.starts, first.slots, word);
     if place < BEFORE_OPERATORS {
         return place;
     }
-    BEFORE_OPERATORS + operator_of(operator_names, operator_starts, operator_slots, word)
+    BEFORE_OPERATORS + operator_of(operators.names, operators.starts, operators.slots, word)
 }

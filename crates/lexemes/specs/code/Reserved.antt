@@ -6,6 +6,7 @@ use Rattle.forest.specs.code.Search.{TablesOf}
 use Rattle.word_kinds.specs.Decimals.{is_decimal, is_long}
 use Rattle.operators.specs.Operators.{Operator, operators}
 use Rattle.operators.specs.code.Operators.{spellings}
+use Rattle.lexemes.specs.declared.reserved.WordTable.{WordTable}
 use Rattle.lexemes.specs.Reserved.{carried_commands, other_commands, other_words, is_word}
 
 -- Words that are not reserved but told apart: the logic that is carried, and the two responses that are no list.
@@ -37,6 +38,6 @@ unfoldable pub word_number : (name : List ℕ) → ℕ
 word_number name = cond (is_decimal name) (length known_words + cond (is_long name) 2 1) (place_among known_words 0 name)
 
 -- The tables of the words before the operators, and those of the operators.
-pub record KnownTables (names starts slots operatorNames operatorStarts operatorSlots : List ℕ) : Type 0 where
-  pub first : TablesOf first_spellings names starts slots
-  pub operators_behind : TablesOf (spellings operators) operatorNames operatorStarts operatorSlots
+pub record KnownTables (first operatorTable : WordTable) : Type 0 where
+  pub first_are : TablesOf first_spellings first.names.now first.starts.now first.slots.now
+  pub operators_are : TablesOf (spellings operators) operatorTable.names.now operatorTable.starts.now operatorTable.slots.now

@@ -16,8 +16,8 @@ slice_bounds-code_of-end c = search word_end
 pub code_of-code-requires : goal.code_of-code-requires
 code_of-code-requires c =
     record {
-      first = record { names_are = c.first_names-names.ensures; starts_are = c.first_starts-starts.ensures; slots_are = c.first_slots-slots.ensures };
-      operators_behind = record { names_are = c.operator_names-names_of_operators.ensures; starts_are = c.operator_starts-starts_of_operators.ensures; slots_are = c.operator_slots-slots_of_operators.ensures };
+      first_are = record { names_are = c.first_names-names.ensures; starts_are = c.first_starts-starts.ensures; slots_are = c.first_slots-slots.ensures };
+      operators_are = record { names_are = c.operator_names-names_of_operators.ensures; starts_are = c.operator_starts-starts_of_operators.ensures; slots_are = c.operator_slots-slots_of_operators.ensures };
     }
 
 pub put_row-requires : goal.put_row-requires
