@@ -1,5 +1,5 @@
 -- The answer on a file with what it carries, from its blocks, its lengths and its texts.
-use Prim.Native.Nat.{ℕ, ◌+◌, ◌≤◌, ◌<◌}
+use Prim.Native.Nat.{ℕ, ◌+◌, ◌≤◌}
 use native.Mathlib.Omega.{arith}
 use mathlib.Core.List.{List}
 use mathlib.Core.Option.{none as nothing, some}
@@ -13,10 +13,9 @@ use Rattle.outcome.specs.declared.Answer.{Answer}
 use Rattle.outcome.specs.declared.Location.{Location}
 use Rattle.outcome.specs.declared.Outcome.{Outcome}
 use Rattle.outcome.proofs.Texts.{long_number}
-use Rattle.blocks.specs.Blocks.{blocks_in, payload_in}
+use Rattle.blocks.specs.Blocks.{payload_in}
 use Rattle.blocks.specs.Layout.{file_fault, response_in, response_length_in, script_in, script_length_in}
-use Rattle.blocks.specs.code.Below.{Below, wrong_or}
-use Rattle.blocks.proofs.Filling.{not_refused, refused_at}
+use Rattle.blocks.specs.code.Below.{Below}
 use Rattle.blocks.proofs.Parts.{needed_within, response-size, script-size}
 use Rattle.both_texts.specs.code.Lengths.{LengthsTold, Sized}
 use Rattle.evidence.specs.Evidence.{AuditGiven, Audited, texts_refused, wrong_block}
@@ -59,20 +58,21 @@ module _ {file script response : List ℕ} (rooms : TextRooms file script respon
           short = subst₂ (λ (x y : List ℕ). length_answer x y ≡ nothing) (sym one) (sym two) rooms.short;
         }
 
-module _ (file : List ℕ) {w n : ℕ} (ew : w ≡ wrong_or (blocks_in file) (file_fault file)) (en : n ≡ blocks_in file) where
+module _ (file : List ℕ) where
   -- A block is at fault.
-  pub block_told : w < n → {o : Outcome} {answer : Answer} → o ≡ refusal 21 no_text w → answer ≡ unlocated o → AuditGiven file answer
+  pub block_told : {w : ℕ} → file_fault file ≡ some w → {o : Outcome} {answer : Answer} → o ≡ refusal 21 no_text w → answer ≡ unlocated o
+      → AuditGiven file answer
   unfolding located
-  block_told h eo is = rw (is, eo) (record { audited = wrong_block (refused_at file ew en h); carried = refl; unweighed = refl })
+  block_told fault eo is = rw (is, eo) (record { audited = wrong_block fault; carried = refl; unweighed = refl })
 
-  module _ (h : n ≤ w) {s r bound : ℕ} (es : Below (script_length_in file) bound s) (er : Below (response_length_in file) bound r) {o : Outcome}
+  module _ (right : file_fault file ≡ nothing) {s r bound : ℕ} (es : Below (script_length_in file) bound s) (er : Below (response_length_in file) bound r) {o : Outcome}
       (lengths : LengthsTold s r o) where
     -- The texts of a file without a fault are as long as it says.
     sized : Sized s r (script_in file) (response_in file)
     sized =
         record {
-          script_is = script-size file (not_refused file ew en h) ∙ sym es.is;
-          response_is = response-size file (not_refused file ew en h) ∙ sym er.is;
+          script_is = script-size file right ∙ sym es.is;
+          response_is = response-size file right ∙ sym er.is;
         }
 
     -- A text is too long.
@@ -81,13 +81,13 @@ module _ (file : List ℕ) {w n : ℕ} (ew : w ≡ wrong_or (blocks_in file) (fi
     long_told other is =
         let e : length_answer (script_in file) (response_in file) ≡ some o = lengths.refused other sized in
         let number : o.number ≡ 1 = long_number (script_in file) (response_in file) e in
-        rw is (record { audited = texts_refused (not_refused file ew en h) (too_long e) other; carried = rw number refl; unweighed = refl })
+        rw is (record { audited = texts_refused right (too_long e) other; carried = rw number refl; unweighed = refl })
 
     -- Neither is, and what is lent has room for them.
     pub rooms_right : o.number ≡ 0 → {script response : List ℕ} → length script ≡ s → length response ≡ r → TextRooms file script response
     rooms_right zero ls lr =
         record {
-          right = not_refused file ew en h;
+          right = right;
           short = lengths.passes zero sized;
           script_long = ls ∙ es.is;
           response_long = lr ∙ er.is;

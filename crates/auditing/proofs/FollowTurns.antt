@@ -18,7 +18,7 @@ use Rattle.blocks.specs.Layout.{list_in, lists_from, lists_in}
 use Rattle.evidence.specs.Evidence.{FirstUnfollowed, Followed}
 use Rattle.evidence.specs.Evidence.FirstUnfollowed.{absent_here, absent_later, here, later}
 use Rattle.evidence.specs.Evidence.Followed.{absent, also, no_more}
-use Rattle.auditing.specs.code.Lists.{FileHeld, FollowedOr, ListTold}
+use Rattle.auditing.specs.code.Lists.{FileHeld, ListTold}
 
 -- The lists from function j on are its own and those of the functions behind it.
 lists_next : (file : List ℕ) (j : ℕ) → j < most_functions
@@ -60,16 +60,13 @@ module _ {file places nodes forms : List ℕ} {p : Progress} (q : FileHeld file 
   no_body {j} past = drop_of_length-le q.bodies {i = j} (omega (arith, bodies_many q.held))
 
   -- Past the last list all are as they must be.
-  pub going_done : {j : ℕ} → Going j → most_functions ≤ j → FollowedOr q most_functions
+  pub going_done : {j : ℕ} → Going j → most_functions ≤ j → Followed ordered (terms_of q.bodies) (lists_in file)
   unfolding lists_from
   going_done {j} g past =
       let last : j ≡ most_functions = omega (arith, g.low) in
       let few : p.functions ≤ j = omega (arith, q.held.counted.few_functions) in
       let none_left : most_functions - j ≡ 0 = omega arith in
-      record {
-        all! = λ h. g.followed_all (rw (no_function few, no_body few, none_left) no_more);
-        one! = λ h. absurd (omega arith);
-      }
+      g.followed_all (rw (no_function few, no_body few, none_left) no_more)
 
   module _ {j : ℕ} (g : Going j) (more : j < most_functions) {answer : Bool} (told : ListTold file places nodes forms p j answer) where
     module _ (there : j < p.functions) where
@@ -117,8 +114,8 @@ module _ {file places nodes forms : List ℕ} {p : Progress} (q : FileHeld file 
           }
 
     -- A list that is not as it must be is the first.
-    pub going_fails : answer ≡ false → FollowedOr q j
-    going_fails fails = record { all! = λ h. absurd (omega arith); one! = λ h. pick (dec_lt j p.functions) }
+    pub going_fails : answer ≡ false → FirstUnfollowed ordered (terms_of q.bodies) (lists_in file) j
+    going_fails fails = pick (dec_lt j p.functions)
       where
         pick : Dec (j < p.functions) → FirstUnfollowed ordered (terms_of q.bodies) (lists_in file) j
         pick (yes h) = there_fails h fails

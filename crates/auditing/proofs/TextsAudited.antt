@@ -1,9 +1,9 @@
 -- The answer on the texts of a file without a fault, from the calls that read them and follow the lists.
-use Prim.Native.Nat.{ℕ, ◌≤◌, ◌<◌}
+use Prim.Native.Nat.{ℕ}
+use Rattle.std.proofs.Common.{None, Some}
 use mathlib.Core.List.{List}
 use mathlib.Core.Option.{none as nothing}
 use mathlib.Core.Path.{◌≡◌, subst, subst₂}
-use Rattle.forest.specs.Limits.{most_functions}
 use Rattle.words.specs.Limits.{response_limits}
 use Rattle.words.specs.declared.Limits.{Limits}
 use Rattle.outcome.specs.Accepted.{TextsPass}
@@ -49,11 +49,10 @@ module _ {limits : Limits} {file script response names places nodes forms : List
           passing = subst₂ (λ (a b : List ℕ). TextsPass response_limits a b file_held.known file_held.bodies) texts.script_is texts.response_is own;
         }
 
-    module _ {j : ℕ} (followed : AllFollowed file places nodes forms r.progress j) {o : Outcome} where
-      -- a list is not as it must be
-      pub one_unfollowed : j < most_functions → o ≡ refusal 22 no_text j → Audited file o
-      one_unfollowed h is = rw is (not_followed passes ((followed file_held).one! h))
+    -- a list is not as it must be
+    pub one_unfollowed : {j : ℕ} → AllFollowed file places nodes forms r.progress (Some j) → {o : Outcome} → o ≡ refusal 22 no_text j → Audited file o
+    one_unfollowed first is = rw is (not_followed passes (first file_held))
 
-      -- each is
-      pub all_followed : most_functions ≤ j → o ≡ refusal 0 no_text 0 → Audited file o
-      all_followed h is = rw is (accepted passes ((followed file_held).all! h))
+    -- each is
+    pub all_followed : AllFollowed file places nodes forms r.progress None → {o : Outcome} → o ≡ refusal 0 no_text 0 → Audited file o
+    all_followed all is = rw is (accepted passes (all file_held))

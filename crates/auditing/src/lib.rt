@@ -10,8 +10,8 @@ ghost use Rattle.evidence.specs.Evidence.{AuditForC, AuditGiven};
 ghost use Rattle.auditing.specs.code.Files.{FileTexts, TextRooms};
 
 use crate::reading::audit_texts;
+use blocks::HEAD;
 use blocks::reading::{copy_part, file_fault, response_length, script_length};
-use blocks::{HEAD, blocks_in};
 use both_texts::answers::{unlocated, write_answer};
 use both_texts::lengths::length_answer;
 use both_texts::located::locate;
@@ -60,8 +60,7 @@ fn response_room() -> [u8; RESPONSE_BYTES]
 pub fn check_evidence(file: &[u8]) -> Answer
     ensures { AuditGiven file.now result }
 {
-    let block = file_fault(file);
-    if block < blocks_in(file) {
+    if let Some(block) = file_fault(file) {
         return unlocated(refusal(WRONG_BLOCK, NONE, block));
     }
     let script_size = script_length(file);

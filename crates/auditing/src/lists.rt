@@ -67,23 +67,21 @@ fn list_passes(
     follow_one(file, places, nodes, forms, function)
 }
 
-// The first function whose list is not as it must be; how many functions there may be where each is.
+// The first function whose list is not as it must be.
 pub(crate) fn follow_all(
     file: &[u8],
     places: &[u64],
     nodes: &[u64],
     forms: &[u64],
     progress: Progress,
-) -> usize
+) -> Option<usize>
     requires { FileHeld file.now places.now nodes.now forms.now progress }
     ensures { AllFollowed file.now places.now nodes.now forms.now progress result }
 {
-    let mut function = 0;
-    while function < FUNCTIONS {
+    for function in 0..FUNCTIONS {
         if !list_passes(file, places, nodes, forms, progress, function) {
-            return function;
+            return Some(function);
         }
-        function += 1;
     }
-    FUNCTIONS
+    None
 }

@@ -10,7 +10,6 @@ use both_texts::tables::{
     are_short, form_room, is_middling, middle_forms, middle_nodes, no_names, no_places, node_room,
     short_forms, short_nodes,
 };
-use forest::limits::FUNCTIONS;
 use outcome::{NONE, Outcome, refusal};
 use script::answers::{ACCEPTED, NOT_FOLLOWED};
 use words::response_limits;
@@ -42,11 +41,10 @@ fn audit_in(
     if told.outcome.number != ACCEPTED {
         return told.outcome;
     }
-    let function = follow_all(file, &places, nodes, forms, told.progress);
-    if function < FUNCTIONS {
-        return refusal(NOT_FOLLOWED, NONE, function);
+    match follow_all(file, &places, nodes, forms, told.progress) {
+        Some(function) => refusal(NOT_FOLLOWED, NONE, function),
+        None => refusal(ACCEPTED, NONE, 0),
     }
-    refusal(ACCEPTED, NONE, 0)
 }
 
 // The same in tables that fit the texts.

@@ -8,8 +8,8 @@ use lib.ListN.{drop, length, replicate, set}
 use Rattle.forest.specs.Lists.{same_bytes}
 use Rattle.forest.specs.Tables.{rows}
 use Rattle.blocks.specs.Layout.{filling_in, list_length_in, misfilled, number_in, response_length_in, rules_before, script_length_in, zeros as allZeros}
-use Rattle.blocks.specs.Blocks.{pay_in, payload_in, block_of, framed, filled, first_wrong, low, payload_of, right_block, right_bytes, sum_from, sum_of, wrong_from}
-use Rattle.blocks.specs.Blocks.{cut_into}
+use Rattle.blocks.specs.Blocks.{pay_in, payload_in, block_of, framed, filled, first_wrong, low, payload_of, right_block, right_bytes, sum_from, sum_of}
+use Rattle.blocks.specs.Blocks.{wrong_from, cut_into}
 
 -- "low byte first"
 four_bytes : low 4 65537 ≡ 1 ∷ 0 ∷ 1 ∷ 0 ∷ []

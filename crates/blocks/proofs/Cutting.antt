@@ -9,7 +9,8 @@ use mathlib.Core.List.{List, [], ◌∷◌, ◌++◌, append_assoc}
 use lib.Dec.{lit<}
 use lib.ListN.{drop, length, length-append, length-drop, length-replicate, replicate, take, take-append-drop}
 use lib.Seq.{drop_at, drop-drop, length-take-le, take_at}
-use Rattle.blocks.specs.Blocks.{block_of, blocks_in, cut_into, framed, filled, first_wrong, pay_in, payload_in, low, right_block, right_bytes, sum_of, wrong_from}
+use Rattle.blocks.specs.Blocks.{block_of, blocks_in, cut_into, framed, filled, first_wrong, pay_in, payload_in, low, right_block, right_bytes, sum_of}
+use Rattle.blocks.specs.Blocks.{wrong_from}
 use Rattle.blocks.proofs.Right.{bytes_same}
 
 block_length : (pay : List ℕ) → length pay ≡ 510 → length (block_of pay) ≡ 512

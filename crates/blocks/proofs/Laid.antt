@@ -16,7 +16,7 @@ use Rattle.blocks.specs.code.Lists.{file_length, rules_in}
 use Rattle.blocks.specs.code.Shown.{area_of, list_shown, list_with, lists_shown, lists_shown_from, rules_shown}
 use Rattle.blocks.proofs.Cutting.{framed_length}
 use Rattle.blocks.proofs.Stored.{payload_size, stored_right}
-use Rattle.blocks.proofs.Putting.{shown_most}
+use Rattle.blocks.proofs.Putting.{list_short}
 
 -- there are eight lists
 shown_count : (shown : List ℕ) (j n : ℕ) → length (lists_shown_from shown j n) ≡ n
@@ -124,9 +124,9 @@ part_small m n l h k = go (drop n l) (λ i. rw (get_or-drop n l i 0) (h (n + i))
 
 module _ (shown : List ℕ) where
   all_short : (n j i : ℕ) → length (get_or (lists_shown_from shown j n) i []) < 65536
-  unfolding lists_shown_from list_shown
+  unfolding lists_shown_from
   all_short zero j i = omega arith
-  all_short (suc n) j zero = omega (arith, shown_most (drop (4096 * j) shown))
+  all_short (suc n) j zero = omega (arith, list_short shown j)
   all_short (suc n) j (suc i) = all_short n (j + 1) i
 
   all-rules : ((k : ℕ) → get_or shown k 0 < 65536) → (n j i k : ℕ) → get_or (get_or (lists_shown_from shown j n) i []) k 0 < 65536

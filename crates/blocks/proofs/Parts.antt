@@ -9,8 +9,8 @@ use lib.ListN.{drop, get_or, length, length-drop, set, take}
 use lib.Seq.{length-take-le}
 use borrow.Author.Tests.{ltb-false}
 use Rattle.blocks.specs.Blocks.{first_wrong, payload_in}
-use Rattle.blocks.specs.Layout.{file_fault, filling_in, last_needed, list_at, list_in, list_length_in, misfilled, needed_in, or_else, response_in, response_length_in}
-use Rattle.blocks.specs.Layout.{rules_before, script_in, script_length_in, zeros}
+use Rattle.blocks.specs.Layout.{file_fault, filling_in, last_needed, list_at, list_in, list_length_in, misfilled, needed_in, or_else, response_in}
+use Rattle.blocks.specs.Layout.{response_length_in, rules_before, script_in, script_length_in, zeros}
 use Rattle.blocks.proofs.Changed.{changed}
 use Rattle.blocks.proofs.Whole.{neither, pairs_length, passes, rules-from, rules_from}
 

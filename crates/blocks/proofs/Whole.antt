@@ -15,8 +15,8 @@ use Rattle.forest.specs.Tables.{rows}
 use Rattle.forest.proofs.Bools.{and_left, and_right}
 use Rattle.forest.proofs.Options.{never}
 use Rattle.blocks.specs.Blocks.{file_of, filled, first_wrong, low, number_of, payload_in, payload_of}
-use Rattle.blocks.specs.Layout.{file_fault, filling_in, last_needed, list_at, list_in, list_length_in, lists_from, lists_in, misfilled, needed_in, number_in, or_else}
-use Rattle.blocks.specs.Layout.{pairs, response_in, response_length_in, rules_before, script_in, script_length_in, zeros}
+use Rattle.blocks.specs.Layout.{file_fault, filling_in, last_needed, list_at, list_in, list_length_in, lists_from, lists_in, misfilled, needed_in, number_in}
+use Rattle.blocks.specs.Layout.{or_else, pairs, response_in, response_length_in, rules_before, script_in, script_length_in, zeros}
 use Rattle.blocks.specs.code.Lists.{lengths_of, rules_of}
 use Rattle.blocks.proofs.Again.{file_is, pay_past, pay_told, payload_length}
 

@@ -4,9 +4,9 @@
 pub mod reading;
 pub mod writing;
 
-ghost use Rattle.std.specs.Prelude.{◌≡◌, ◌+◌, ◌≤◌, drop, get_or, length, take};
+ghost use Rattle.std.specs.Prelude.{◌≡◌, ◌+◌, ◌≤◌, MatchOption, drop, get_or, length, take};
+ghost use Rattle.std.proofs.Math.Option.{none, some};
 ghost use Rattle.blocks.specs.Blocks.{blocks_in, first_wrong, payload_in, pay_size, right_block, sum_from};
-ghost use Rattle.blocks.specs.code.Below.{wrong_or};
 
 // How many bytes a block has, and how many of them are payload.
 pub(crate) const BLOCK: usize = 512;
@@ -27,25 +27,14 @@ pub(crate) struct Place {
     pub(crate) sum: usize,
 }
 
-// A byte as a number.
-pub(crate) fn wide(byte: u8) -> usize
-    ensures { result ≡ byte }
-{
-    byte as usize
-}
-
 // The sum of each payload byte times its position from 1, in the block that starts at a byte of the file.
 fn sum_at(file: &[u8], start: usize) -> usize
     requires { start + pay_size ≤ length file.now }
     ensures { result ≡ sum_from 1 (take pay_size (drop start file.now)) }
 {
-    let mut sum: usize = 0;
-    let mut position: usize = 1;
-    let mut i = start;
-    while position <= PAY {
-        sum += position * wide(file[i]);
-        position += 1;
-        i += 1;
+    let mut sum = 0;
+    for (i, byte) in file[start..start + PAY].iter().enumerate() {
+        sum += (i + 1) * usize::from(*byte);
     }
     sum
 }
@@ -59,7 +48,8 @@ fn right_block(file: &[u8], block: usize) -> bool
     }
     let start = BLOCK * block;
     let sum = sum_at(file, start) % MODULUS;
-    (wide(file[start + PAY]) == sum % 256) & (wide(file[start + PAY + 1]) == sum / 256)
+    let held = u16::from_le_bytes([file[start + PAY], file[start + PAY + 1]]);
+    usize::from(held) == sum
 }
 
 // How many blocks a file has, a last one that is cut short among them; an empty file has one.
@@ -76,19 +66,16 @@ pub fn blocks_in(file: &[u8]) -> usize
     whole + 1
 }
 
-// The first block that is cut short or has a wrong sum; the number of blocks where there is none.
-pub(crate) fn first_wrong(file: &[u8]) -> usize
-    ensures { result ≡ wrong_or (blocks_in file.now) (first_wrong file.now) }
+// The first block that is cut short or has a wrong sum.
+pub(crate) fn first_wrong(file: &[u8]) -> Option<usize>
+    ensures { MatchOption result (first_wrong file.now ≡ none) (λ block. first_wrong file.now ≡ some block) }
 {
-    let count = blocks_in(file);
-    let mut block: usize = 0;
-    while block < count {
+    for block in 0..blocks_in(file) {
         if !right_block(file, block) {
-            return block;
+            return Some(block);
         }
-        block += 1;
     }
-    count
+    None
 }
 
 // Payload byte `place` of a file; 0 past the payload.

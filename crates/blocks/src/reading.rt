@@ -1,41 +1,47 @@
 //! What the payload of an evidence file says: its lengths, its texts and its lists, and whether the file is filled as it must be.
-ghost use Rattle.std.specs.Prelude.{◌≡◌, ◌+◌, ◌*◌, ◌-◌, ◌<◌, ◌≤◌, ◌^◌, drop, length, take};
+ghost use Rattle.std.specs.Prelude.{◌≡◌, ◌+◌, ◌*◌, ◌-◌, ◌<◌, ◌≤◌, ◌^◌, MatchOption, drop, length, take};
+ghost use Rattle.std.proofs.Math.Option.{none, some};
 ghost use Rattle.forest.specs.Limits.{most_functions};
-ghost use Rattle.blocks.specs.Blocks.{blocks_in, payload_in};
-ghost use Rattle.blocks.specs.code.Below.{Below, wrong_or};
+ghost use Rattle.blocks.specs.Blocks.{payload_in};
+ghost use Rattle.blocks.specs.code.Below.{Below};
 ghost use Rattle.blocks.specs.Layout.{file_fault, list_at, list_length_in, misfilled, number_in, pairs, response_length_in, rules_before, script_length_in, zeros};
 
-use crate::{BLOCK, HEAD, PAY, blocks_in, first_wrong, pay_at, wide};
+use crate::{BLOCK, HEAD, PAY, first_wrong, pay_at};
 use forest::limits::FUNCTIONS;
 
 // The number that two payload bytes hold, low byte first.
-fn pair_at(file: &[u8], place: usize) -> usize
+fn pair_at(file: &[u8], place: usize) -> u16
     requires { place + 1 < 2 ^ 64 }
-    ensures { Below (number_in (payload_in file.now) place 2) 65536 result }
+    ensures { result ≡ number_in (payload_in file.now) place 2 }
 {
-    wide(pay_at(file, place)) + 256 * wide(pay_at(file, place + 1))
+    u16::from_le_bytes([pay_at(file, place), pay_at(file, place + 1)])
 }
 
 // The number that four payload bytes hold, low byte first.
-fn four_at(file: &[u8], place: usize) -> usize
+fn four_at(file: &[u8], place: usize) -> u32
     requires { place + 3 < 2 ^ 64 }
-    ensures { Below (number_in (payload_in file.now) place 4) 4294967296 result }
+    ensures { result ≡ number_in (payload_in file.now) place 4 }
 {
-    pair_at(file, place) + 65536 * pair_at(file, place + 2)
+    u32::from_le_bytes([
+        pay_at(file, place),
+        pay_at(file, place + 1),
+        pay_at(file, place + 2),
+        pay_at(file, place + 3),
+    ])
 }
 
 // The length of the script, as a file says it.
 pub fn script_length(file: &[u8]) -> usize
     ensures { Below (script_length_in file.now) 4294967296 result }
 {
-    four_at(file, 0)
+    four_at(file, 0) as usize
 }
 
 // The length of the response, as a file says it.
 pub fn response_length(file: &[u8]) -> usize
     ensures { Below (response_length_in file.now) 4294967296 result }
 {
-    four_at(file, 4)
+    four_at(file, 4) as usize
 }
 
 // How many rules the list of function `function` has, as a file says it.
@@ -43,7 +49,7 @@ pub fn list_length(file: &[u8], function: usize) -> usize
     requires { function < most_functions }
     ensures { Below (list_length_in file.now function) 65536 result }
 {
-    pair_at(file, 8 + 2 * function)
+    usize::from(pair_at(file, 8 + 2 * function))
 }
 
 // How many rules the lists of the functions before `function` have.
@@ -52,10 +58,8 @@ fn rules_before(file: &[u8], function: usize) -> usize
     ensures { Below (rules_before file.now function) 524289 result }
 {
     let mut rules = 0;
-    let mut k = 0;
-    while k < function {
+    for k in 0..function {
         rules += list_length(file, k);
-        k += 1;
     }
     rules
 }
@@ -73,44 +77,33 @@ fn zeros_between(file: &[u8], from: usize, end: usize) -> bool
     requires { end ≤ length (payload_in file.now) }
     ensures { result ≡ zeros (take (end - from) (drop from (payload_in file.now))) }
 {
-    let mut place = from;
-    while place < end {
-        if pay_at(file, place) != 0 {
-            return false;
-        }
-        place += 1;
-    }
-    true
+    (from..end).all(|place| pay_at(file, place) == 0)
 }
 
-// The block that lengths past the file, a spare block or a wrong filling refuse, in a file of right blocks; the number of blocks where there is none.
-fn filling_fault(file: &[u8]) -> usize
-    ensures { result ≡ wrong_or (blocks_in file.now) (misfilled file.now) }
+// The block that lengths past the file, a spare block or a wrong filling refuse, in a file of right blocks.
+fn filling_fault(file: &[u8]) -> Option<usize>
+    ensures { MatchOption result (misfilled file.now ≡ none) (λ block. misfilled file.now ≡ some block) }
 {
     let whole = file.len() / BLOCK;
     let needed = list_at(file, FUNCTIONS);
     if needed > PAY * whole {
-        return 0;
+        return Some(0);
     }
     let last = (needed - 1) / PAY;
     if !zeros_between(file, needed, PAY * (last + 1)) {
-        return last;
+        return Some(last);
     }
     if PAY * (last + 1) < PAY * whole {
-        return last + 1;
+        return Some(last + 1);
     }
-    blocks_in(file)
+    None
 }
 
-// The block that answer 21 names; the number of blocks where the file is as it must be.
-pub fn file_fault(file: &[u8]) -> usize
-    ensures { result ≡ wrong_or (blocks_in file.now) (file_fault file.now) }
+// The block that answer 21 names; none where the file is as it must be.
+pub fn file_fault(file: &[u8]) -> Option<usize>
+    ensures { MatchOption result (file_fault file.now ≡ none) (λ block. file_fault file.now ≡ some block) }
 {
-    let wrong = first_wrong(file);
-    if wrong < blocks_in(file) {
-        return wrong;
-    }
-    filling_fault(file)
+    first_wrong(file).or_else(|| filling_fault(file))
 }
 
 // Copies the payload bytes from `from` on, as many as `out` has room for.
@@ -118,10 +111,8 @@ pub fn copy_part(file: &[u8], from: usize, out: &mut [u8])
     requires { from + length out.old ≤ length (payload_in file.now) }
     ensures { out.new ≡ take (length out.old) (drop from (payload_in file.now)) }
 {
-    let mut i = 0;
-    while i < out.len() {
-        out[i] = pay_at(file, from + i);
-        i += 1;
+    for (i, byte) in out.iter_mut().enumerate() {
+        *byte = pay_at(file, from + i);
     }
 }
 
@@ -130,9 +121,7 @@ pub fn copy_list(file: &[u8], from: usize, out: &mut [u16])
     requires { from + 2 * length out.old ≤ length (payload_in file.now) }
     ensures { out.new ≡ pairs (take (2 * length out.old) (drop from (payload_in file.now))) }
 {
-    let mut i = 0;
-    while i < out.len() {
-        out[i] = pair_at(file, from + 2 * i) as u16;
-        i += 1;
+    for (i, rule) in out.iter_mut().enumerate() {
+        *rule = pair_at(file, from + 2 * i);
     }
 }

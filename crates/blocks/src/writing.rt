@@ -1,21 +1,14 @@
 //! The writing of an evidence file: payload bytes one after the other, and behind every 510 of them their sum.
-ghost use Rattle.std.specs.Prelude.{◌≡◌, ◌+◌, ◌*◌, ◌<◌, ◌≤◌, ◌^◌, [], ◌∷◌, ◌++◌, drop, length, replicate, take};
-ghost use Rattle.forest.specs.Limits.{area_size, list_size};
+ghost use Rattle.std.specs.Prelude.{◌≡◌, ◌+◌, ◌*◌, ◌<◌, ◌≤◌, ◌^◌, ◌==◌, [], ◌∷◌, ◌++◌, length, not, replicate, take_while};
+ghost use Rattle.forest.specs.Limits.{area_size, most_functions, unused};
 ghost use Rattle.forest.specs.Tables.{over, rows};
 ghost use Rattle.blocks.specs.Blocks.{file_of, low};
 ghost use Rattle.blocks.specs.code.Lists.{file_length, lengths_of, rules_in, rules_of};
-ghost use Rattle.blocks.specs.code.Shown.{lists_shown, rules_shown};
+ghost use Rattle.blocks.specs.code.Shown.{list_shown, lists_shown};
 ghost use Rattle.blocks.specs.code.Places.{Fitting, Written};
 
-use crate::{BLOCK, HEAD, MODULUS, PAY, Place, wide};
+use crate::{BLOCK, HEAD, MODULUS, PAY, Place};
 use forest::limits::{FUNCTIONS, LIST, UNUSED};
-
-// A rule as a number.
-fn rule_number(rule: u16) -> usize
-    ensures { result ≡ rule }
-{
-    rule as usize
-}
 
 // Writes a payload byte, and behind the last one of a block the two bytes of the sum.
 fn put(area: &mut [u8], place: Place, byte: u8) -> Place
@@ -24,13 +17,13 @@ fn put(area: &mut [u8], place: Place, byte: u8) -> Place
 {
     let at = place.at;
     let filled = place.filled + 1;
-    let sum = (place.sum + filled * wide(byte)) % MODULUS;
+    let sum = (place.sum + filled * usize::from(byte)) % MODULUS;
     area[at] = byte;
     if filled < PAY {
         return Place {
             at: at + 1,
-            filled: filled,
-            sum: sum,
+            filled,
+            sum,
         };
     }
     area[at + 1] = (sum % 256) as u8;
@@ -48,10 +41,8 @@ fn put_bytes(area: &mut [u8], start: Place, bytes: &[u8]) -> Place
     ensures { Written start bytes.now area.old area.new result }
 {
     let mut place = start;
-    let mut i = 0;
-    while i < bytes.len() {
-        place = put(area, place, bytes[i]);
-        i += 1;
+    for byte in bytes {
+        place = put(area, place, *byte);
     }
     place
 }
@@ -62,58 +53,47 @@ fn put_zeros(area: &mut [u8], start: Place, count: usize) -> Place
     ensures { Written start (replicate count 0) area.old area.new result }
 {
     let mut place = start;
-    let mut i = 0;
-    while i < count {
+    for _ in 0..count {
         place = put(area, place, 0);
-        i += 1;
     }
     place
 }
 
-// Writes the two low bytes of a number.
-fn put_pair(area: &mut [u8], place: Place, number: usize) -> Place
-    requires { Fitting place (low 2 number) area.old }
-    ensures { Written place (low 2 number) area.old area.new result }
+// Writes the low bytes of a number, `size` of them.
+fn put_number(area: &mut [u8], place: Place, number: usize, size: usize) -> Place
+    requires size_low { size ≤ 8 }
+    requires fitting { Fitting place (low size number) area.old }
+    ensures { Written place (low size number) area.old area.new result }
 {
-    let middle = put(area, place, (number % 256) as u8);
-    put(area, middle, (number / 256 % 256) as u8)
+    put_bytes(area, place, &number.to_le_bytes()[..size])
 }
 
-// Writes the four low bytes of a number.
-fn put_four(area: &mut [u8], place: Place, number: usize) -> Place
-    requires { Fitting place (low 4 number) area.old }
-    ensures { Written place (low 4 number) area.old area.new result }
+// How many entries stand before the first that is not used.
+fn count_used(entries: &[u16]) -> usize
+    ensures { result ≡ length (take_while (λ entry. not (entry == unused)) entries.now) }
 {
-    let middle = put_pair(area, place, number);
-    put_pair(area, middle, number / 65536)
+    entries.iter().take_while(|entry| **entry != UNUSED).count()
 }
 
-// How many rules the list has that starts at an entry of the area.
-fn rules_shown(shown: &[u16], from: usize) -> usize
-    requires { from + list_size ≤ length shown.now }
-    ensures { result ≡ length (rules_shown (take list_size (drop from shown.now))) }
+// The list of a function.
+fn list_shown(shown: &[u16], function: usize) -> &[u16]
+    requires shown_len { length shown.now ≡ area_size }
+    requires function_low { function < most_functions }
+    ensures { result.now ≡ list_shown shown.now function }
 {
-    let mut i = 0;
-    while i < LIST {
-        if shown[from + i] == UNUSED {
-            return i;
-        }
-        i += 1;
-    }
-    LIST
+    let entries = &shown[LIST * function..LIST * (function + 1)];
+    let count = count_used(entries);
+    &entries[..count]
 }
 
-// Writes the rules of `count` entries of the area, two bytes each.
-fn put_rules(area: &mut [u8], start: Place, shown: &[u16], from: usize, count: usize) -> Place
-    requires count_in_bounds { from + count ≤ length shown.now }
-    requires fitting { Fitting start (rows (low 2) (take count (drop from shown.now))) area.old }
-    ensures { Written start (rows (low 2) (take count (drop from shown.now))) area.old area.new result }
+// Writes rules, two bytes each.
+fn put_rules(area: &mut [u8], start: Place, rules: &[u16]) -> Place
+    requires { Fitting start (rows (low 2) rules.now) area.old }
+    ensures { Written start (rows (low 2) rules.now) area.old area.new result }
 {
     let mut place = start;
-    let mut i = 0;
-    while i < count {
-        place = put_pair(area, place, rule_number(shown[from + i]));
-        i += 1;
+    for rule in rules {
+        place = put_number(area, place, usize::from(*rule), 2);
     }
     place
 }
@@ -125,10 +105,8 @@ fn put_lengths(area: &mut [u8], start: Place, shown: &[u16]) -> Place
     ensures { Written start (lengths_of (lists_shown shown.now)) area.old area.new result }
 {
     let mut place = start;
-    let mut function = 0;
-    while function < FUNCTIONS {
-        place = put_pair(area, place, rules_shown(shown, LIST * function));
-        function += 1;
+    for function in 0..FUNCTIONS {
+        place = put_number(area, place, list_shown(shown, function).len(), 2);
     }
     place
 }
@@ -140,11 +118,8 @@ fn put_lists(area: &mut [u8], start: Place, shown: &[u16]) -> Place
     ensures { Written start (rules_of (lists_shown shown.now)) area.old area.new result }
 {
     let mut place = start;
-    let mut function = 0;
-    while function < FUNCTIONS {
-        let count = rules_shown(shown, LIST * function);
-        place = put_rules(area, place, shown, LIST * function, count);
-        function += 1;
+    for function in 0..FUNCTIONS {
+        place = put_rules(area, place, list_shown(shown, function));
     }
     place
 }
@@ -155,10 +130,8 @@ pub fn rules_in(shown: &[u16]) -> usize
     ensures { result ≡ rules_in (lists_shown shown.now) }
 {
     let mut rules = 0;
-    let mut function = 0;
-    while function < FUNCTIONS {
-        rules += rules_shown(shown, LIST * function);
-        function += 1;
+    for function in 0..FUNCTIONS {
+        rules += list_shown(shown, function).len();
     }
     rules
 }
@@ -177,8 +150,8 @@ fn put_head(area: &mut [u8], start: Place, script: usize, response: usize, shown
     requires fitting { Fitting start (low 4 script ++ low 4 response ++ lengths_of (lists_shown shown.now)) area.old }
     ensures { Written start (low 4 script ++ low 4 response ++ lengths_of (lists_shown shown.now)) area.old area.new result }
 {
-    let first = put_four(area, start, script);
-    let second = put_four(area, first, response);
+    let first = put_number(area, start, script, 4);
+    let second = put_number(area, first, response, 4);
     put_lengths(area, second, shown)
 }
 

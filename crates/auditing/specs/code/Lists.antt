@@ -1,7 +1,6 @@
 -- What the check of the lists of a file asks and gives.
-use Rattle.std.specs.Prelude.{ℕ, ◌≤◌, ◌<◌, Bool, true, false, List, [], ◌≡◌}
+use Rattle.std.specs.Prelude.{ℕ, ◌≤◌, ◌<◌, Bool, true, false, List, [], ◌≡◌, MatchOption, Option}
 use Rattle.std.proofs.Math.Option.{none as nothing}
-use Rattle.forest.specs.Limits.{most_functions}
 use Rattle.terms.specs.Labels.{Terms}
 use Rattle.derivation.specs.Answer.{start}
 use Rattle.derivation.specs.Derivation.{Grammar, Simple}
@@ -51,11 +50,8 @@ pub record ListTold (file places nodes forms : List ℕ) (p : Progress) (j : ℕ
 abbrev pub ListPasses : (file places nodes forms : List ℕ) → Progress → (j : ℕ) → Bool → Type 0
 ListPasses file places nodes forms p j answer = FileHeld file places nodes forms p → ListTold file places nodes forms p j answer
 
--- Every list is as it must be, or function r is the first whose list is not.
-pub record FollowedOr {file places nodes forms : List ℕ} {p : Progress} (q : FileHeld file places nodes forms p) (r : ℕ) : Type 0 where
-  pub all! : most_functions ≤ r → Followed (in_script_order q.known.functions) (terms_of q.bodies) (lists_in file)
-  pub one! : r < most_functions → FirstUnfollowed (in_script_order q.known.functions) (terms_of q.bodies) (lists_in file) r
-
--- The same, for whatever the tables hold.
-abbrev pub AllFollowed : (file places nodes forms : List ℕ) → Progress → (r : ℕ) → Type 0
-AllFollowed file places nodes forms p r = (q : FileHeld file places nodes forms p) → FollowedOr q r
+-- Function r is the first whose list is not as it must be, or there is none, whatever the tables hold.
+abbrev pub AllFollowed : (file places nodes forms : List ℕ) → Progress → (r : Option ℕ) → Type 0
+AllFollowed file places nodes forms p r = (q : FileHeld file places nodes forms p)
+    → MatchOption r (Followed (in_script_order q.known.functions) (terms_of q.bodies) (lists_in file))
+    (λ j. FirstUnfollowed (in_script_order q.known.functions) (terms_of q.bodies) (lists_in file) j)

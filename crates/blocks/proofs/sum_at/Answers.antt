@@ -1,33 +1,32 @@
 use Rattle.blocks.proofs.Adding.{sum_end, sum_more, sum_start, term_small}
+use mathlib.Core.Path.{◌∙◌, ap, ◌≡◌}
+use Prim.Native.Nat.{ℕ, ◌+◌, ◌-◌, ◌<◌, ◌≤◌}
+use lib.ListN.{drop, length, length-take, take}
+use lib.Seq.{get_or-drop, get_or-take}
 use native.Mathlib.Omega.{arith}
+use Rattle.blocks.specs.Blocks.{sum_from}
 use Rattle.blocks.proofs.sum_at.Goals as goal
 
-pub loop-position-init : goal.loop-position-init
-loop-position-init c = search sum_start
+pub loop-i-init : goal.loop-i-init
+loop-i-init c = sum_start
 
-pub bounds-file-i : goal.bounds-file-i
-bounds-file-i c = omega arith
+byte : (c : goal.After-from) → c.from.result < 256
+byte c =
+    let low = c.type_inv.file (c.args.start + c.loop-i.i) in
+    let l = length-take (c.args.start + 510 - c.args.start) (drop c.args.start c.args.file.now) in
+    let e1 = get_or-take (c.args.start + 510 - c.args.start) (drop c.args.start c.args.file.now) c.loop-i.i 0 (omega (arith, l)) in
+    omega (arith, c.from.ensures, e1, get_or-drop c.args.start c.args.file.now c.loop-i.i 0)
 
-pub overflow_mul-sum : goal.overflow_mul-sum
-overflow_mul-sum c = let byte = c.type_inv.file c.loop-position.i in
-    omega (arith, term_small c.loop-position.invariant c.loop-position-test.true c.wide.ensures (omega arith))
+short : (c : goal.After-from) → length (take (c.args.start + 510 - c.args.start) (drop c.args.start c.args.file.now)) ≤ 510
+short c = omega (arith, length-take (c.args.start + 510 - c.args.start) (drop c.args.start c.args.file.now))
 
-pub overflow_add-sum : goal.overflow_add-sum
-overflow_add-sum c = let byte = c.type_inv.file c.loop-position.i in
-    omega (arith, term_small c.loop-position.invariant c.loop-position-test.true c.wide.ensures (omega arith))
+pub overflow_add-sum-in-loop-i : goal.overflow_add-sum-in-loop-i
+overflow_add-sum-in-loop-i c = omega (arith, term_small c.loop-i.invariant c.loop-i-test.true (short c) c.from.ensures (byte c))
 
-pub overflow_add-position : goal.overflow_add-position
-overflow_add-position c = omega arith
-
-pub overflow_add-i : goal.overflow_add-i
-overflow_add-i c = omega arith
-
-pub loop-position-smaller : goal.loop-position-smaller
-loop-position-smaller c = omega arith
-
-pub loop-position-preserved : goal.loop-position-preserved
-loop-position-preserved c = let byte = c.type_inv.file c.loop-position.i in
-    sum_more c.loop-position.invariant c.loop-position-test.true c.wide.ensures (omega arith)
+pub loop-i-preserved : goal.loop-i-preserved
+loop-i-preserved c = sum_more c.loop-i.invariant c.loop-i-test.true (short c) c.from.ensures (byte c)
 
 pub returns : goal.returns
-returns c = search sum_end
+returns c =
+    let z : c.args.start + 510 - c.args.start ≡ 510 = omega arith in
+    sum_end c.loop-i.invariant c.loop-i-test.false ∙ ap (λ (n : ℕ). sum_from 1 (take n (drop c.args.start c.args.file.now))) z

@@ -1,9 +1,7 @@
+use lib.ListN.{drop, take}
+use Prim.Native.Nat.{◌+◌, ◌-◌}
 use Rattle.blocks.proofs.Adding.{Inv}
-use Prim.Native.Nat.{◌-◌}
 use Rattle.blocks.proofs.sum_at.Given as goal
 
-abbrev pub invariant-loop-position : goal.invariant-loop-position
-invariant-loop-position l = Inv l.file l.start l.sum l.position l.i
-
-abbrev pub decreases-loop-position : goal.decreases-loop-position
-decreases-loop-position l = 511 - l.position
+abbrev pub invariant-loop-i : goal.invariant-loop-i
+invariant-loop-i l = Inv (take (l.start + 510 - l.start) (drop l.start l.file)) l.sum l.i

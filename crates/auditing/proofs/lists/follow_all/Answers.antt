@@ -1,4 +1,3 @@
-use native.Mathlib.Omega.{arith}
 use Rattle.auditing.proofs.FollowTurns.{going_done, going_fails, going_start, going_turn}
 use Rattle.auditing.proofs.lists.follow_all.Goals as goal
 
@@ -11,12 +10,6 @@ list_passes-requires c = (c.requires, c.loop-function-test.true)
 pub returns-then-not-list_passes : goal.returns-then-not-list_passes
 returns-then-not-list_passes c q =
     going_fails q (c.loop-function.invariant q) c.loop-function-test.true (c.list_passes.ensures q) c.if-not-list_passes.true
-
-pub overflow_add-function : goal.overflow_add-function
-overflow_add-function c = omega arith
-
-pub loop-function-smaller : goal.loop-function-smaller
-loop-function-smaller c = omega arith
 
 pub loop-function-preserved : goal.loop-function-preserved
 loop-function-preserved c q =

@@ -8,11 +8,11 @@ read_texts-told-requires c = lent c.response_limits-limits.ensures c.no_names-na
 pub returns-then-told-ne-ACCEPTED : goal.returns-then-told-ne-ACCEPTED
 returns-then-told-ne-ACCEPTED c = text_refused c.response_limits-limits.ensures c.requires.file_texts c.read_texts-told.ensures c.if-told-ne-ACCEPTED.true
 
-pub follow_all-function-requires : goal.follow_all-function-requires
-follow_all-function-requires c = file_held c.response_limits-limits.ensures c.requires.file_texts c.read_texts-told.ensures c.if-told-ne-ACCEPTED.false
+pub follow_all-requires : goal.follow_all-requires
+follow_all-requires c = file_held c.response_limits-limits.ensures c.requires.file_texts c.read_texts-told.ensures c.if-told-ne-ACCEPTED.false
 
-pub returns-then-function-lt-FUNCTIONS : goal.returns-then-function-lt-FUNCTIONS
-returns-then-function-lt-FUNCTIONS c = one_unfollowed c.response_limits-limits.ensures c.requires.file_texts c.read_texts-told.ensures c.if-told-ne-ACCEPTED.false c.follow_all-function.ensures c.if-function-lt-FUNCTIONS.true c.refusal.ensures
+pub returns-in-Some : goal.returns-in-Some
+returns-in-Some c = one_unfollowed c.response_limits-limits.ensures c.requires.file_texts c.read_texts-told.ensures c.if-told-ne-ACCEPTED.false c.in-Some.ensures c.refusal.ensures
 
-pub returns : goal.returns
-returns c = all_followed c.response_limits-limits.ensures c.requires.file_texts c.read_texts-told.ensures c.if-told-ne-ACCEPTED.false c.follow_all-function.ensures c.if-function-lt-FUNCTIONS.false c.refusal-2.ensures
+pub returns-in-None : goal.returns-in-None
+returns-in-None c = all_followed c.response_limits-limits.ensures c.requires.file_texts c.read_texts-told.ensures c.if-told-ne-ACCEPTED.false c.in-None.ensures c.refusal-in-None.ensures

@@ -1,5 +1,16 @@
-use Rattle.blocks.proofs.Lengths.{four_read}
+use native.Mathlib.Omega.{arith}
+use Rattle.blocks.specs.Blocks.{payload_in}
+use Rattle.blocks.proofs.Lengths.{four_is}
 use Rattle.blocks.proofs.reading.four_at.Goals as goal
 
 pub returns : goal.returns
-returns c = four_read c.args.file.now c.args.place c.pair_at.ensures c.pair_at-2.ensures
+returns c =
+    omega (
+      arith,
+      c.from_le_bytes.ensures,
+      c.pay_at.ensures,
+      c.pay_at-2.ensures,
+      c.pay_at-3.ensures,
+      c.pay_at-4.ensures,
+      four_is (payload_in c.args.file.now) c.args.place,
+    )

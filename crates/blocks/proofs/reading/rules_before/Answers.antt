@@ -3,22 +3,13 @@ use native.Mathlib.Omega.{arith}
 use Rattle.blocks.proofs.reading.rules_before.Goals as goal
 
 pub loop-k-init : goal.loop-k-init
-loop-k-init c = search add_start
-
-pub list_length-rules-requires : goal.list_length-rules-requires
-list_length-rules-requires c = omega arith
+loop-k-init c = add_start
 
 pub overflow_add-rules : goal.overflow_add-rules
-overflow_add-rules c = omega arith
-
-pub overflow_add-k : goal.overflow_add-k
-overflow_add-k c = omega arith
-
-pub loop-k-smaller : goal.loop-k-smaller
-loop-k-smaller c = omega arith
+overflow_add-rules c = omega (arith, c.loop-k.invariant.low, c.list_length-rules.ensures.low)
 
 pub loop-k-preserved : goal.loop-k-preserved
-loop-k-preserved c = search add_more
+loop-k-preserved c = add_more c.loop-k.invariant c.list_length-rules.ensures
 
 pub returns : goal.returns
-returns c = search add_end
+returns c = add_end c.loop-k.invariant c.requires (omega arith)

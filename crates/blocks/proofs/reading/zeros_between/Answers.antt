@@ -1,21 +1,10 @@
-use Rattle.blocks.proofs.Filling.{zero_end, zero_more, zero_other, zero_start}
-use native.Mathlib.Omega.{arith}
+use Rattle.std.proofs.Common.{rules, ◌≡◌, ◌≤◌, get_or, IsTrue, ◌↔◌, ℕ, ◌<◌}
+use Rattle.std.proofs.iter.runs.Sources.{ranges}
+use Rattle.blocks.specs.Blocks.{payload_in}
+use Rattle.blocks.proofs.Filling.{zeros_told}
 use Rattle.blocks.proofs.reading.zeros_between.Goals as goal
 
-pub loop-place-init : goal.loop-place-init
-loop-place-init c = search zero_start
-
-pub returns-then-pay_at-ne0 : goal.returns-then-pay_at-ne0
-returns-then-pay_at-ne0 c = search zero_other
-
-pub overflow_add-place : goal.overflow_add-place
-overflow_add-place c = omega arith
-
-pub loop-place-smaller : goal.loop-place-smaller
-loop-place-smaller c = omega arith
-
-pub loop-place-preserved : goal.loop-place-preserved
-loop-place-preserved c = search zero_more
-
 pub returns : goal.returns
-returns c = search zero_end
+returns c =
+    let each : IsTrue c.all.result ↔ ((k : ℕ) → c.args.from ≤ k → k < c.args.end → get_or (payload_in c.args.file.now) k 0 ≡ 0) = search (rules, ranges) in
+    zeros_told (payload_in c.args.file.now) c.requires each

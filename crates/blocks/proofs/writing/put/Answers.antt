@@ -4,22 +4,22 @@ use native.Mathlib.Omega.{arith}
 use Rattle.blocks.proofs.writing.put.Goals as goal
 
 pub overflow_mul-sum : goal.overflow_mul-sum
-overflow_mul-sum c = omega (arith, term_low c.requires c.wide.ensures (omega arith))
+overflow_mul-sum c = omega (arith, term_low c.requires c.from.ensures (omega arith))
 
 pub overflow_add-sum : goal.overflow_add-sum
-overflow_add-sum c = omega (arith, term_low c.requires c.wide.ensures (omega arith), c.requires.sum_low)
+overflow_add-sum c = omega (arith, term_low c.requires c.from.ensures (omega arith), c.requires.sum_low)
 
 pub bounds-area-at : goal.bounds-area-at
 bounds-area-at c = put_within c.requires
 
 pub returns-then-filled-lt-PAY : goal.returns-then-filled-lt-PAY
-returns-then-filled-lt-PAY c = put_open c.requires c.wide.ensures c.if-filled-lt-PAY.true
+returns-then-filled-lt-PAY c = put_open c.requires c.from.ensures c.if-filled-lt-PAY.true
 
 pub bounds-area-at-2 : goal.bounds-area-at-2
-bounds-area-at-2 c = simp length-set (omega (arith, put_within_three c.requires c.wide.ensures c.if-filled-lt-PAY.false))
+bounds-area-at-2 c = simp length-set (omega (arith, put_within_three c.requires c.from.ensures c.if-filled-lt-PAY.false))
 
 pub bounds-area-at-3 : goal.bounds-area-at-3
-bounds-area-at-3 c = simp length-set (omega (arith, put_within_three c.requires c.wide.ensures c.if-filled-lt-PAY.false))
+bounds-area-at-3 c = simp length-set (omega (arith, put_within_three c.requires c.from.ensures c.if-filled-lt-PAY.false))
 
 pub returns : goal.returns
-returns c = put_full c.requires c.wide.ensures c.if-filled-lt-PAY.false
+returns c = put_full c.requires c.from.ensures c.if-filled-lt-PAY.false

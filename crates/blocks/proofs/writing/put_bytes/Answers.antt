@@ -1,27 +1,17 @@
 use Rattle.blocks.proofs.Putting.{bytes_end, bytes_fit, bytes_on, bytes_start}
-use native.Mathlib.Omega.{arith}
 use Rattle.blocks.proofs.writing.put_bytes.Goals as goal
 
-pub loop-i-init : goal.loop-i-init
-loop-i-init c = bytes_start c.requires
-
-pub bounds-bytes-i : goal.bounds-bytes-i
-bounds-bytes-i c = omega arith
+pub loop-byte-init : goal.loop-byte-init
+loop-byte-init c = bytes_start c.requires
 
 pub put-place-requires : goal.put-place-requires
-put-place-requires c = bytes_fit c.loop-i.invariant c.loop-i-test.true
+put-place-requires c = bytes_fit c.loop-byte.invariant c.loop-byte-test.true
 
-pub overflow_add-i : goal.overflow_add-i
-overflow_add-i c = omega arith
-
-pub loop-i-smaller : goal.loop-i-smaller
-loop-i-smaller c = omega arith
-
-pub loop-i-preserved : goal.loop-i-preserved
-loop-i-preserved c = bytes_on c.loop-i.invariant c.loop-i-test.true c.put-place.ensures
+pub loop-byte-preserved : goal.loop-byte-preserved
+loop-byte-preserved c = bytes_on c.loop-byte.invariant c.loop-byte-test.true c.put-place.ensures
 
 pub shape_of-area : goal.shape_of-area
-shape_of-area c = c.loop-i.invariant.going.long
+shape_of-area c = c.loop-byte.invariant.going.long
 
 pub returns : goal.returns
 returns c = search bytes_end

@@ -3,25 +3,13 @@ use native.Mathlib.Omega.{arith}
 use Rattle.blocks.proofs.writing.put_lengths.Goals as goal
 
 pub loop-function-init : goal.loop-function-init
-loop-function-init c = lengths_start c.requires.shown_len c.requires.fitting
+loop-function-init c = lengths_start c.requires.fitting
 
-pub overflow_mul-function : goal.overflow_mul-function
-overflow_mul-function c = omega arith
-
-pub rules_shown-requires : goal.rules_shown-requires
-rules_shown-requires c = omega arith
-
-pub put_pair-place-requires : goal.put_pair-place-requires
-put_pair-place-requires c = lengths_fit c.loop-function.invariant c.loop-function-test.true c.rules_shown.ensures
-
-pub overflow_add-function : goal.overflow_add-function
-overflow_add-function c = omega arith
-
-pub loop-function-smaller : goal.loop-function-smaller
-loop-function-smaller c = omega arith
+pub put_number-place-requires : goal.put_number-place-requires
+put_number-place-requires c = record { size_low = omega arith; fitting = lengths_fit c.loop-function.invariant c.loop-function-test.true c.list_shown.ensures }
 
 pub loop-function-preserved : goal.loop-function-preserved
-loop-function-preserved c = lengths_on c.loop-function.invariant c.loop-function-test.true c.rules_shown.ensures c.put_pair-place.ensures
+loop-function-preserved c = lengths_on c.loop-function.invariant c.loop-function-test.true c.list_shown.ensures c.put_number-place.ensures
 
 pub shape_of-area : goal.shape_of-area
 shape_of-area c = c.loop-function.invariant.going.long

@@ -1,9 +1,5 @@
 use Rattle.blocks.proofs.Putting.{Zeros}
-use Prim.Native.Nat.{◌-◌}
 use Rattle.blocks.proofs.writing.put_zeros.Given as goal
 
-abbrev pub invariant-loop-i : goal.invariant-loop-i
-invariant-loop-i l = Zeros l.initial.place l.count l.initial.area l.place l.i l.area
-
-abbrev pub decreases-loop-i : goal.decreases-loop-i
-decreases-loop-i l = l.count - l.i
+abbrev pub invariant-loop : goal.invariant-loop
+invariant-loop l = Zeros l.initial.place l.count l.initial.area l.place l.counter l.area
