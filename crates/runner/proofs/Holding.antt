@@ -62,11 +62,11 @@ held_put {values} {sorts} {top} {stack} h room v f =
 
 module _ {values sorts : List ℕ} {top : ℕ} {v : Value} (e : Pushable values sorts top v) where
   -- A full stack.
-  pub push_full : top ≡ most_values → Stepped values sorts None (pushed e.ready.stack v)
+  pub push_full : top ≡ most_values → Stepped values sorts top None (pushed e.ready.stack v)
   push_full q = rw (le-ltb (length e.ready.stack) most_values (omega (arith, e.ready.held.counted))) not_done
 
   -- A stack that has room.
-  pub push_room : (top ≡ most_values → ⊥) → Stepped (set values top v.number) (set sorts top v.sort) (Some (top + 1)) (pushed e.ready.stack v)
+  pub push_room : (top ≡ most_values → ⊥) → Stepped (set values top v.number) (set sorts top v.sort) (top + 1) (Some tt) (pushed e.ready.stack v)
   push_room q =
       let room : top < most_values = omega (arith, e.ready.held.most) in
       rw (lt-ltb (length e.ready.stack) most_values (omega (arith, e.ready.held.counted))) (done (held_put e.ready.held room v e.fit))

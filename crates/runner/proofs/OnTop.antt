@@ -50,7 +50,7 @@ sort_missing (some s) h = apart (sym h)
 
 module _ (o i j : ℕ) {n : ℕ} {values sorts : List ℕ} {top : ℕ} (e : Ready values sorts top) where
   -- There are too few values.
-  pub too_few : top < n → Stepped values sorts None (applied o i j n e.stack)
+  pub too_few : top < n → Stepped values sorts top None (applied o i j n e.stack)
   too_few h = rw (lt-leb n (length e.stack) (omega (arith, e.held.counted))) not_done
 
   module _ (few : n ≤ top) where
@@ -66,7 +66,7 @@ module _ (o i j : ℕ) {n : ℕ} {values sorts : List ℕ} {top : ℕ} (e : Read
       has-sort = t-is ∙ ap (λ (ss : List ℕ). has_sort (operator_sort o i j ss)) (operand_sorts e n few)
 
       -- The operator does not take them.
-      pub not_taken : not t ≡ true → Stepped values sorts None (applied o i j n e.stack)
+      pub not_taken : not t ≡ true → Stepped values sorts top None (applied o i j n e.stack)
       unfolding operator_gives
       not_taken h =
           let none_there = sort_missing (operator_sort o i j (sorts_in (operands e n few))) (sym has-sort ∙ not-true t h) in
@@ -97,7 +97,7 @@ module _ (o i j : ℕ) {n : ℕ} {values sorts : List ℕ} {top : ℕ} (e : Read
 
         -- The value stands in their place.
         pub value_placed : {v : Value} → Given o i j (take (top - (top - n)) (drop (top - n) values)) (take (top - (top - n)) (drop (top - n) sorts)) v
-            → Stepped (set values (top - n) v.number) (set sorts (top - n) v.sort) (Some (top - n + 1)) (applied o i j n e.stack)
+            → Stepped (set values (top - n) v.number) (set sorts (top - n) v.sort) (top - n + 1) (Some tt) (applied o i j n e.stack)
         unfolding operator_gives taken_appliable
         value_placed {v} g =
             let vs = operands e n few in

@@ -2,10 +2,10 @@
 use Prim.Native.Nat.{ℕ, suc, ◌+◌, ◌*◌, ◌/◌, ◌%◌, ◌≤◌, ◌<◌}
 use native.Mathlib.Omega.{arith}
 use mathlib.Core.Path.{◌≡◌, refl, sym, ap, ◌∙◌, subst}
-use mathlib.Core.Bool.{Bool, true, false, cond, not, ◌&&◌}
+use mathlib.Core.Bool.{Bool, true, false, cond, not, ◌&&◌, true≢false}
 use mathlib.Core.List.{List, [], ◌∷◌}
 use mathlib.Core.Option.{Option as StackIfAny, none as nothing, some}
-use Rattle.std.specs.Prelude.{MatchOption, Option, None, Some, Ok, Err}
+use Rattle.std.specs.Prelude.{MatchOption, Option, None, Some, Ok, Err, is_some}
 use Rattle.std.specs.List.{position_from, zip}
 use Rattle.std.proofs.lemmas.Iterator.Adapters.{position_from-zero}
 use borrow.Author.Tests.{eq-eqb, eqb-false, eqb-true, leb-true, lt-ltb, ltb-true, ne_eqb}
@@ -22,7 +22,7 @@ use Rattle.steps.specs.declared.Refusal.TheVariants.{BadArgument, BadStep}
 use Rattle.terms.specs.Values.{value}
 use Rattle.terms.specs.declared.Value.{Value}
 use Rattle.runner.specs.code.Running.{OneStep, Prepared, bad_argument, step_in}
-use Rattle.runner.specs.code.Stack.{Held, Stepped, no_values}
+use Rattle.runner.specs.code.Stack.{Held, IsEmpty, Stepped, no_values}
 use Rattle.runner.specs.code.Stack.Stepped.{done, not_done}
 
 -- Where there is no bad argument, all fit, and where there is one, it is the first.
@@ -84,12 +84,13 @@ pub record Reached (sorts arguments steps values stackSorts : List ℕ) (top k :
   pub so_far : run_from (as_values sorts arguments) k (drop (4 * k) steps) stack ≡ run_from (as_values sorts arguments) 0 steps []
 
 -- Nothing is run at the start.
-pub reached_none : (sorts arguments steps : List ℕ) {values stackSorts : List ℕ} → values ≡ no_values → stackSorts ≡ no_values
-    → Reached sorts arguments steps values stackSorts 0 0
-reached_none sorts arguments steps a b = record { stack = []; held = rw (a, b) held_none; low = omega arith; so_far = refl }
+pub reached_none : (sorts arguments steps : List ℕ) {values stackSorts : List ℕ} {top : ℕ} → IsEmpty values stackSorts top
+    → Reached sorts arguments steps values stackSorts top 0
+reached_none sorts arguments steps e =
+    record { stack = []; held = rw (e.no_numbers, e.no_sorts, e.none) held_none; low = omega arith; so_far = refl }
 
 -- A step that is refused, or not.
-refused_none : {values stackSorts : List ℕ} {m : StackIfAny (List Value)} → Stepped values stackSorts None m → m ≡ nothing
+refused_none : {values stackSorts : List ℕ} {top : ℕ} {m : StackIfAny (List Value)} → Stepped values stackSorts top None m → m ≡ nothing
 refused_none not_done = refl
 
 pub record Went (values stackSorts : List ℕ) (top : ℕ) (m : StackIfAny (List Value)) : Type 0 where
@@ -97,7 +98,7 @@ pub record Went (values stackSorts : List ℕ) (top : ℕ) (m : StackIfAny (List
   pub is : m ≡ some stack
   pub held : Held values stackSorts top stack
 
-went : {values stackSorts : List ℕ} {top : ℕ} {m : StackIfAny (List Value)} → Stepped values stackSorts (Some top) m → Went values stackSorts top m
+went : {values stackSorts : List ℕ} {top : ℕ} {m : StackIfAny (List Value)} → Stepped values stackSorts top (Some tt) m → Went values stackSorts top m
 went (done {stack = stack} held) = record { stack = stack; is = refl; held = held }
 
 -- A step that is cut short.
@@ -137,7 +138,8 @@ module _ {sorts arguments steps values stackSorts : List ℕ} {top k : ℕ} (fit
     abbrev outcome : StackIfAny (List Value)
     outcome = step_on (as_values sorts arguments) step.first step.second step.third step.fourth s.stack
 
-    gave : {values' stackSorts' : List ℕ} {top' : Option ℕ} → OneStep sorts arguments step values stackSorts values' stackSorts' top top' → Stepped values' stackSorts' top' outcome
+    gave : {values' stackSorts' : List ℕ} {top' : ℕ} {r : Option (Unit {0})} → OneStep sorts arguments step values stackSorts top values' stackSorts' top' r
+        → Stepped values' stackSorts' top' r outcome
     unfolding prepared
     gave one = one prepared
 
@@ -148,16 +150,20 @@ module _ {sorts arguments steps values stackSorts : List ℕ} {top k : ℕ} (fit
     goes = rw step_is (rw (step_next steps k h) at s.so_far)
 
     -- The step is refused.
-    pub step_refused : (n : ℕ) {values' stackSorts' : List ℕ} → OneStep sorts arguments step values stackSorts values' stackSorts' top None
+    pub step_refused : (n : ℕ) {values' stackSorts' : List ℕ} {top' : ℕ} (r : Option (Unit {0}))
+        → OneStep sorts arguments step values stackSorts top values' stackSorts' top' r → is_some r ≡ false
         → Err (BadStep k) ≡ ended_with n (run_from (as_values sorts arguments) 0 steps [])
-    step_refused n one =
+    step_refused n (Some u) one e = absurd (true≢false e)
+    step_refused n None one e =
         let stops : stopped k ≡ run_from (as_values sorts arguments) 0 steps [] = rw (refused_none (gave one)) at goes in
         ap (ended_with n) stops
 
     -- The step is done.
-    pub step_done : {values' stackSorts' : List ℕ} {top' : ℕ} → OneStep sorts arguments step values stackSorts values' stackSorts' top (Some top')
+    pub step_done : {values' stackSorts' : List ℕ} {top' : ℕ} (r : Option (Unit {0}))
+        → OneStep sorts arguments step values stackSorts top values' stackSorts' top' r → is_some r ≡ true
         → Reached sorts arguments steps values' stackSorts' top' (k + 1)
-    step_done one =
+    step_done None one e = absurd (true≢false (sym e))
+    step_done (Some u) one e =
         let w = went (gave one) in
         record { stack = w.stack; held = w.held; low = omega arith; so_far = rw w.is at goes }
 

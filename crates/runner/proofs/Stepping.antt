@@ -64,12 +64,12 @@ none_used false b h = apart (sym h)
 module _ {sorts arguments values stackSorts : List ℕ} {top : ℕ} (s : Step) (e : Prepared sorts arguments values stackSorts top) where
   -- An unused number that is not 0.
   pub argument_malformed : not (eqb s.third 0) || not (eqb s.fourth 0) ≡ true
-      → Stepped values stackSorts None (argument_on (as_values sorts arguments) s e.ready.stack)
+      → Stepped values stackSorts top None (argument_on (as_values sorts arguments) s e.ready.stack)
   argument_malformed h =
       rw (one_used (ltb s.second (length (as_values sorts arguments))) (eqb s.third 0) (eqb s.fourth 0) h) not_done
 
   -- An argument that is not there.
-  pub argument_missing : length arguments ≤ s.second → Stepped values stackSorts None (argument_on (as_values sorts arguments) s e.ready.stack)
+  pub argument_missing : length arguments ≤ s.second → Stepped values stackSorts top None (argument_on (as_values sorts arguments) s e.ready.stack)
   argument_missing h = rw (le-ltb s.second (length (as_values sorts arguments)) (omega (arith, (given_length e.fit).1))) not_done
 
   module _ (h : s.second < length arguments) where
@@ -80,9 +80,9 @@ module _ {sorts arguments values stackSorts : List ℕ} {top : ℕ} (s : Step) (
     pub argument_pushable : Pushable values stackSorts top (value (get_or sorts s.second 0) (get_or arguments s.second 0))
     argument_pushable = record { ready = e.ready; fit = fit_at e.fit s.second argument_place }
 
-    pub argument_pushed : {values' stackSorts' : List ℕ} {r : Option ℕ} → not (eqb s.third 0) || not (eqb s.fourth 0) ≡ false
-        → Pushing values stackSorts values' stackSorts' top (value (get_or sorts s.second 0) (get_or arguments s.second 0)) r
-        → Stepped values' stackSorts' r (argument_on (as_values sorts arguments) s e.ready.stack)
+    pub argument_pushed : {values' stackSorts' : List ℕ} {top' : ℕ} {r : Option (Unit {0})} → not (eqb s.third 0) || not (eqb s.fourth 0) ≡ false
+        → Pushing values stackSorts top values' stackSorts' top' (value (get_or sorts s.second 0) (get_or arguments s.second 0)) r
+        → Stepped values' stackSorts' top' r (argument_on (as_values sorts arguments) s e.ready.stack)
     unfolding argument_pushable
     argument_pushed u p =
         let z = none_used (eqb s.third 0) (eqb s.fourth 0) u in
@@ -97,12 +97,12 @@ module _ {sorts arguments values stackSorts : List ℕ} {top : ℕ} (s : Step) (
 
 module _ {values stackSorts : List ℕ} {top : ℕ} (s : Step) (e : Ready values stackSorts top) where
   -- A constant with an unused number that is not 0.
-  pub constant_malformed : (s.fourth ≡ 0 → ⊥) → Stepped values stackSorts None (constant_on s e.stack)
+  pub constant_malformed : (s.fourth ≡ 0 → ⊥) → Stepped values stackSorts top None (constant_on s e.stack)
   constant_malformed h = rw (ne_eqb s.fourth 0 h, and-false) not_done
 
   module _ {t : Bool} (t-is : t ≡ fits s.third s.second) where
     -- One that is no value of its sort.
-    pub constant_wrong : not t ≡ true → Stepped values stackSorts None (constant_on s e.stack)
+    pub constant_wrong : not t ≡ true → Stepped values stackSorts top None (constant_on s e.stack)
     constant_wrong h = let q : fits s.third s.second ≡ false = sym t-is ∙ not-true t h in rw q not_done
 
     module _ (h : not t ≡ false) where
@@ -122,26 +122,26 @@ module _ {values stackSorts : List ℕ} {top : ℕ} (s : Step) (e : Ready values
             };
           }
 
-      pub constant_pushed : {values' stackSorts' : List ℕ} {r : Option ℕ} → s.fourth ≡ 0
-          → Pushing values stackSorts values' stackSorts' top (value s.third s.second) r
-          → Stepped values' stackSorts' r (constant_on s e.stack)
+      pub constant_pushed : {values' stackSorts' : List ℕ} {top' : ℕ} {r : Option (Unit {0})} → s.fourth ≡ 0
+          → Pushing values stackSorts top values' stackSorts' top' (value s.third s.second) r
+          → Stepped values' stackSorts' top' r (constant_on s e.stack)
       unfolding constant_pushable
       constant_pushed u p = rw (constant_fits, eq-eqb s.fourth 0 u) (p constant_pushable)
 
   -- `extract`
-  pub cut_applied : {values' stackSorts' : List ℕ} {r : Option ℕ} → s.second ≡ extract_number
-      → Applying s.second s.third s.fourth 1 values stackSorts values' stackSorts' top r → Stepped values' stackSorts' r (operator_on s e.stack)
+  pub cut_applied : {values' stackSorts' : List ℕ} {top' : ℕ} {r : Option (Unit {0})} → s.second ≡ extract_number
+      → Applying s.second s.third s.fourth 1 values stackSorts top values' stackSorts' top' r → Stepped values' stackSorts' top' r (operator_on s e.stack)
   cut_applied h p = rw (eq-eqb s.second _ (h ∙ sym extract_is)) (p e)
 
   module _ (n : s.second ≡ extract_number → ⊥) where
     -- Another operator with an unused number that is not 0.
-    pub operator_malformed : (s.fourth ≡ 0 → ⊥) → Stepped values stackSorts None (operator_on s e.stack)
+    pub operator_malformed : (s.fourth ≡ 0 → ⊥) → Stepped values stackSorts top None (operator_on s e.stack)
     operator_malformed h = rw (ne_eqb s.second _ (λ q. n (q ∙ extract_is)), ne_eqb s.fourth 0 h) not_done
 
     -- Another operator.
-    pub operator_applied : {values' stackSorts' : List ℕ} {r : Option ℕ} → s.fourth ≡ 0
-        → Applying s.second 0 0 s.third values stackSorts values' stackSorts' top r
-        → Stepped values' stackSorts' r (operator_on s e.stack)
+    pub operator_applied : {values' stackSorts' : List ℕ} {top' : ℕ} {r : Option (Unit {0})} → s.fourth ≡ 0
+        → Applying s.second 0 0 s.third values stackSorts top values' stackSorts' top' r
+        → Stepped values' stackSorts' top' r (operator_on s e.stack)
     operator_applied h p = rw (ne_eqb s.second _ (λ q. n (q ∙ extract_is)), eq-eqb s.fourth 0 h) (p e)
 
 -- What a step does, by its kind.
@@ -167,24 +167,25 @@ module _ (arguments : List Value) (s : Step) (stack : List Value) where
       unfolding step_on
       none_on h = rw (ne_eqb s.first push_argument a, ne_eqb s.first push_constant b, ne_eqb s.first apply_operator h)
 
-module _ {sorts arguments values stackSorts : List ℕ} {top : ℕ} (s : Step) {values' stackSorts' : List ℕ} {r : Option ℕ} where
+module _ {sorts arguments values stackSorts : List ℕ} {top : ℕ} (s : Step) {values' stackSorts' : List ℕ} {top' : ℕ} {r : Option (Unit {0})} where
   -- An argument is pushed.
-  pub argument_step : s.first ≡ push_argument → ArgumentStep sorts arguments s values stackSorts values' stackSorts' top r
-      → OneStep sorts arguments s values stackSorts values' stackSorts' top r
+  pub argument_step : s.first ≡ push_argument → ArgumentStep sorts arguments s values stackSorts top values' stackSorts' top' r
+      → OneStep sorts arguments s values stackSorts top values' stackSorts' top' r
   argument_step h p e = rw (argument-on (as_values sorts arguments) s e.ready.stack h) (p e)
 
   module _ (a : s.first ≡ push_argument → ⊥) where
     -- A constant is pushed.
-    pub constant_step : s.first ≡ push_constant → ConstantStep s values stackSorts values' stackSorts' top r
-        → OneStep sorts arguments s values stackSorts values' stackSorts' top r
+    pub constant_step : s.first ≡ push_constant → ConstantStep s values stackSorts top values' stackSorts' top' r
+        → OneStep sorts arguments s values stackSorts top values' stackSorts' top' r
     constant_step h p e = rw (constant-on (as_values sorts arguments) s e.ready.stack a h) (p e.ready)
 
     module _ (b : s.first ≡ push_constant → ⊥) where
       -- An operator is applied.
-      pub operator_step : s.first ≡ apply_operator → OperatorStep s values stackSorts values' stackSorts' top r
-          → OneStep sorts arguments s values stackSorts values' stackSorts' top r
+      pub operator_step : s.first ≡ apply_operator → OperatorStep s values stackSorts top values' stackSorts' top' r
+          → OneStep sorts arguments s values stackSorts top values' stackSorts' top' r
       operator_step h p e = rw (operator-on (as_values sorts arguments) s e.ready.stack a b h) (p e.ready)
 
-      -- It is none of these.
-      pub no_step : (s.first ≡ apply_operator → ⊥) → r ≡ None → OneStep sorts arguments s values stackSorts values' stackSorts' top r
-      no_step h q e = rw (q, none_on (as_values sorts arguments) s e.ready.stack a b h) not_done
+-- It does none of these.
+pub no_step : {sorts arguments values stackSorts : List ℕ} {top : ℕ} (s : Step) → (s.first ≡ push_argument → ⊥) → (s.first ≡ push_constant → ⊥)
+    → (s.first ≡ apply_operator → ⊥) → OneStep sorts arguments s values stackSorts top values stackSorts top None
+no_step {sorts} {arguments} s a b h e = rw (none_on (as_values sorts arguments) s e.ready.stack a b h) not_done

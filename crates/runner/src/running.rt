@@ -5,7 +5,7 @@ ghost use Rattle.steps.specs.Stack.{as_values, ended_with, fits, run_from};
 ghost use Rattle.runner.specs.code.Stack.{Ready};
 ghost use Rattle.runner.specs.code.Running.{ArgumentStep, ConstantStep, OneStep, OperatorStep, Prepared, bad_argument, step_in};
 
-use crate::stack::{apply_operator, no_values, push};
+use crate::stack::{Stack, apply_operator, empty, push};
 use operators::operators::EXTRACT;
 use operators::rules::MAX_WIDTH;
 use operators::sorting;
@@ -48,17 +48,10 @@ fn step_at(steps: &[u64], k: usize) -> Step
 }
 
 // Pushes an argument.
-fn push_argument(
-    sorts: &[u64],
-    arguments: &[u64],
-    step: Step,
-    values: &mut [u64],
-    stack_sorts: &mut [u64],
-    top: usize,
-) -> Option<usize>
-    requires { Prepared sorts.now arguments.now values.old stack_sorts.old top }
-    ensures { ArgumentStep sorts.now arguments.now step values.old stack_sorts.old
-        values.new stack_sorts.new top result }
+fn push_argument(sorts: &[u64], arguments: &[u64], step: Step, stack: &mut Stack) -> Option<()>
+    requires { Prepared sorts.now arguments.now stack.old.numbers stack.old.sorts stack.old.top }
+    ensures { ArgumentStep sorts.now arguments.now step stack.old.numbers stack.old.sorts stack.old.top
+        stack.new.numbers stack.new.sorts stack.new.top result }
 {
     if (step.third != 0) | (step.fourth != 0) {
         return None;
@@ -71,18 +64,14 @@ fn push_argument(
         sort: sorts[place],
         number: arguments[place],
     };
-    push(values, stack_sorts, top, value)
+    push(stack, value)
 }
 
 // Pushes a constant.
-fn push_constant(
-    step: Step,
-    values: &mut [u64],
-    stack_sorts: &mut [u64],
-    top: usize,
-) -> Option<usize>
-    requires { Ready values.old stack_sorts.old top }
-    ensures { ConstantStep step values.old stack_sorts.old values.new stack_sorts.new top result }
+fn push_constant(step: Step, stack: &mut Stack) -> Option<()>
+    requires { Ready stack.old.numbers stack.old.sorts stack.old.top }
+    ensures { ConstantStep step stack.old.numbers stack.old.sorts stack.old.top
+        stack.new.numbers stack.new.sorts stack.new.top result }
 {
     if step.fourth != 0 {
         return None;
@@ -94,48 +83,34 @@ fn push_constant(
         sort: step.third,
         number: step.second,
     };
-    push(values, stack_sorts, top, value)
+    push(stack, value)
 }
 
 // Applies an operator: `extract` by its two numbers, any other by how many operands it has.
-fn apply_step(step: Step, values: &mut [u64], stack_sorts: &mut [u64], top: usize) -> Option<usize>
-    requires { Ready values.old stack_sorts.old top }
-    ensures { OperatorStep step values.old stack_sorts.old values.new stack_sorts.new top result }
+fn apply_step(step: Step, stack: &mut Stack) -> Option<()>
+    requires { Ready stack.old.numbers stack.old.sorts stack.old.top }
+    ensures { OperatorStep step stack.old.numbers stack.old.sorts stack.old.top
+        stack.new.numbers stack.new.sorts stack.new.top result }
 {
     if step.second == EXTRACT as u64 {
-        return apply_operator(
-            step.second,
-            step.third,
-            step.fourth,
-            1,
-            values,
-            stack_sorts,
-            top,
-        );
+        return apply_operator(step.second, step.third, step.fourth, 1, stack);
     }
     if step.fourth != 0 {
         return None;
     }
-    apply_operator(step.second, 0, 0, step.third, values, stack_sorts, top)
+    apply_operator(step.second, 0, 0, step.third, stack)
 }
 
 // One step.
-fn one_step(
-    sorts: &[u64],
-    arguments: &[u64],
-    step: Step,
-    values: &mut [u64],
-    stack_sorts: &mut [u64],
-    top: usize,
-) -> Option<usize>
-    requires { Prepared sorts.now arguments.now values.old stack_sorts.old top }
-    ensures { OneStep sorts.now arguments.now step values.old stack_sorts.old
-        values.new stack_sorts.new top result }
+fn one_step(sorts: &[u64], arguments: &[u64], step: Step, stack: &mut Stack) -> Option<()>
+    requires { Prepared sorts.now arguments.now stack.old.numbers stack.old.sorts stack.old.top }
+    ensures { OneStep sorts.now arguments.now step stack.old.numbers stack.old.sorts stack.old.top
+        stack.new.numbers stack.new.sorts stack.new.top result }
 {
     match step.first {
-        PUSH_ARGUMENT => push_argument(sorts, arguments, step, values, stack_sorts, top),
-        PUSH_CONSTANT => push_constant(step, values, stack_sorts, top),
-        APPLY => apply_step(step, values, stack_sorts, top),
+        PUSH_ARGUMENT => push_argument(sorts, arguments, step, stack),
+        PUSH_CONSTANT => push_constant(step, stack),
+        APPLY => apply_step(step, stack),
         _ => None,
     }
 }
@@ -147,20 +122,17 @@ pub fn run_list(sorts: &[u64], arguments: &[u64], steps: &[u64]) -> Result<Value
         (run_from (as_values sorts.now arguments.now) 0 steps.now []) }
 {
     let whole = steps.len() / STEP;
-    let mut values = no_values();
-    let mut stack_sorts = no_values();
-    let mut top = 0;
+    let mut stack = empty();
     for k in 0..whole {
         let step = step_at(steps, k);
-        let Some(next) = one_step(sorts, arguments, step, &mut values, &mut stack_sorts, top) else {
+        if one_step(sorts, arguments, step, &mut stack).is_none() {
             return Err(Refusal::BadStep(k));
-        };
-        top = next;
+        }
     }
-    if (steps.len() % STEP == 0) & (top == 1) {
+    if (steps.len() % STEP == 0) & (stack.top == 1) {
         return Ok(Value {
-            sort: stack_sorts[0],
-            number: values[0],
+            sort: stack.sorts[0],
+            number: stack.numbers[0],
         });
     }
     Err(Refusal::BadStep(whole))

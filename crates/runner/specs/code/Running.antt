@@ -43,18 +43,18 @@ operator_on s stack =
     nothing)
 
 -- What the functions that do so give.
-abbrev pub ArgumentStep : (sorts arguments : List ℕ) (s : Step) (values stackSorts values' stackSorts' : List ℕ) (top : ℕ) (r : Option ℕ) → Type 0
-ArgumentStep sorts arguments s values stackSorts values' stackSorts' top r =
-    (e : Prepared sorts arguments values stackSorts top) → Stepped values' stackSorts' r (argument_on (as_values sorts arguments) s e.ready.stack)
+abbrev pub ArgumentStep : (sorts arguments : List ℕ) (s : Step) (values stackSorts : List ℕ) (top : ℕ) (values' stackSorts' : List ℕ) (top' : ℕ) (r : Option (Unit {0})) → Type 0
+ArgumentStep sorts arguments s values stackSorts top values' stackSorts' top' r =
+    (e : Prepared sorts arguments values stackSorts top) → Stepped values' stackSorts' top' r (argument_on (as_values sorts arguments) s e.ready.stack)
 
-abbrev pub ConstantStep : (s : Step) (values stackSorts values' stackSorts' : List ℕ) (top : ℕ) (r : Option ℕ) → Type 0
-ConstantStep s values stackSorts values' stackSorts' top r = (e : Ready values stackSorts top) → Stepped values' stackSorts' r (constant_on s e.stack)
+abbrev pub ConstantStep : (s : Step) (values stackSorts : List ℕ) (top : ℕ) (values' stackSorts' : List ℕ) (top' : ℕ) (r : Option (Unit {0})) → Type 0
+ConstantStep s values stackSorts top values' stackSorts' top' r = (e : Ready values stackSorts top) → Stepped values' stackSorts' top' r (constant_on s e.stack)
 
-abbrev pub OperatorStep : (s : Step) (values stackSorts values' stackSorts' : List ℕ) (top : ℕ) (r : Option ℕ) → Type 0
-OperatorStep s values stackSorts values' stackSorts' top r = (e : Ready values stackSorts top) → Stepped values' stackSorts' r (operator_on s e.stack)
+abbrev pub OperatorStep : (s : Step) (values stackSorts : List ℕ) (top : ℕ) (values' stackSorts' : List ℕ) (top' : ℕ) (r : Option (Unit {0})) → Type 0
+OperatorStep s values stackSorts top values' stackSorts' top' r = (e : Ready values stackSorts top) → Stepped values' stackSorts' top' r (operator_on s e.stack)
 
 -- What one step gives.
-abbrev pub OneStep : (sorts arguments : List ℕ) (s : Step) (values stackSorts values' stackSorts' : List ℕ) (top : ℕ) (r : Option ℕ) → Type 0
-OneStep sorts arguments s values stackSorts values' stackSorts' top r =
+abbrev pub OneStep : (sorts arguments : List ℕ) (s : Step) (values stackSorts : List ℕ) (top : ℕ) (values' stackSorts' : List ℕ) (top' : ℕ) (r : Option (Unit {0})) → Type 0
+OneStep sorts arguments s values stackSorts top values' stackSorts' top' r =
     (e : Prepared sorts arguments values stackSorts top)
-    → Stepped values' stackSorts' r (step_on (as_values sorts arguments) s.first s.second s.third s.fourth e.ready.stack)
+    → Stepped values' stackSorts' top' r (step_on (as_values sorts arguments) s.first s.second s.third s.fourth e.ready.stack)

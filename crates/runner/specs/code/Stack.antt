@@ -26,10 +26,16 @@ pub record Ready (values sorts : List ℕ) (top : ℕ) : Type 0 where
   pub stack : List Value
   pub held : Held values sorts top stack
 
--- They hold the stack that a step gives, which has so many values, or the step is refused.
-pub data Stepped (values sorts : List ℕ) : Option ℕ → StackIfAny (List Value) → Type 0 where
-  not_done : Stepped values sorts None nothing
-  done : {top : ℕ} {stack : List Value} → Held values sorts top stack → Stepped values sorts (Some top) (some stack)
+-- They hold none.
+pub record IsEmpty (values sorts : List ℕ) (top : ℕ) : Type 0 where
+  pub no_numbers : values ≡ no_values
+  pub no_sorts : sorts ≡ no_values
+  pub none : top ≡ 0
+
+-- They hold the stack that a step gives, or the step is refused.
+pub data Stepped (values sorts : List ℕ) (top : ℕ) : Option (Unit {0}) → StackIfAny (List Value) → Type 0 where
+  not_done : Stepped values sorts top None nothing
+  done : {stack : List Value} → Held values sorts top stack → Stepped values sorts top (Some tt) (some stack)
 
 -- A stack, and a value to be put on it.
 pub record Pushable (values sorts : List ℕ) (top : ℕ) (v : Value) : Type 0 where
@@ -37,8 +43,8 @@ pub record Pushable (values sorts : List ℕ) (top : ℕ) (v : Value) : Type 0 w
   pub fit : Fit v.sort v.number
 
 -- What pushing gives.
-abbrev pub Pushing : (values sorts values' sorts' : List ℕ) (top : ℕ) (v : Value) (r : Option ℕ) → Type 0
-Pushing values sorts values' sorts' top v r = (e : Pushable values sorts top v) → Stepped values' sorts' r (pushed e.ready.stack v)
+abbrev pub Pushing : (values sorts : List ℕ) (top : ℕ) (values' sorts' : List ℕ) (top' : ℕ) (v : Value) (r : Option (Unit {0})) → Type 0
+Pushing values sorts top values' sorts' top' v r = (e : Pushable values sorts top v) → Stepped values' sorts' top' r (pushed e.ready.stack v)
 
 -- Operands of these values and sorts, which an operator takes.
 pub record Appliable (operator high low : ℕ) (values sorts : List ℕ) : Type 0 where
@@ -52,6 +58,6 @@ Given operator high low values sorts r =
     (e : Appliable operator high low values sorts) → r ≡ value e.result (operator_value operator high low sorts values)
 
 -- What applying an operator to the newest values gives.
-abbrev pub Applying : (operator high low count : ℕ) (values sorts values' sorts' : List ℕ) (top : ℕ) (r : Option ℕ) → Type 0
-Applying operator high low count values sorts values' sorts' top r =
-    (e : Ready values sorts top) → Stepped values' sorts' r (applied operator high low count e.stack)
+abbrev pub Applying : (operator high low count : ℕ) (values sorts : List ℕ) (top : ℕ) (values' sorts' : List ℕ) (top' : ℕ) (r : Option (Unit {0})) → Type 0
+Applying operator high low count values sorts top values' sorts' top' r =
+    (e : Ready values sorts top) → Stepped values' sorts' top' r (applied operator high low count e.stack)

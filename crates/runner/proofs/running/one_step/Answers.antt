@@ -1,4 +1,3 @@
-use mathlib.Core.Path.{refl}
 use native.Mathlib.Omega.{arith}
 use Rattle.runner.proofs.Stepping.{argument_step, constant_step, no_step, operator_step}
 use Rattle.runner.proofs.running.one_step.Goals as goal
@@ -13,4 +12,4 @@ pub returns-in-3 : goal.returns-in-3
 returns-in-3 c = operator_step c.args.step (omega (arith, c.in-3.is)) (omega (arith, c.in-3.is)) c.in-3.is c.apply_step.ensures
 
 pub returns-in_default : goal.returns-in_default
-returns-in_default c = no_step c.args.step (omega arith) (omega arith) (omega arith) refl
+returns-in_default c = no_step c.args.step (omega arith) (omega arith) (omega arith)

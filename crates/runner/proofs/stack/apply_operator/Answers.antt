@@ -1,3 +1,4 @@
+use native.Mathlib.Omega.{arith}
 use mathlib.Core.Bool.{not}
 use mathlib.Core.Path.{ap}
 use Rattle.runner.proofs.OnTop.{base_place, not_taken, taken_appliable, too_few, value_placed}
@@ -22,23 +23,21 @@ value_of-value-requires c =
     c.if-top-count.false c.has_sort.ensures
     (ap not c.if-not-has_sort.false)
 
-pub bounds-values-base : goal.bounds-values-base
-bounds-values-base c =
-    (base_place c.args.operator
-    c.args.high
-    c.args.low
-    c.requires
-    c.if-top-count.false
-    c.has_sort.ensures (ap not c.if-not-has_sort.false)).0
+pub bounds-stack-base : goal.bounds-stack-base
+bounds-stack-base c =
+    omega (
+      arith,
+      (base_place c.args.operator c.args.high c.args.low c.requires c.if-top-count.false c.has_sort.ensures (ap not c.if-not-has_sort.false)).0,
+      c.requires.held.values_long,
+    )
 
-pub bounds-stack_sorts-base : goal.bounds-stack_sorts-base
-bounds-stack_sorts-base c =
-    (base_place c.args.operator
-    c.args.high
-    c.args.low
-    c.requires
-    c.if-top-count.false
-    c.has_sort.ensures (ap not c.if-not-has_sort.false)).1
+pub bounds-stack-base-2 : goal.bounds-stack-base-2
+bounds-stack-base-2 c =
+    omega (
+      arith,
+      (base_place c.args.operator c.args.high c.args.low c.requires c.if-top-count.false c.has_sort.ensures (ap not c.if-not-has_sort.false)).1,
+      c.requires.held.sorts_long,
+    )
 
 pub returns : goal.returns
 returns c =

@@ -1,7 +1,7 @@
 use mathlib.Core.Path.{refl}
 use Rattle.runner.specs.code.Stack.{no_values}
-use Rattle.runner.proofs.stack.no_values.Goals as goal
+use Rattle.runner.proofs.stack.empty.Goals as goal
 
 pub returns : goal.returns
 unfolding no_values
-returns c = refl
+returns c = record { no_numbers = refl; no_sorts = refl; none = refl }
