@@ -9,13 +9,8 @@ use forest::limits::{AREA, UNUSED};
 pub fn blank_area(shown: &mut [u16])
     ensures { shown.new ≡ unshown shown.old }
 {
-    if shown.len() != AREA {
-        return;
-    }
-    let mut i = 0;
-    while i < shown.len() {
-        shown[i] = UNUSED;
-        i += 1;
+    if shown.len() == AREA {
+        shown.fill(UNUSED);
     }
 }
 

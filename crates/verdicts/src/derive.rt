@@ -45,13 +45,11 @@ pub fn derive_all(
     ensures { Judges places.now nodes.now forms.now progress shown.old totals.old
         shown.new totals.new result }
 {
-    let mut function = 0;
-    while function < progress.functions {
+    for function in 0..progress.functions {
         let Some(total) = derive_one(places, nodes, forms, function, shown) else {
             return function;
         };
         put_entry(totals, function, total);
-        function += 1;
     }
-    function
+    progress.functions
 }

@@ -26,10 +26,8 @@ fn variable_sorts(names: &[u8], count: usize) -> [u64; limits::VARIABLES]
     ensures { take count result ≡ sorts_from names.now variable_row count }
 {
     let mut sorts = [0; limits::VARIABLES];
-    let mut k = 0;
-    while k < count {
+    for k in 0..count {
         sorts[k] = sort_in(names, VARIABLES + k);
-        k += 1;
     }
     sorts
 }

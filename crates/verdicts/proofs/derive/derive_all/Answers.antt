@@ -1,3 +1,5 @@
+use native.Mathlib.Omega.{arith}
+use mathlib.Core.Path.{◌≡◌}
 use borrow.Author.Rules.{rules}
 use Rattle.verdicts.proofs.DeriveTurns.{going_done, going_fails, going_start, going_turn, next_derivable}
 use Rattle.verdicts.proofs.derive.derive_all.Goals as goal
@@ -42,4 +44,6 @@ shape_of-totals c =
     search rules
 
 pub returns : goal.returns
-returns c q = going_done q (c.loop-function.invariant q) c.loop-function-test.false
+returns c q =
+    let last : c.loop-function.function ≡ c.args.progress.functions = omega arith in
+    rw last at (going_done q (c.loop-function.invariant q) c.loop-function-test.false)
