@@ -3,6 +3,7 @@ use Prim.Native.Nat.{ℕ, ◌+◌}
 use mathlib.Core.Path.{◌≡◌, refl, sym, ap, ◌∙◌}
 use mathlib.Core.Bool.{Bool, false, cond}
 use mathlib.Core.List.{List}
+use mathlib.Core.Logic.{◌⊎◌, inl, inr}
 use lib.Dec.{eqb}
 use borrow.Author.Tests.{ne_eqb}
 use Rattle.lexemes.specs.code.Codes.{assume_code, check_synth_code, constraint_code, declare_var_code, define_fun_code, set_feature_code, set_logic_code, synth_fun_code}
@@ -48,16 +49,21 @@ module _ {lexemes : List ℕ} {at : ℕ} {command : ℕ} (ec : command ≡ code_
   pub named_command : {code : ℕ} → command ≡ code → (x : ListAt lexemes at) → shape_by code x.operands ≡ command_shape x.operands
   named_command e x = sym (by_word x.operands ∙ ap (λ (k : ℕ). shape_by k x.operands) (front_is x ∙ e))
 
+  -- the commands that have one shape
+  pub constraint_or_assume : command ≡ constraint_code ⊎ command ≡ assume_code → (x : ListAt lexemes at) → constraint_shape x.operands ≡ command_shape x.operands
+  constraint_or_assume (inl e) x = named_command e x
+  constraint_or_assume (inr e) x = named_command e x
+
   pub no_command : (command ≡ set_logic_code → ⊥) → (command ≡ declare_var_code → ⊥) → (command ≡ define_fun_code → ⊥)
-      → (command ≡ synth_fun_code → ⊥) → (command ≡ constraint_code → ⊥) → (command ≡ check_synth_code → ⊥) → (command ≡ assume_code → ⊥) → (command ≡ set_feature_code → ⊥)
-      → (x : ListAt lexemes at) → false ≡ command_shape x.operands
-  no_command n8 n9 n10 n11 n12 n13 n14 n15 x =
+      → (command ≡ synth_fun_code → ⊥) → (command ≡ constraint_code ⊎ command ≡ assume_code → ⊥) → (command ≡ check_synth_code → ⊥)
+      → (command ≡ set_feature_code → ⊥) → (x : ListAt lexemes at) → false ≡ command_shape x.operands
+  no_command n8 n9 n10 n11 n12 n13 n15 x =
       let e8 = ne_eqb command set_logic_code n8 in
       let e9 = ne_eqb command declare_var_code n9 in
       let e10 = ne_eqb command define_fun_code n10 in
       let e11 = ne_eqb command synth_fun_code n11 in
-      let e12 = ne_eqb command constraint_code n12 in
+      let e12 = ne_eqb command constraint_code (λ e. n12 (inl e)) in
       let e13 = ne_eqb command check_synth_code n13 in
-      let e14 = ne_eqb command assume_code n14 in
+      let e14 = ne_eqb command assume_code (λ e. n12 (inr e)) in
       let e15 = ne_eqb command set_feature_code n15 in
       rw (e8, e9, e10, e11, e12, e13, e14, e15) at (named_command refl x)

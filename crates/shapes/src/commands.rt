@@ -36,9 +36,8 @@ pub fn command_shape(lexemes: &[u64], at: usize) -> bool
         DECLARE_VAR => declare_var_shape(lexemes, at),
         DEFINE_FUN => define_fun_shape(lexemes, at),
         SYNTH_FUN => synth_fun_shape(lexemes, at),
-        CONSTRAINT => constraint_shape(lexemes, at),
+        CONSTRAINT | ASSUME => constraint_shape(lexemes, at),
         CHECK_SYNTH => count_in(lexemes, at) == 1,
-        ASSUME => constraint_shape(lexemes, at),
         SET_FEATURE => set_feature_shape(lexemes, at),
         _ => false,
     }

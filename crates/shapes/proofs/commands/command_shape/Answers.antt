@@ -1,9 +1,10 @@
 use lib.Dec.{eqb}
 use Prim.Native.Nat.{ℕ}
 use mathlib.Core.Path.{◌∙◌, ap}
-use Rattle.shapes.proofs.Choosing.{named_command, no_command}
+use Rattle.shapes.proofs.Choosing.{constraint_or_assume, named_command, no_command}
 use Rattle.lexemes.proofs.Listed.{list_room}
 use native.Mathlib.Omega.{arith}
+use borrow.Author.Rules.{rules}
 use Rattle.shapes.proofs.commands.command_shape.Goals as goal
 
 pub overflow_add-at : goal.overflow_add-at
@@ -24,21 +25,18 @@ pub returns-in-14 : goal.returns-in-14
 returns-in-14 c = λ here. c.synth_fun_shape.ensures here ∙ named_command c.code_at-command.ensures c.in-14.is here
 
 pub returns-in-15 : goal.returns-in-15
-returns-in-15 c = λ here. c.constraint_shape.ensures here ∙ named_command c.code_at-command.ensures c.in-15.is here
+returns-in-15 c = λ here. c.constraint_shape.ensures here ∙ constraint_or_assume c.code_at-command.ensures c.in-15.is here
 
 pub returns-in-16 : goal.returns-in-16
 returns-in-16 c =
     λ here. ap (λ (n : ℕ). eqb n 1) (c.count_in.ensures here) ∙ named_command c.code_at-command.ensures
     c.in-16.is here
 
-pub returns-in-17 : goal.returns-in-17
-returns-in-17 c = λ here. c.constraint_shape-in-17.ensures here ∙ named_command c.code_at-command.ensures c.in-17.is here
-
 pub returns-in-18 : goal.returns-in-18
 returns-in-18 c = λ here. c.set_feature_shape.ensures here ∙ named_command c.code_at-command.ensures c.in-18.is here
 
 pub returns-in_default : goal.returns-in_default
 returns-in_default c =
-    let n = c.in_default.in_default-own.rest in
-    no_command c.code_at-command.ensures n.0.0.0.0.0.0.0.1 n.0.0.0.0.0.0.1 n.0.0.0.0.0.1 n.0.0.0.0.1 n.0.0.0.1
-    n.0.0.1 n.0.1 n.1
+    no_command c.code_at-command.ensures (λ e. omega arith) (λ e. omega arith) (λ e. omega arith) (λ e. omega arith) (search rules)
+    (λ e. omega arith)
+    (λ e. omega arith)
