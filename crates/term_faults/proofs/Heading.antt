@@ -31,7 +31,3 @@ module _ {signatures : List ℕ} {listed head : ℕ} where
     head_there e p =
         let row = row_of signatures non_terminal_signature p.sorts head p.are (omega (arith, p.counted)) in
         record { is = e ∙ row.result_is; low = rw (e ∙ row.result_is) row.sort }
-
-    -- The table ends before.
-    pub head_gone : length signatures ≤ signature_width * (non_terminal_signature + head) + 1 → (p : Heads signatures listed) → HeadSort p head 0
-    head_gone l p = head_there (sym (get_or-eq_default signatures 0 l)) p

@@ -4,7 +4,7 @@ ghost use Rattle.term_faults.specs.code.Grammars.{FindsInRules, HeadSort, Heads,
 use crate::roots::side_misfit;
 use derivation::RULE;
 use forest::limits;
-use forest::numbers::least;
+use forest::numbers::{entry_at, least};
 
 // How many numbers a signature has.
 const ROW: usize = 2 + limits::ARGUMENTS;
@@ -17,14 +17,11 @@ fn head_sort(signatures: &[u64], head: usize, listed: usize) -> u64
     requires { Heads signatures.now listed }
     ensures { (p : Heads signatures.now listed) → HeadSort p head result }
 {
-    if head >= listed {
-        return 0;
+    if head < listed {
+        entry_at(signatures, ROW * (FIRST + head) + 1)
+    } else {
+        0
     }
-    let place = ROW * (FIRST + head) + 1;
-    if place >= signatures.len() {
-        return 0;
-    }
-    signatures[place]
 }
 
 // The least first word of a rule that is not of its non-terminal's sort, of which `listed` are declared; `nowhere` where all are.

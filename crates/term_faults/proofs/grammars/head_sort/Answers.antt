@@ -1,11 +1,8 @@
-use Rattle.term_faults.proofs.Heading.{head_gone, head-past, head_there}
+use Rattle.term_faults.proofs.Heading.{head-past, head_there}
 use Rattle.term_faults.proofs.grammars.head_sort.Goals as goal
 
 pub returns-then-head-listed : goal.returns-then-head-listed
-returns-then-head-listed c = search head-past
+returns-then-head-listed c = search head_there
 
-pub returns-then-place-signatures : goal.returns-then-place-signatures
-returns-then-place-signatures c = search head_gone
-
-pub returns : goal.returns
-returns c = search head_there
+pub returns-else-head-listed : goal.returns-else-head-listed
+returns-else-head-listed c = search head-past
