@@ -32,10 +32,11 @@ READ = ("src", "specs", "proofs")
 STATED = ("src", "specs")
 
 LISTED = re.compile(r"\w+")
-FUNCTION = re.compile(r'^((?:#\[.*\]\n)*)(?:pub(?:\([a-z]+\))? )?(?:extern "C" )?fn (\w+)', re.MULTILINE)
+FUNCTION = re.compile(r'^((?: *#\[.*\]\n)*)( *)(?:pub(?:\([a-z]+\))? )?(?:extern "C" )?fn (\w+)', re.MULTILINE)
+OWNER = re.compile(r"^impl(?:<[^>]*>)? (?:\S+ for )?(\w+)", re.MULTILINE)
 CYCLE = re.compile(r"#\[cycle\((\w+)\)\]")
 REFUSED = re.compile(r"(\S+) at (\S+)")
-PUBLIC_FUNCTION = re.compile(r'^pub (?:extern "C" )?fn (\w+)', re.MULTILINE)
+PUBLIC_FUNCTION = re.compile(r'^ *pub (?:extern "C" )?fn (\w+)', re.MULTILINE)
 PUBLIC_MODULE = re.compile(r"^pub mod (\w+);", re.MULTILINE)
 IN_PROOF = re.compile(r"(?:\./)?proofs/(\S+?)(?:/(?:Answers|Invariants|Proof))?\.antt:\d+:\d+: error: `([^`]+)`: (.*)")
 IN_CODE = re.compile(r"note: (?:\./)?src/(\S+)\.rt:(\d+):\d+: it is not proved that .*\(`([^`]+)`\)")
@@ -93,10 +94,15 @@ def replacements_of(text):
 def public_functions(library):
     """The functions of a crate that another crate can call, by the path of its src/lib.rt."""
     text = text_of(library)
-    yield from PUBLIC_FUNCTION.findall(text)
+    yield from public_in(text, [])
     for module in PUBLIC_MODULE.findall(text):
-        code = text_of(os.path.join(os.path.dirname(library), module + ".rt"))
-        yield from ("%s::%s" % (module, name) for name in PUBLIC_FUNCTION.findall(code))
+        yield from public_in(text_of(os.path.join(os.path.dirname(library), module + ".rt")), [module])
+
+
+def public_in(code, modules):
+    """The public functions of a text of code."""
+    public = [code.count("\n", 0, found.start(1)) + 1 for found in PUBLIC_FUNCTION.finditer(code)]
+    yield from (in_module(modules, name) for line, name, _ in functions_of(code) if line in public)
 
 
 def too_few():
@@ -146,14 +152,17 @@ def sum_of(path, uses, kit):
 # What the prover said
 
 def functions_of(code):
-    """Each function of a text of code: the line at which it begins, its name, and its cycle of calls, if it is in one."""
+    """Each function of a text of code: its line, its name, behind that of its type if it is a method, and its cycle of calls, if it is in one."""
     for found in FUNCTION.finditer(code):
         cycle = CYCLE.search(found.group(1))
-        yield code.count("\n", 0, found.start()) + 1, found.group(2), cycle and cycle.group(1)
+        owners = OWNER.findall(code, 0, found.start()) if found.group(2) else []
+        yield code.count("\n", 0, found.start(3)) + 1, "::".join(owners[-1:] + [found.group(3)]), cycle and cycle.group(1)
 
 
 def in_module(path, name):
-    """A function by its modules, as `module::function`."""
+    """A function by its modules, as `module::function`; a method by its type alone, as the prover names it."""
+    if "::" in name:
+        return name
     return "::".join([part for part in path if part not in ("lib", "main")] + [name])
 
 

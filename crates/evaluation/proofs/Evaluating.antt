@@ -18,8 +18,8 @@ use Rattle.terms.specs.code.Codes.{cut_value, head_of, kind_of, literal_kind, na
 use Rattle.terms.specs.code.Nodes.{Plain, code_at, code_of, operands_at, size_at, value_at, value_of}
 use Rattle.terms.specs.Values.{Meaning, defined_value, label_value, meaning_at, numbers_in, sorts_in, value, values_at}
 use Rattle.terms.specs.declared.Value.{Value}
-use Rattle.evaluation.specs.code.Evaluator.{Evaluable, Evaluated, Names, OperandsAre, OperandsEvaluable, OperandsEvaluated, OperatorGave, OperatorReady}
-use Rattle.evaluation.specs.code.Evaluator.{Room, ValueIs}
+use Rattle.evaluation.specs.code.Evaluator.{Evaluable, Evaluated, Names, OperandsAre, OperandsEvaluable, OperandsEvaluated, OperatorGave, OperatorReady, Room}
+use Rattle.evaluation.specs.code.Evaluator.{ValueIs}
 use Rattle.evaluation.specs.code.Tables.{TermStands, body_place}
 use Rattle.evaluation.proofs.Stack.{kept_below, pushed_kept, pushed_names}
 use Rattle.evaluation.proofs.LabelValues.{Operator, call_label, literal_label, name_label, no_functions, operator_label}
@@ -293,7 +293,3 @@ module _ {nodes bodies stack : List ℕ} {base top i left : ℕ} (e : Evaluable 
                   kept = kept_below top (top + m) after' after (omega arith) given.kept ∙ after_kept;
                   as_long = given.as_long ∙ after_long;
                 }
-
-            -- The stack is as long as before.
-            pub body_long : {after' : List ℕ} {r : Value} → Evaluated nodes bodies after after' top (top + m) b (left - 1) r → length after' ≡ length stack
-            body_long g = (body_result g).as_long

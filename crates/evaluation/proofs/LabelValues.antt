@@ -18,7 +18,8 @@ use Rattle.terms.specs.code.Codes.{cut_value, head_of, kind_of, literal_kind, lo
 use Rattle.terms.specs.code.Nodes.{Plain, code_of, value_of}
 use Rattle.terms.proofs.CodeParts.{head_with}
 use Rattle.terms.specs.Sorts.{Definition}
-use Rattle.terms.specs.Values.{Meaning, defined_value, function_value, label_value, meaning_at, numbers_in, operator_gives, sorts_in, value, values_at, values_in}
+use Rattle.terms.specs.Values.{Meaning, defined_value, function_value, label_value, meaning_at, numbers_in, operator_gives, sorts_in, value, values_at}
+use Rattle.terms.specs.Values.{values_in}
 use Rattle.terms.specs.declared.Value.{Value}
 use Rattle.evaluation.specs.code.Tables.{BodiesHold, Callable, body_place}
 use Rattle.forest.specs.Limits.{most_defined, most_functions}

@@ -7,7 +7,6 @@ pub mod CostTurns
 pub mod Prices
 pub mod Operators
 pub mod Stack
-pub mod Fronts
 pub mod Operands
 pub mod LabelValues
 pub mod Evaluating

@@ -17,7 +17,7 @@ use Rattle.terms.specs.code.Nodes.{size_at}
 use Rattle.terms.specs.Values.{Meaning, label_value, meaning_at, sorts_in, value_over, values_at, values_in, with_value}
 use Rattle.terms.specs.declared.Value.{Value}
 use Rattle.evaluation.specs.code.Evaluator.{Evaluable, Evaluated, Names, OperandsAre, OperandsEvaluable, Pushed, Room}
-use Rattle.evaluation.proofs.Stack.{below_same, nothing_pushed, pushed_kept, pushed_more, sort_more}
+use Rattle.evaluation.proofs.Stack.{below_same, pushed_kept, pushed_more, sort_more}
 use Rattle.terms.proofs.Cursors.{tree_within}
 use Rattle.terms.proofs.Valued.{TreeParts, tree_parts}
 
@@ -45,25 +45,6 @@ pub record Done {nodes bodies stack : List ℕ} {base top i stop left : ℕ} (e 
   pub sort_two : two ≡ get_or (sorts_in done) 1 0
 
 module _ {nodes bodies stack : List ℕ} {base top i stop left : ℕ} (e : OperandsEvaluable nodes bodies stack base top i stop left) where
-  -- At the start none is passed.
-  pub none_done : Done e stack 0 0 i 0
-  none_done =
-      record {
-        operands = e.ops;
-        at = e.at;
-        ends = e.ends;
-        room = omega (arith, e.room);
-        cost = e.cost;
-        done = [];
-        vs = e.vs;
-        has = e.has;
-        all = refl;
-        number = refl;
-        pushed = nothing_pushed stack top;
-        sort_one = refl;
-        sort_two = refl;
-      }
-
   module _ {after : List ℕ} {one two j k : ℕ} (r : Done e after one two j k) where
     -- At the end all are.
     pub all_done : stop ≤ j → OperandsAre stack after top one two e.vs

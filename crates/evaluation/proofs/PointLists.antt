@@ -25,12 +25,12 @@ none_before sorts numbers = record { inside = omega arith; so_far = refl }
 
 module _ {sorts numbers : List ℕ} {i : ℕ} (before : NoneBefore sorts numbers i) where
   -- Where no number is left, none is outside its sort.
-  pub none_outside : length numbers ≤ i → i ≡ first_outside sorts numbers 0
+  pub none_outside : length numbers ≤ i → first_outside sorts numbers 0 ≡ length numbers
   unfolding first_outside
   none_outside h =
       let e : i ≡ length numbers = omega arith in
       let n : drop i numbers ≡ [] = ap (λ (k : ℕ). drop k numbers) e ∙ drop-length numbers in
-      ap (λ (l : List ℕ). first_outside sorts l i) (sym n) ∙ before.so_far
+      sym before.so_far ∙ ap (λ (l : List ℕ). first_outside sorts l i) n ∙ e
 
   module _ {fits : Bool} (left : i < length numbers) (tested : fits ≡ ltb (get_or numbers i 0) (values_of (get_or sorts (i % length sorts) 0))) where
     -- A number that does not fit its sort is the first outside.
@@ -60,12 +60,12 @@ module _ (sorts numbers : List ℕ) {cut : Bool} (tested : cut ≡ cut_short (le
     variable-sorts e = record { small = e.small; some-variable = no_numbers (length sorts) (length numbers) (sym tested ∙ whole) }
 
     -- A number outside its sort makes the list bad there.
-    pub bad_number : {i : ℕ} → i ≡ first_outside sorts numbers 0 → i < length numbers → Bad i ≡ points_of sorts numbers
+    pub bad_number : {i : ℕ} → (i < length numbers) × (i ≡ first_outside sorts numbers 0) → Bad i ≡ points_of sorts numbers
     unfolding points_of
-    bad_number {i} e h = rw (sym tested ∙ whole, ← e, lt-ltb i (length numbers) h)
+    bad_number {i} (h, e) = rw (sym tested ∙ whole, ← e, lt-ltb i (length numbers) h)
 
     -- Any other list is good.
-    pub good_points : {i n : ℕ} → i ≡ first_outside sorts numbers 0 → length numbers ≤ i → n ≡ point_count (length sorts) (length numbers)
+    pub good_points : {n : ℕ} → first_outside sorts numbers 0 ≡ length numbers → n ≡ point_count (length sorts) (length numbers)
         → Good n ≡ points_of sorts numbers
     unfolding points_of
-    good_points {i} e h q = rw (sym tested ∙ whole, ← e, le-ltb i (length numbers) h, q)
+    good_points e q = rw (sym tested ∙ whole, e, le-ltb (length numbers) (length numbers) (omega arith), q)

@@ -71,12 +71,6 @@ module _ {nodes bodies costs places : List ℕ} {s : Stated} {sorts numbers : Li
     pub so_far : runs (point_count (length sorts) (length numbers) - p) p r.held (left_of r.ran)
         ≡ runs (point_count (length sorts) (length numbers)) 0 0 budget
 
-  -- At the start all points are.
-  pub points_start : (budget : ℕ) → PointsLeft budget (run 0 (Passed budget)) 0
-  points_start budget =
-      let all : point_count (length sorts) (length numbers) - 0 ≡ point_count (length sorts) (length numbers) = omega arith in
-      record { inside = omega arith; few = omega arith; passed = refl; so_far = rw all }
-
   -- Where there are no points all terms were true.
   pub no_points : (budget : ℕ) {count : ℕ} → count ≡ point_count (length sorts) (length numbers) → count ≡ 0
       → run 0 (Passed budget) ≡ runs (point_count (length sorts) (length numbers)) 0 0 budget
@@ -150,10 +144,6 @@ module _ {nodes bodies costs places : List ℕ} {s : Stated} {sorts numbers : Li
       -- It has as many values.
       pub point_counted : length (point_at sorts numbers p) ≡ length sorts
       point_counted = length_by sorts (drop (p * length sorts) numbers)
-
-      -- There is room for them on a stack.
-      pub point_room : (stack : List ℕ) → length stack ≡ stack_size → length numbers_here ≤ length stack
-      point_room stack long = omega (arith, here_counted, e.few_variables, long)
 
       -- The stack has them once they are put there.
       pub point_names : {stack after : List ℕ} → Fronted stack after numbers_here → Names after 0 (point_at sorts numbers p)

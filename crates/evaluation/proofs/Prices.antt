@@ -15,10 +15,6 @@ use Rattle.evaluation.specs.code.Costs.{Cost, FilledTo, Filling, Priceable, Pric
 use Rattle.forest.specs.Limits.{most_defined, most_functions}
 use Rattle.evaluation.proofs.Bodies.{held_defined, held_function, held_seen}
 
--- At the start nothing is filled in.
-pub fill_start : (costs : List ℕ) (base : ℕ) (price : ℕ → ℕ) → FilledTo costs costs base 0 price
-fill_start costs base price = record { kept = λ j l. refl; filled = λ j l. absurd (omega arith); as_long = refl }
-
 -- What is held of one price more.
 pub fill_more : {costs after : List ℕ} {base k v : ℕ} {price : ℕ → ℕ} → FilledTo costs after base k price → base + k < length after → v ≡ held (price k)
     → FilledTo costs (set after (base + k) v) base (k + 1) price

@@ -17,7 +17,7 @@ use Rattle.evaluation.specs.code.Budget.{held}
 use Rattle.evaluation.specs.code.Evaluator.{Evaluable, Evaluated, Names, Room}
 use Rattle.evaluation.specs.code.Tables.{CallsKnown, TermStands}
 use Rattle.evaluation.specs.Running.{is_true_value, run_terms}
-use Rattle.evaluation.specs.code.Running.{AllValued, FrontKept, HasTruth, Runnable, SmallTerms, TermsFrom, stated_terms}
+use Rattle.evaluation.specs.code.Running.{AllValued, FrontKept, HasTruth, Runnable, SmallTerms, TermsFrom}
 use Rattle.evaluation.specs.declared.Ran.{Ran}
 use Rattle.evaluation.specs.declared.Ran.TheVariants.{Ended, False, Passed}
 use Rattle.evaluation.proofs.ValuedTrees.{calls_known}
@@ -54,11 +54,6 @@ first-at all places k (t ∷ ts) l h = record { t = t; others = ts; is = refl; s
 none_left : (ts : List Terms) → length ts ≡ 0 → ts ≡ []
 none_left [] h = refl
 none_left (t ∷ ts) h = absurd (omega arith)
-
--- The terms have room in the tables.
-pub turn_within : {nodes bodies prices places stack : List ℕ} {width first count : ℕ} → Runnable nodes bodies prices places stack width first count
-    → first + count ≤ stated_terms
-turn_within e = omega (arith, e.counted, e.placed.within)
 
 module _ {nodes bodies prices places stack : List ℕ} {width first count : ℕ} (e : Runnable nodes bodies prices places stack width first count)
     (p budget : ℕ) where

@@ -13,9 +13,7 @@ use Rattle.terms.specs.Sorts.{Definition}
 use Rattle.terms.specs.declared.Value.{Value}
 use Rattle.evaluation.specs.code.Costs.{Cost}
 use Rattle.evaluation.specs.code.Tables.{CallsKnown, TermStands}
-use Rattle.evaluation.specs.code.Running.{AllValued, Prices, StatedCosting, StatedPriced, TermsFrom, stated_terms}
-use Rattle.evaluation.specs.declared.Stated.{Stated}
-use Rattle.forest.specs.Limits.{first_assumption}
+use Rattle.evaluation.specs.code.Running.{AllValued, Prices, TermsFrom}
 use Rattle.evaluation.proofs.ValuedTrees.{calls_known}
 
 -- A term stands at node i, and applies only functions that are known.
@@ -37,10 +35,6 @@ known_at all defs funs point places m (t ∷ ts) h v k a l = by_case (eqb k m) r
     by_case false q later = let other = eqb-false k m q in later (omega arith) (omega arith)
 
 module _ {nodes bodies costs places prices : List ℕ} {first : ℕ} where
-  -- At the start nothing is put.
-  pub prices_start : Prices nodes bodies costs places prices prices first first
-  prices_start = record { each = λ k a l. absurd (omega arith); before = λ k l. refl; as_long = refl }
-
   -- What is held of one cost more.
   pub prices_more : {after : List ℕ} {n cost : ℕ} → Prices nodes bodies costs places prices after first n → first ≤ n → n < length prices
       → Cost nodes bodies costs (get_or places n 0) cost → Prices nodes bodies costs places prices (set after n cost) first (n + 1)
@@ -56,14 +50,3 @@ module _ {nodes bodies costs places prices : List ℕ} {first : ℕ} where
       by_case k a l false q =
           let other = eqb-false k n q in
           rw (get_or-set_other after n k cost 0 (λ z. other (omega arith))) (f.each k a (omega arith))
-
--- The costs of constraints and assumptions, once those of both are put.
-pub stated_priced : {nodes bodies costs places : List ℕ} {s : Stated} {blank some all : List ℕ} → StatedCosting nodes bodies costs places s
-    → length blank ≡ stated_terms → Prices nodes bodies costs places blank some 0 (0 + s.constraints)
-    → Prices nodes bodies costs places some all first_assumption (first_assumption + s.assumptions) → StatedPriced nodes bodies costs places s all
-stated_priced {all = all} e long one two =
-    record {
-      constraints = λ k l. rw (two.before k (omega (arith, e.few))) (one.each k (omega arith) (omega arith));
-      assumptions = two.each;
-      as_long = two.as_long ∙ one.as_long ∙ long;
-    }

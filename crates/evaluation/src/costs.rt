@@ -4,32 +4,12 @@ ghost use Rattle.evaluation.specs.code.Costs.{Cost, Costing, FilledIn, Filling, 
 ghost use Rattle.evaluation.specs.code.Tables.{body_place};
 
 use forest::limits;
+use forest::numbers::entry_at;
 use terms::codes::{DEFINED, FUNCTION, kind_of};
 use terms::{code_at, size_at, value_at};
 
 // How many bodies there may be: those of `define-fun`s, and behind them those of synthesized functions. Also a place that no body has.
 pub const BODIES: usize = limits::DEFINED + limits::FUNCTIONS;
-
-// sum + more, or 2^64 - 1 where that is less.
-fn saturating(sum: u64, more: u64) -> u64
-    ensures { result ≡ min (sum + more) (2 ^ 64 - 1) }
-{
-    if more <= u64::MAX - sum {
-        sum + more
-    } else {
-        u64::MAX
-    }
-}
-
-// A number of a list, 0 past its end.
-pub(crate) fn number_in(list: &[u64], index: usize) -> u64
-    ensures { result ≡ get_or list.now index 0 }
-{
-    if index < list.len() {
-        return list[index];
-    }
-    0
-}
 
 // The place of the body of the function that a label applies; `BODIES` for a label that applies none.
 pub(crate) fn body_place(code: u64, value: u64) -> usize
@@ -51,15 +31,12 @@ pub fn cost_at(nodes: &[u64], bodies: &[u64], costs: &[u64], node: usize) -> u64
     ensures { Cost nodes.now bodies.now costs.now node result }
 {
     let size = size_at(nodes, node);
-    let stop = node + size;
     let mut sum = (size - 1) as u64;
-    let mut j = node;
-    while j < stop {
+    for j in node..node + size {
         let place = body_place(code_at(nodes, j), value_at(nodes, j));
         if place < BODIES {
-            sum = saturating(saturating(sum, number_in(costs, place)), 1);
+            sum = sum.saturating_add(entry_at(costs, place)).saturating_add(1);
         }
-        j += 1;
     }
     sum
 }
@@ -69,11 +46,9 @@ fn fill_from(nodes: &[u64], bodies: &[u64], costs: &mut [u64; BODIES], base: usi
     requires { Filling nodes.now bodies.now costs.old base count }
     ensures { FilledIn nodes.now bodies.now costs.old costs.new base count }
 {
-    let mut k = 0;
-    while k < count {
-        let cost = cost_at(nodes, bodies, costs, number_in(bodies, base + k) as usize);
+    for k in 0..count {
+        let cost = cost_at(nodes, bodies, costs, entry_at(bodies, base + k) as usize);
         costs[base + k] = cost;
-        k += 1;
     }
 }
 

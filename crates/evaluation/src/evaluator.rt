@@ -2,7 +2,8 @@
 ghost use Rattle.std.specs.Prelude.{◌≡◌, cond, eqb};
 ghost use Rattle.evaluation.specs.code.Evaluator.{Evaluable, Evaluated, OperandsEvaluable, OperandsEvaluated, OperatorGave, OperatorReady};
 
-use crate::costs::{body_place, number_in};
+use crate::costs::body_place;
+use forest::numbers::entry_at;
 use operators::operators::{apply, result_sort};
 use terms::codes::{LITERAL, NAME, OPERATOR, head_of, high_in, kind_of, low_in};
 use terms::{Value, code_at, operands_at, size_at, value_at};
@@ -83,7 +84,7 @@ pub fn eval_term(
     if kind == NAME {
         return Value {
             sort: head_of(code),
-            number: number_in(stack, base + value as usize),
+            number: entry_at(stack, base + value as usize),
         };
     }
     let stop = node + size_at(nodes, node);
@@ -92,7 +93,7 @@ pub fn eval_term(
     if kind == OPERATOR {
         return operator_at(head_of(code), value, sorts, stack, top, past);
     }
-    let body = number_in(bodies, body_place(code, value)) as usize;
+    let body = entry_at(bodies, body_place(code, value)) as usize;
     eval_term(nodes, bodies, stack, top, past, body, left - 1)
 }
 

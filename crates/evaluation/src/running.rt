@@ -16,36 +16,31 @@ const STACK: usize = limits::VARIABLES + limits::NODES * (BODIES + 1);
 // How many terms a table of them has room for: constraints in front, and assumptions from their first number on.
 const STATED: usize = limits::FIRST_ASSUMPTION + limits::ASSUMPTIONS;
 
-// What is left of the budget.
-pub fn left_of(ran: Ran) -> u64
-    ensures { result ≡ left_of ran }
-{
-    match ran {
-        Ran::Passed(left) => left,
-        Ran::False(_, _, left) => left,
-        Ran::Ended(_, _, left) => left,
+impl Ran {
+    // What is left of the budget.
+    pub fn left(self) -> u64
+        ensures { result ≡ left_of self }
+    {
+        match self {
+            Ran::Passed(left) | Ran::False(_, _, left) | Ran::Ended(_, _, left) => left,
+        }
     }
-}
 
-// Whether all terms were true.
-pub(crate) fn all_passed(ran: Ran) -> bool
-    ensures { result ≡ all_passed ran }
-{
-    match ran {
-        Ran::Passed(_) => true,
-        Ran::False(_, _, _) => false,
-        Ran::Ended(_, _, _) => false,
+    // Whether all terms were true.
+    fn all_passed(self) -> bool
+        ensures { result ≡ all_passed self }
+    {
+        matches!(self, Ran::Passed(_))
     }
-}
 
-// What a false assumption leaves: the point is passed over.
-fn skipping(ran: Ran) -> Ran
-    ensures { result ≡ skipping ran }
-{
-    match ran {
-        Ran::Passed(left) => Ran::Passed(left),
-        Ran::False(_, _, left) => Ran::Passed(left),
-        Ran::Ended(point, term, left) => Ran::Ended(point, term, left),
+    // What a false assumption leaves: the point is passed over.
+    fn skipping(self) -> Ran
+        ensures { result ≡ skipping self }
+    {
+        match self {
+            Ran::False(_, _, left) => Ran::Passed(left),
+            other => other,
+        }
     }
 }
 
@@ -64,12 +59,9 @@ fn put_costs(
     ensures { Prices nodes.now bodies.now costs.now places.now
         prices.old prices.new first (first + count) }
 {
-    let end = first + count;
-    let mut k = first;
-    while k < end {
+    for k in first..first + count {
         let cost = cost_at(nodes, bodies, costs, places[k] as usize);
         prices[k] = cost;
-        k += 1;
     }
 }
 
@@ -85,11 +77,7 @@ fn put_point(stack: &mut [u64], numbers: &[u64])
     requires { length numbers.now ≤ length stack.old }
     ensures { Fronted stack.old stack.new numbers.now }
 {
-    let mut k = 0;
-    while k < numbers.len() {
-        stack[k] = numbers[k];
-        k += 1;
-    }
+    stack[..numbers.len()].copy_from_slice(numbers);
 }
 
 // Runs the terms of a turn, which begin at the nodes of `places`, one after the other, at a point, whose values are the first `width` of the stack; `prices` has
@@ -110,8 +98,7 @@ fn run_terms(
 {
     let end = turn.first + turn.count;
     let mut left = budget;
-    let mut k = turn.first;
-    while k < end {
+    for k in turn.first..end {
         let cost = prices[k];
         if left <= cost {
             return Ran::Ended(turn.point, k, left);
@@ -121,7 +108,6 @@ fn run_terms(
         if value.number != 1 {
             return Ran::False(turn.point, k, left);
         }
-        k += 1;
     }
     Ran::Passed(left)
 }
@@ -156,10 +142,10 @@ fn run_point(
         assumptions,
         budget,
     );
-    if !all_passed(assumed) {
+    if !assumed.all_passed() {
         return Run {
             held: 0,
-            ran: skipping(assumed),
+            ran: assumed.skipping(),
         };
     }
     let constraints = Turn {
@@ -167,7 +153,7 @@ fn run_point(
         first: 0,
         count: visit.stated.constraints,
     };
-    let left = left_of(assumed);
+    let left = assumed.left();
     Run {
         held: 1,
         ran: run_terms(
@@ -245,12 +231,10 @@ pub fn run_points(
         held: 0,
         ran: Ran::Passed(budget),
     };
-    let mut point = 0;
-    while point < count {
+    for point in 0..count {
         let start = point * width;
         put_point(&mut stack, &numbers[start..start + width]);
-        let before = run.ran;
-        let left = left_of(before);
+        let left = run.ran.left();
         let visit = Visit { point, stated };
         let here = run_point(
             nodes, bodies, &prices, places, &mut stack, width, visit, left,
@@ -258,10 +242,9 @@ pub fn run_points(
         let held = run.held + here.held;
         let ran = here.ran;
         run = Run { held, ran };
-        if !all_passed(ran) {
+        if !ran.all_passed() {
             return run;
         }
-        point += 1;
     }
     run
 }

@@ -10,7 +10,7 @@ ghost use Rattle.test_values.specs.Case.{all, answer_of, assumed, constraints, d
 
 use evaluation::costs::{body_costs, cost_at};
 use evaluation::evaluator::eval_term;
-use evaluation::running::{left_of, run_points};
+use evaluation::running::run_points;
 use evaluation::{Ran, Run, Stated};
 use forest::limits;
 
@@ -118,8 +118,7 @@ fn run(assumptions: usize, budget: u64) -> Run
 fn answer(run: Run) -> u64
     ensures { result ≡ answer_of run.ran }
 {
-    let ran = run.ran;
-    match ran {
+    match run.ran {
         Ran::Passed(_) => 0,
         Ran::False(_, _, _) => 14,
         Ran::Ended(_, _, _) => 15,
@@ -130,8 +129,7 @@ fn answer(run: Run) -> u64
 fn left(run: Run) -> u64
     ensures { result ≡ left_of run.ran }
 {
-    let ran = run.ran;
-    left_of(ran)
+    run.ran.left()
 }
 
 // At how many points the assumption held.

@@ -10,7 +10,7 @@ ghost use Rattle.verdicts.specs.code.Evaluate.{Constrained, Evaluable, Evaluates
 
 use evaluation::costs::body_costs;
 use evaluation::points::points_of;
-use evaluation::running::{left_of, run_points};
+use evaluation::running::run_points;
 use evaluation::{PointList, Ran, Run, Stated};
 use forest::limits;
 use names::table::{VARIABLES, sort_in};
@@ -73,7 +73,7 @@ fn run_outcome(run: Run, budget: u64) -> Outcome
     ensures { result ≡ run_outcome budget run }
 {
     let ran = run.ran;
-    let units = budget - left_of(ran);
+    let units = budget - ran.left();
     match ran {
         Ran::Passed(_) => Outcome {
             number: ACCEPTED,

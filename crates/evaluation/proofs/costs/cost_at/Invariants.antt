@@ -5,7 +5,4 @@ use Rattle.evaluation.proofs.CostTurns.{Summed}
 use Rattle.evaluation.proofs.costs.cost_at.Given as goal
 
 abbrev pub invariant-loop-j : goal.invariant-loop-j
-invariant-loop-j l = (l.sum ≤ 2 ^ 64 - 1) × (l.stop ≤ length l.nodes) × ((e : Costing l.nodes l.bodies l.costs l.node) → Summed e l.stop l.sum l.j)
-
-abbrev pub decreases-loop-j : goal.decreases-loop-j
-decreases-loop-j l = l.stop - l.j
+invariant-loop-j l = (l.sum ≤ 2 ^ 64 - 1) × (l.j-end ≤ length l.nodes) × ((e : Costing l.nodes l.bodies l.costs l.node) → Summed e l.j-end l.sum l.j)

@@ -1,11 +1,8 @@
-use Rattle.evaluation.proofs.Evaluating.{after_long, body_evaluable, body_long, body_result, left_some, literal_value, name_value, name_within}
-use Rattle.evaluation.proofs.Evaluating.{operands_evaluable, operator_ready, operator_result, pushed_within, term_within}
+use Rattle.evaluation.proofs.Evaluating.{body_evaluable, body_result, left_some, literal_value, name_value, name_within, operands_evaluable, operator_ready}
+use Rattle.evaluation.proofs.Evaluating.{operator_result, pushed_within, term_within}
 use native.Mathlib.Omega.{arith}
-use Rattle.evaluation.proofs.Operands.{all_done, none_done, one_done, operand_evaluable, operand_place, operand_room, operand_size, operand_within}
+use Rattle.evaluation.proofs.Operands.{all_done, one_done, operand_evaluable, operand_place, operand_room, operand_size, operand_within}
 use Rattle.evaluation.proofs.evaluator.+eval_operands_eval_term.Goals as goal
-
-pub eval_operands-loop-j-init : goal.eval_operands-loop-j-init
-eval_operands-loop-j-init t c = λ e. none_done e
 
 pub eval_operands-overflow_add-place : goal.eval_operands-overflow_add-place
 eval_operands-overflow_add-place t c =
@@ -48,11 +45,6 @@ pub eval_operands-loop-j-preserved : goal.eval_operands-loop-j-preserved
 eval_operands-loop-j-preserved t c =
     λ e. one_done e (c.loop-j.invariant e) c.loop-j-test.true c.size_at-j.ensures c.eval_term-value.ensures c.with_sort-sorts.ensures.0 c.with_sort-sorts.ensures.1
 
-pub eval_operands-shape_of-stack : goal.eval_operands-shape_of-stack
-eval_operands-shape_of-stack t c =
-    let e = c.requires in
-    (c.loop-j.invariant e).pushed.as_long
-
 pub eval_operands-returns : goal.eval_operands-returns
 eval_operands-returns t c = λ e. all_done e (c.loop-j.invariant e) c.loop-j-test.false
 
@@ -92,9 +84,6 @@ eval_term-overflow_add-past t c =
 pub eval_term-operator_at-requires : goal.eval_term-operator_at-requires
 eval_term-operator_at-requires t c = search (operator_ready c.requires)
 
-pub eval_term-shape_of-stack-then-kind-eq-OPERATOR : goal.eval_term-shape_of-stack-then-kind-eq-OPERATOR
-eval_term-shape_of-stack-then-kind-eq-OPERATOR t c = search (after_long c.requires)
-
 pub eval_term-returns-then-kind-eq-OPERATOR : goal.eval_term-returns-then-kind-eq-OPERATOR
 eval_term-returns-then-kind-eq-OPERATOR t c = λ e. search (operator_result e)
 
@@ -106,11 +95,8 @@ eval_term-eval_term-requires t c =
     let evaluable = body_evaluable c.requires c.code_at-code.ensures c.value_at-value.ensures
     c.kind_of-kind.ensures c.if-kind-eq-LITERAL.false c.if-kind-eq-NAME.false
     c.size_at.ensures c.eval_operands-sorts.ensures c.operands_at.ensures
-    c.if-kind-eq-OPERATOR.false c.body_place.ensures c.number_in-body.ensures in
+    c.if-kind-eq-OPERATOR.false c.body_place.ensures c.entry_at-body.ensures in
     (omega (arith, left_some c.requires), evaluable)
-
-pub eval_term-shape_of-stack : goal.eval_term-shape_of-stack
-eval_term-shape_of-stack t c = search (body_long c.requires)
 
 pub eval_term-returns : goal.eval_term-returns
 eval_term-returns t c = λ e. search (body_result e)

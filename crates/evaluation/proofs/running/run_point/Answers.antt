@@ -20,7 +20,7 @@ returns c = λ e.
     let args = c.args in
     let got = c.run_terms-assumed.ensures in
     let passed = c.all_passed.ensures in
-    let left = c.left_of-left.ensures in
+    let left = c.left-left.ensures in
     let then = c.run_terms.ensures in (
       point_tested args.visit e args.budget got passed _ left then (ap not c.if-not-all_passed.false),
       point_long args.visit e args.budget got passed _ left then,

@@ -1,15 +1,8 @@
 use mathlib.Core.Bool.{not}
-use Rattle.evaluation.proofs.PointRuns.{point_within, points-end, points_start, stated_costing, here_held, last_long, no_points}
-use Rattle.evaluation.proofs.PointRuns.{point_passed, point_room, point_runnable, point_stopped}
-use Rattle.evaluation.specs.code.Running.{stack_size}
-use lib.ListN.{length, length-replicate}
+use Rattle.evaluation.proofs.PointRuns.{point_within, points-end, stated_costing, here_held, last_long, no_points, point_passed, point_runnable, point_stopped}
 use native.Mathlib.Omega.{arith}
-use mathlib.Core.Path.{sym, ap, ◌∙◌}
-use Prim.Native.Nat.{ℕ}
+use mathlib.Core.Path.{ap}
 use Rattle.evaluation.proofs.running.run_points.Goals as goal
-
-pub point_count-count-requires : goal.point_count-count-requires
-point_count-count-requires c = tt
 
 pub returns-then-count-eq0 : goal.returns-then-count-eq0
 returns-then-count-eq0 c = λ e. no_points e _ c.point_count-count.ensures c.if-count-eq0.true
@@ -17,19 +10,10 @@ returns-then-count-eq0 c = λ e. no_points e _ c.point_count-count.ensures c.if-
 pub term_costs-prices-requires : goal.term_costs-prices-requires
 term_costs-prices-requires c = stated_costing c.requires c.point_count-count.ensures c.if-count-eq0.false
 
-pub blank_stack-stack-requires : goal.blank_stack-stack-requires
-blank_stack-stack-requires c = tt
-
-pub loop-point-init : goal.loop-point-init
-loop-point-init c = (ap length c.blank_stack-stack.ensures ∙ length-replicate {A = ℕ} stack_size 0, λ e. points_start e _)
-
 pub overflow_mul-start : goal.overflow_mul-start
 overflow_mul-start c = let e = c.requires in
     let h = point_within e (c.loop-point.invariant.1 e) c.point_count-count.ensures c.loop-point-test.true in
     omega (arith, h)
-
-pub slice_bounds-put_point-end : goal.slice_bounds-put_point-end
-slice_bounds-put_point-end c = sym c.loop-point.invariant.0
 
 pub overflow_add-start : goal.overflow_add-start
 overflow_add-start c = let e = c.requires in
@@ -41,26 +25,9 @@ offset_bounds-numbers-start c = let e = c.requires in
     let h = point_within e (c.loop-point.invariant.1 e) c.point_count-count.ensures c.loop-point-test.true in
     omega (arith, h)
 
-pub slice_bounds-put_point-count : goal.slice_bounds-put_point-count
-slice_bounds-put_point-count c = omega arith
-
-pub slice_bounds-put_point-start : goal.slice_bounds-put_point-start
-slice_bounds-put_point-start c = omega arith
-
 pub slice_bounds-put_point-end-in-loop-point : goal.slice_bounds-put_point-end-in-loop-point
 slice_bounds-put_point-end-in-loop-point c = let e = c.requires in
     point_within e (c.loop-point.invariant.1 e) c.point_count-count.ensures c.loop-point-test.true
-
-pub put_point-requires : goal.put_point-requires
-put_point-requires c = let e = c.requires in
-    let r = c.loop-point.invariant in
-    point_room e (r.1 e) c.point_count-count.ensures c.loop-point-test.true c.loop-point.stack r.0
-
-pub left_of-left-requires : goal.left_of-left-requires
-left_of-left-requires c = tt
-
-pub slice_bounds-run_point-end-in-loop-point : goal.slice_bounds-run_point-end-in-loop-point
-slice_bounds-run_point-end-in-loop-point c = sym (c.put_point.ensures.as_long ∙ c.loop-point.invariant.0)
 
 pub run_point-here-requires : goal.run_point-here-requires
 run_point-here-requires c = let e = c.requires in
@@ -72,23 +39,14 @@ overflow_add-held c = let e = c.requires in
     let r = c.loop-point.invariant in
     let there = c.loop-point-test.true in
     let one = here_held e (r.1 e) c.point_count-count.ensures there c.run_point-here.new.stack c.term_costs-prices.ensures r.0 c.put_point.ensures
-    c.left_of-left.ensures c.run_point-here.ensures in
+    c.left-left.ensures c.run_point-here.ensures in
     omega (arith, (r.1 e).few, one, there)
-
-pub all_passed-requires : goal.all_passed-requires
-all_passed-requires c = tt
 
 pub returns-then-not-all_passed : goal.returns-then-not-all_passed
 returns-then-not-all_passed c = λ e.
     let r = c.loop-point.invariant in
     point_stopped e (r.1 e) c.point_count-count.ensures c.loop-point-test.true c.run_point-here.new.stack c.term_costs-prices.ensures r.0 c.put_point.ensures
-    c.left_of-left.ensures c.run_point-here.ensures c.all_passed.ensures (ap not c.if-not-all_passed.true)
-
-pub overflow_add-point : goal.overflow_add-point
-overflow_add-point c = omega arith
-
-pub loop-point-smaller : goal.loop-point-smaller
-loop-point-smaller c = omega arith
+    c.left-left.ensures c.run_point-here.ensures c.all_passed.ensures (ap not c.if-not-all_passed.true)
 
 pub loop-point-preserved : goal.loop-point-preserved
 loop-point-preserved c = let r = c.loop-point.invariant in
@@ -96,7 +54,7 @@ loop-point-preserved c = let r = c.loop-point.invariant in
     let there = c.loop-point-test.true in
     let told = c.term_costs-prices.ensures in
     let put = c.put_point.ensures in
-    let left = c.left_of-left.ensures in
+    let left = c.left-left.ensures in
     let last = c.run_point-here.new.stack in
     let got = c.run_point-here.ensures in (
       let e = c.requires in last_long e (r.1 e) counted there last told r.0 put left got,

@@ -5,6 +5,3 @@ use Rattle.evaluation.proofs.running.run_terms.Given as goal
 
 abbrev pub invariant-loop-k : goal.invariant-loop-k
 invariant-loop-k l = (l.left ≤ 2 ^ 64 - 1) × ((e : Runnable l.nodes l.bodies l.prices l.places l.initial.stack l.width l.turn.first l.turn.count) → TermsLeft e l.stack l.turn.point l.budget l.left l.k)
-
-abbrev pub decreases-loop-k : goal.decreases-loop-k
-decreases-loop-k l = l.end - l.k
