@@ -1,5 +1,5 @@
 -- Laws of tables, for rows of any width: reading a number, writing one, and adding a row.
-use Prim.Native.Nat.{ℕ, zero, suc, ◌+◌, ◌*◌, ◌≤◌, ◌<◌}
+use Prim.Native.Nat.{ℕ, suc, ◌+◌, ◌*◌, ◌≤◌, ◌<◌}
 use native.Mathlib.Nat.{add-zero, mul-le-mul_right, mul-suc, mul-zero, suc-add, zero-add}
 use native.Mathlib.Omega.{arith}
 use mathlib.Core.Path.{◌≡◌, refl, sym, ap, ◌∙◌}
@@ -17,12 +17,6 @@ set_append_add (x ∷ xs) ys n v = rw (suc-add, set_append_add xs ys n v)
 -- the place of a number in a row, by the row alone: no lower than it
 pub row_low : (width row column : ℕ) → column < width → row ≤ width * row + column
 row_low width row column h = let one : 1 ≤ width = omega arith in omega (arith, mul-le-mul_right row one)
-
--- nothing is put past the end of a list
-pub set_past : {A : Type 0} (l : List A) (i : ℕ) (v : A) → length l ≤ i → l ≡ set l i v
-set_past [] i v h = refl
-set_past (x ∷ xs) zero v h = absurd (omega arith)
-set_past {A = A} (x ∷ xs) (suc i) v h = ap (λ (r : List A). x ∷ r) (set_past xs i v (omega arith))
 
 -- past the end of a table
 pub past : (width : ℕ) (table : List ℕ) (i column : ℕ) → length table ≤ width * i + column → 0 ≡ number_at width table i column

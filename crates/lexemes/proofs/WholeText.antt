@@ -13,24 +13,24 @@ use Rattle.forest.specs.Forest.{none, tree}
 use Rattle.forest.proofs.Bools.{apart}
 use Rattle.forest.proofs.Lists.{drop_more}
 use Rattle.words.specs.Table.{closes, opens, past_close, next_of, value_of, width_of}
+use Rattle.word_kinds.specs.declared.Fault.{Fault}
 use Rattle.word_kinds.specs.declared.Fault.TheVariants.{Bracket, TooLong}
 use Rattle.word_kinds.specs.declared.Kind.{Kind}
 use Rattle.word_kinds.specs.declared.Kind.TheVariants.{Open, Close, Numeral, Literal, Symbol, Keyword, Faulty}
-use Rattle.words.specs.Answers.{fault_number}
-use Rattle.words.specs.Reading.{depth_after, found_at_end, fault_at, found_from, reading_of, words_read}
-use Rattle.words.specs.Trees.{Level, Lexeme, bytes_of, inner, keyword, levels_at, levels_before, list, literal, numeral, outer, symbol, trees_from, with_item, word_of}
+use Rattle.words.specs.Answers.{Reading}
+use Rattle.words.specs.Reading.{depth_after, found_at_end, fault_at, found_from, found_there, reading_of, refused, words_read}
+use Rattle.words.specs.Trees.{Level, Lexeme, bytes_of, inner, keyword, levels_at, levels_before, list, literal, numeral, outer, symbol, trees_from, with_item}
+use Rattle.words.specs.Trees.{word_of}
 use Rattle.words.specs.Words.{Word, words_of}
 use Rattle.words.specs.declared.Limits.{Limits}
-use Rattle.words.specs.declared.Reading.{Reading}
-use Rattle.words.specs.declared.Reading.TheVariants.{Whole, Refused}
+use Rattle.std.specs.Prelude.{Option, None, Some, Ok}
 use Rattle.words.proofs.Chains.{close_on}
 use Rattle.words.proofs.ScanTurns.{has_room}
 use Rattle.lexemes.specs.Lists.{Items, is_list, is_numeral, items_of}
-use Rattle.lexemes.specs.code.Standing.{ListIs, Source, Stands, WordIs, all_of, bracketed, bytes_kept, ends, value_of as valueKept, width_of as widthKept}
-use Rattle.lexemes.specs.code.Standing.{word}
+use Rattle.lexemes.specs.code.Standing.{ListIs, Source, Stands, WordIs, all_of, bracketed, bytes_kept, ends, value_of as valueKept, width_of as widthKept, word}
 use Rattle.lexemes.specs.code.Table.{close_code, code_at, code_of, kind_code}
 use Rattle.lexemes.proofs.Said.{Saying, say}
-use Rattle.lexemes.proofs.Sound.{Sound, not_faulty, some_open, word_sound}
+use Rattle.lexemes.proofs.Sound.{not_faulty, some_open}
 
 -- ---- the lists that are open before a word
 
@@ -109,60 +109,59 @@ module _ (text : List ℕ) (i : ℕ) (w : Word) (later : List Word) (here : drop
       with_item_lem _ _ (λ e more. bracketed is inside.stands) (close_on ws i w later here (ap closes e) _ next) rest
 
   -- a word of any kind
-  step : (limits : Limits) (depth : ℕ) (levels : List Level) (kind : Kind) → w.kind ≡ kind → Sound kind → fault_number (fault_at limits kind i depth) ≡ 0
+  step : (limits : Limits) (depth : ℕ) (levels : List Level) (kind : Kind) → w.kind ≡ kind → fault_at limits kind i depth ≡ None
       → Standing source ws (i + 1) (depth_after kind depth) levels → Standing source ws i depth (levels_before text (length ws) i w kind levels)
   unfolding levels_before depth_after
-  step limits depth levels Open e sound well st = open_stands e (rw (add-one depth) at st)
-  step limits depth levels Close e sound well st =
+  step limits depth levels Open e well st = open_stands e (rw (add-one depth) at st)
+  step limits depth levels Close e well st =
       let some = some_open limits i depth well in
       let back : suc (depth - 1) ≡ depth = omega arith in
       rw back at (close_stands e st)
-  step limits depth levels (Numeral v) e sound well st =
+  step limits depth levels (Numeral v) e well st =
       word_stands (word_is (numeral i v) refl refl (rw e) (rw e) (rw e) (rw e) (λ z. apart (sym z))) (ap closes e) (ap opens e) st
-  step limits depth levels (Literal width v) e sound well st =
+  step limits depth levels (Literal width v) e well st =
       word_stands (word_is (literal i width v _) refl refl (rw e) (rw e) (rw e) (rw e) (λ z. refl)) (ap closes e) (ap opens e) st
-  step limits depth levels Symbol e sound well st =
+  step limits depth levels Symbol e well st =
       word_stands (word_is (symbol i _) refl refl (rw e) (rw e) (rw e) (rw e) (λ z. refl)) (ap closes e) (ap opens e) st
-  step limits depth levels Keyword e sound well st =
+  step limits depth levels Keyword e well st =
       word_stands (word_is (keyword i _) refl refl (rw e) (rw e) (rw e) (rw e) (λ z. refl)) (ap closes e) (ap opens e) st
-  step limits depth levels (Faulty fault) e sound well st = absurd (not_faulty limits i depth sound well)
+  step limits depth levels (Faulty fault) e well st = absurd (not_faulty limits i depth fault well)
 
 -- ---- the whole text
 
 module _ (limits : Limits) (size : ℕ) where
   -- what a reading that is whole says of its end
-  whole_ends : (i depth n : ℕ) → found_at_end size i depth ≡ Whole n → (depth ≡ 0) × (i ≡ n)
+  whole_ends : (i depth n : ℕ) → found_at_end size i depth ≡ Ok n → (depth ≡ 0) × (i ≡ n)
   whole_ends i depth n e = go (eqb depth 0) refl e
     where
-      go : (t : Bool) → eqb depth 0 ≡ t → cond t (Whole i) (Refused Bracket size i) ≡ Whole n → (depth ≡ 0) × (i ≡ n)
+      go : (t : Bool) → eqb depth 0 ≡ t → cond t (Ok i) (refused Bracket size i) ≡ Ok n → (depth ≡ 0) × (i ≡ n)
       go true t e = (eqb-true depth 0 t, cc)
       go false t e = let z : ◌≡◌ {A = ℕ} 0 1 = cc in absurd (omega arith)
 
   -- and of a word
-  whole_goes : (w : Word) (more : List Word) (i depth n : ℕ) → found_from limits size (w ∷ more) i depth ≡ Whole n
-      → (fault_number (fault_at limits w.kind i depth) ≡ 0) × (found_from limits size more (i + 1) (depth_after w.kind depth) ≡ Whole n)
+  whole_goes : (w : Word) (more : List Word) (i depth n : ℕ) → found_from limits size (w ∷ more) i depth ≡ Ok n
+      → (fault_at limits w.kind i depth ≡ None) × (found_from limits size more (i + 1) (depth_after w.kind depth) ≡ Ok n)
   unfolding found_from
-  whole_goes w more i depth n e = go (eqb (fault_number (fault_at limits w.kind i depth)) 0) refl e
+  whole_goes w more i depth n e = go (fault_at limits w.kind i depth) e
     where
-      go : (t : Bool) → eqb (fault_number (fault_at limits w.kind i depth)) 0 ≡ t
-          → cond t (found_from limits size more (i + 1) (depth_after w.kind depth)) (Refused (fault_at limits w.kind i depth) w.start i) ≡ Whole n
-          → (fault_number (fault_at limits w.kind i depth) ≡ 0) × (found_from limits size more (i + 1) (depth_after w.kind depth) ≡ Whole n)
-      go true t e = (eqb-true _ 0 t, e)
-      go false t e = let z : ◌≡◌ {A = ℕ} 0 1 = cc in absurd (omega arith)
+      go : (f : Option Fault) → found_there f w.start i (found_from limits size more (i + 1) (depth_after w.kind depth)) ≡ Ok n
+          → (f ≡ None) × (found_from limits size more (i + 1) (depth_after w.kind depth) ≡ Ok n)
+      go None e = (refl, e)
+      go (Some fault) e = let z : ◌≡◌ {A = ℕ} 0 1 = cc in absurd (omega arith)
 
   -- it passes every word
-  counted : (ws : List Word) (i depth n : ℕ) → found_from limits size ws i depth ≡ Whole n → n ≡ i + length ws
+  counted : (ws : List Word) (i depth n : ℕ) → found_from limits size ws i depth ≡ Ok n → n ≡ i + length ws
   unfolding found_from
   counted [] i depth n e = let p = whole_ends i depth n e in omega arith
   counted (w ∷ ws) i depth n e = omega (arith, counted ws (i + 1) (depth_after w.kind depth) n (whole_goes w ws i depth n e).1)
 
   -- each of them is within the limit
-  within_limit : (ws : List Word) (i depth n : ℕ) → found_from limits size ws i depth ≡ Whole n → i ≤ limits.words → n ≤ limits.words
+  within_limit : (ws : List Word) (i depth n : ℕ) → found_from limits size ws i depth ≡ Ok n → i ≤ limits.words → n ≤ limits.words
   unfolding found_from
   within_limit [] i depth n e h = let p = whole_ends i depth n e in omega arith
   within_limit (w ∷ ws) i depth n e h =
       let p = whole_goes w ws i depth n e in
-      within_limit ws (i + 1) (depth_after w.kind depth) n p.1 (omega (arith, has_room limits w.kind i depth _ _ refl refl p.0))
+      within_limit ws (i + 1) (depth_after w.kind depth) n p.1 (omega (arith, has_room limits w.kind i depth p.0))
 
   module _ (text : List ℕ) where
     -- the words of the text
@@ -170,7 +169,7 @@ module _ (limits : Limits) (size : ℕ) where
     all = words_of text
 
     -- the open lists stand before each word
-    stand_all : (ws : List Word) (i depth n : ℕ) → drop i all ≡ ws → i + length ws ≡ length all → found_from limits size ws i depth ≡ Whole n
+    stand_all : (ws : List Word) (i depth n : ℕ) → drop i all ≡ ws → i + length ws ≡ length all → found_from limits size ws i depth ≡ Ok n
         → Standing (all_of text) all i depth (levels_at text (length all) ws i)
     unfolding found_from levels_at
     stand_all [] i depth n here long e =
@@ -181,15 +180,15 @@ module _ (limits : Limits) (size : ℕ) where
     stand_all (w ∷ ws) i depth n here long e =
         let p = whole_goes w ws i depth n e in
         let later = stand_all ws (i + 1) (depth_after w.kind depth) n (drop_more all i w ws here) (omega arith) p.1 in
-        step text i w ws here limits depth _ w.kind refl (word_sound text i w ws here) p.0 later
+        step text i w ws here limits depth _ w.kind refl p.0 later
 
-module _ (limits : Limits) (text : List ℕ) (n : ℕ) (whole : reading_of limits text ≡ Whole n) where
+module _ (limits : Limits) (text : List ℕ) (n : ℕ) (whole : reading_of limits text ≡ Ok n) where
   -- the words of a text that is read whole have no fault
-  judged_whole : found_from limits (length text) (words_of text) 0 0 ≡ Whole n
+  judged_whole : found_from limits (length text) (words_of text) 0 0 ≡ Ok n
   unfolding reading_of
   judged_whole = go (leb (length text) limits.bytes) whole
     where
-      go : (t : Bool) {found : Reading} → cond t found (Refused TooLong (length text) 0) ≡ Whole n → found ≡ Whole n
+      go : (t : Bool) {found : Reading} → cond t found (refused TooLong (length text) 0) ≡ Ok n → found ≡ Ok n
       go true e = e
       go false e = let z : ◌≡◌ {A = ℕ} 0 1 = cc in absurd (omega arith)
 
@@ -202,7 +201,7 @@ module _ (limits : Limits) (text : List ℕ) (n : ℕ) (whole : reading_of limit
   whole_few = within_limit limits (length text) (words_of text) 0 0 n judged_whole (omega arith)
 
   -- they are the words that were read
-  pub whole_words : words_read text (Whole n) ≡ words_of text
+  pub whole_words : words_read text (Ok n) ≡ words_of text
   unfolding words_read
   whole_words = take_all n (words_of text) (omega (arith, whole_count))
 

@@ -14,7 +14,7 @@ use Rattle.forest.proofs.Bools.{apart}
 use Rattle.words.specs.Limits.{script_limits}
 use Rattle.words.specs.Reading.{reading_of}
 use Rattle.words.specs.Words.{words_of}
-use Rattle.words.specs.declared.Reading.TheVariants.{Whole}
+use Rattle.std.specs.Prelude.{Ok}
 use Rattle.derivation.specs.Productive.{DerivesSome, productive}
 use Rattle.derivation.specs.code.Productive.{FirstOut, Productive}
 use Rattle.derivation.proofs.FoundExactly.{exact}
@@ -31,7 +31,8 @@ use Rattle.headers.specs.Heads.{header_past}
 use Rattle.grammars.specs.Grammars.{dead_place, grammar_in, grammar_misfit, grammar_past, listed_misfit}
 use Rattle.grammars.proofs.Dead.{dead_named, misfit_dead, misfit_listed, misfit_none, none_dead}
 use Rattle.script.specs.Outcome.{ScriptOutcome, by_commands, by_words, offset_of, said, script_outcome, second_of}
-use Rattle.script.specs.Script.{Known, grammar_place, judged, known_after, limit_place, name_place, nothing_known, read_all, refused, sorting_place, tested, view_of}
+use Rattle.script.specs.Script.{Known, grammar_place, judged, known_after, limit_place, name_place, nothing_known, read_all, refused, sorting_place, tested}
+use Rattle.script.specs.Script.{view_of}
 use Rattle.script.specs.code.Answers.{grammar_answer}
 use Rattle.script.proofs.Admitted.{grammar_admitted, heads_declared, said_fit}
 use Rattle.script.proofs.Headers.{head_narrow, narrow_sort}
@@ -229,7 +230,7 @@ judged_dead {nowhere} {k} {at} {c} o h =
     ) refl
 
 -- What a script gives whose commands are refused.
-commands_refused : (script : List ℕ) {number place : ℕ} → reading_of script_limits script ≡ Whole (length (words_of script))
+commands_refused : (script : List ℕ) {number place : ℕ} → reading_of script_limits script ≡ Ok (length (words_of script))
     → read_all allowed (length (words_of script)) nothing_known (items_of script) ≡ refused number place 0
     → script_outcome script ≡ ScriptOutcome.faulty number (offset_of script place) 0
 unfolding script_outcome

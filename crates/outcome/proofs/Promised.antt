@@ -5,8 +5,8 @@ use mathlib.Core.List.{List}
 use mathlib.Core.Path.{◌≡◌, refl}
 use Rattle.words.specs.Reading.{reading_of}
 use Rattle.words.specs.Limits.{script_limits}
-use Rattle.words.specs.declared.Reading.{Reading}
-use Rattle.words.specs.declared.Reading.TheVariants.{Whole, Refused}
+use Rattle.words.specs.Answers.{Reading}
+use Rattle.std.specs.Prelude.{Ok, Err}
 use Rattle.lexemes.specs.Lists.{items_of}
 use Rattle.lexemes.proofs.WholeText.{text_stands}
 use Rattle.forest.specs.Limits.{allowed}
@@ -30,7 +30,7 @@ unfolding script_outcome
 script_sorted text {k} e = go (reading_of script_limits text) refl e
   where
     go : (reading : Reading) → reading_of script_limits text ≡ reading → by_words text reading ≡ said k → Sorted k
-    go (Refused fault place n) whole h = not_said h
-    go (Whole n) whole h =
+    go (Err refusal) whole h = not_said h
+    go (Ok n) whole h =
         let stands = text_stands script_limits text n whole in
         passed_sorted allowed n (items_of text) stands (by-commands text (read_all allowed n nothing_known (items_of text)) h)

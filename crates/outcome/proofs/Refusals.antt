@@ -10,13 +10,12 @@ use lib.ListN.{length}
 use Rattle.forest.specs.Limits.{allowed}
 use Rattle.forest.proofs.Bools.{or_left}
 use Rattle.word_kinds.specs.declared.Fault.{Fault}
-use Rattle.word_kinds.specs.declared.Fault.TheVariants.{BadWord, Bracket, NoFault, NotCarried, PastLimit, TooLong}
-use Rattle.words.specs.Answers.{fault_number}
+use Rattle.word_kinds.specs.declared.Fault.TheVariants.{BadWord, Bracket, NotCarried, PastLimit, TooLong}
+use Rattle.words.specs.Answers.{Reading, fault_number}
 use Rattle.words.specs.Limits.{script_limits}
 use Rattle.words.specs.Reading.{reading_of}
 use Rattle.words.specs.Words.{words_of}
-use Rattle.words.specs.declared.Reading.{Reading}
-use Rattle.words.specs.declared.Reading.TheVariants.{Whole, Refused}
+use Rattle.std.specs.Prelude.{Ok, Err}
 use Rattle.lexemes.specs.Lists.{Items, items_of}
 use Rattle.lexemes.specs.code.Standing.{Source, Stands, all_of, bracketed, ends, word}
 use Rattle.lexemes.proofs.Standing.{forward}
@@ -24,8 +23,8 @@ use Rattle.lexemes.proofs.WholeText.{text_stands, whole_count}
 use Rattle.shapes.specs.Carried.{is_not_carried}
 use Rattle.shapes.specs.Shapes.{command_shape}
 use Rattle.script.specs.Outcome.{ScriptOutcome, by_commands, by_words, offset_of, said, script_outcome, second_of}
-use Rattle.script.specs.Script.{Known, Read, and_then, earlier_place, grammar_place, judged, known_after, limit_place, name_place, nothing_known, out_of_place, passed}
-use Rattle.script.specs.Script.{read_all, refused, sorting_place, tested}
+use Rattle.script.specs.Script.{Known, Read, and_then, earlier_place, grammar_place, judged, known_after, limit_place, name_place, nothing_known, out_of_place}
+use Rattle.script.specs.Script.{passed, read_all, refused, sorting_place, tested}
 use Rattle.script.specs.code.Answers.{grammar_answer, name_answer, shape_answer}
 use Rattle.outcome.specs.Met.{Met, MetIn, first, later}
 use Rattle.outcome.specs.Scoped.{AllBefore, Apart, InScope}
@@ -150,7 +149,7 @@ all_give {source} {i} {nowhere} {items} k (bracketed {c = close} {ops = c} {more
 pub record Refusal (script : List ℕ) (number place second : ℕ) : Type 0 where
   pub word : ℕ
   pub earlier : ℕ
-  pub words : reading_of script_limits script ≡ Whole (length (words_of script))
+  pub words : reading_of script_limits script ≡ Ok (length (words_of script))
   pub by : Refuses (all_of script) (length (words_of script)) nothing_known (items_of script) number word earlier
   pub place_is : place ≡ offset_of script word
   pub second_is : second ≡ second_of script earlier
@@ -167,7 +166,6 @@ data Told (script : List ℕ) : ScriptOutcome → Type 0 where
 
 -- No word is refused by 7 or 9.
 by-words : (fault : Fault) → Other (fault_number fault)
-by-words NoFault = record { no_name = λ e. omega arith; no-grammar = λ e. omega arith }
 by-words TooLong = record { no_name = λ e. omega arith; no-grammar = λ e. omega arith }
 by-words BadWord = record { no_name = λ e. omega arith; no-grammar = λ e. omega arith }
 by-words Bracket = record { no_name = λ e. omega arith; no-grammar = λ e. omega arith }
@@ -182,21 +180,21 @@ script_told script = go (reading_of script_limits script) refl
     n : ℕ
     n = length (words_of script)
 
-    by : reading_of script_limits script ≡ Whole n → {r : Read} → AllGive (all_of script) n nothing_known (items_of script) r → Told script (by_commands script r)
+    by : reading_of script_limits script ≡ Ok n → {r : Read} → AllGive (all_of script) n nothing_known (items_of script) r → Told script (by_commands script r)
     by whole (AllGive.another other) = another other
     by whole (AllGive.by-command {place = w} {second = e} x) =
         by-command (record { word = w; earlier = e; words = whole; by = x; place_is = refl; second_is = refl })
     by whole passes = nothing_refused
 
-    at_commands : reading_of script_limits script ≡ Whole n → Told script (by_words script (Whole n))
+    at_commands : reading_of script_limits script ≡ Ok n → Told script (by_words script (Ok n))
     at_commands whole =
         by whole (all_give nothing_known (text_stands script_limits script n whole) (record { apart = tt; before = tt }))
 
     go : (reading : Reading) → reading_of script_limits script ≡ reading → Told script (by_words script reading)
-    go (Refused fault place m) e = another (by-words fault)
-    go (Whole m) e =
+    go (Err refusal) e = another (by-words refusal.fault)
+    go (Ok m) e =
         let counted = whole_count script_limits script m e in
-        subst (λ (m : ℕ). Told script (by_words script (Whole m))) (sym counted) (at_commands (e ∙ ap Whole counted))
+        subst (λ (m : ℕ). Told script (by_words script (Ok m))) (sym counted) (at_commands (e ∙ ap Ok counted))
 
 -- A script that is refused by a number that is not another.
 told_command : (script : List ℕ) {number place second : ℕ} → (Other number → ⊥) → Told script (ScriptOutcome.faulty number place second)

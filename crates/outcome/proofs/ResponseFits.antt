@@ -10,8 +10,8 @@ use Rattle.forest.specs.Forest.{none, tree}
 use Rattle.words.specs.Reading.{reading_of}
 use Rattle.words.specs.Trees.{word_of}
 use Rattle.words.specs.declared.Limits.{Limits}
-use Rattle.words.specs.declared.Reading.{Reading}
-use Rattle.words.specs.declared.Reading.TheVariants.{Whole, Refused}
+use Rattle.words.specs.Answers.{Reading}
+use Rattle.std.specs.Prelude.{Ok, Err}
 use Rattle.lexemes.specs.Lists.{Items, close_of, inside, is, is_list, item, items_of}
 use Rattle.lexemes.proofs.WholeText.{text_stands}
 use Rattle.shapes.specs.Carried.{any_uncarried}
@@ -142,8 +142,8 @@ response_fits limits k text {bs} e = go (reading_of limits text) refl e
   where
     go : (reading : Reading) → reading_of limits text ≡ reading → by_response k text reading ≡ given bs
         → BodiesFit k.defined (in_script_order k.functions) bs
-    go (Refused fault place n) whole h = not_given h
-    go (Whole n) whole h =
+    go (Err refusal) whole h = not_given h
+    go (Ok n) whole h =
         let stands = text_stands limits text n whole in
         let read = by-answers text (answered allowed n k.defined (in_script_order k.functions) (items_of text)) h in
         answered_fit n k.defined (in_script_order k.functions) (items_of text) bs (stands_below n stands (omega arith)) read

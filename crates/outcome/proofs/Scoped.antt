@@ -14,8 +14,8 @@ use Rattle.words.specs.Limits.{script_limits}
 use Rattle.words.specs.Reading.{reading_of}
 use Rattle.words.specs.Trees.{word_of}
 use Rattle.words.specs.Words.{words_of}
-use Rattle.words.specs.declared.Reading.{Reading}
-use Rattle.words.specs.declared.Reading.TheVariants.{Whole, Refused}
+use Rattle.words.specs.Answers.{Reading}
+use Rattle.std.specs.Prelude.{Ok, Err}
 use Rattle.lexemes.specs.Lists.{Items, inside, is, item, items_of, name_of}
 use Rattle.lexemes.specs.code.Standing.{Source, Stands, bracketed, ends, word}
 use Rattle.lexemes.proofs.Standing.{forward}
@@ -30,8 +30,8 @@ use Rattle.script.specs.Script.{Known, arguments_of, declared_in, judged, known_
 use Rattle.script.proofs.Within.{past_neither}
 use Rattle.script.proofs.WordsBelow.{Below, WordsBelow, inside_below, item_below, stands_below}
 use Rattle.outcome.specs.Scoped.{AllBefore, AllScoped, Apart, InScope, Scoped, declared_before}
-use Rattle.outcome.proofs.Apart.{Covers, Untaken, apart_among, apart_new, apart_pairs, before_all, before_among, before_append, before_both}
-use Rattle.outcome.proofs.Apart.{before_later, covers_more, new-name, pairs_before}
+use Rattle.outcome.proofs.Apart.{Covers, Untaken, apart_among, apart_new, apart_pairs, before_all, before_among, before_append, before_both, before_later}
+use Rattle.outcome.proofs.Apart.{covers_more, new-name, pairs_before}
 use Rattle.outcome.proofs.OneCommand.{Command, Tests, another, assuming, command, constraining, declaring, defining, other_word, synthesizing}
 use Rattle.outcome.proofs.Promised.{by-commands, not_said}
 use Rattle.outcome.proofs.Sorted.{followed, never_passed, no_faults, only_passed}
@@ -347,8 +347,8 @@ script_scoped script {k} e = go (reading_of script_limits script) refl e
   where
     go : (reading : Reading) → reading_of script_limits script ≡ reading → by_words script reading ≡ said k
         → AllScoped nothing_known (items_of script) × InScope k (length (words_of script))
-    go (Refused fault place n) whole h = not_said h
-    go (Whole n) whole h =
+    go (Err refusal) whole h = not_said h
+    go (Ok n) whole h =
         let stands = text_stands script_limits script n whole in
         let read = by-commands script (read_all allowed n nothing_known (items_of script)) h in
         let all = all_scoped allowed nothing_known stands (record { apart = tt; before = tt }) read in

@@ -1,12 +1,11 @@
 -- "commands, the first faulty one": the commands that reading meets, each of which passes but the last. Words of the theorems on answers 7 and 9.
-use Rattle.std.specs.Prelude.{ℕ, true, List, ◌≡◌, length}
+use Rattle.std.specs.Prelude.{ℕ, true, List, ◌≡◌, length, Ok}
 use Rattle.forest.specs.Forest.{tree}
 use Rattle.forest.specs.Limits.{allowed}
 use Rattle.words.specs.Limits.{script_limits}
 use Rattle.words.specs.Reading.{reading_of}
 use Rattle.words.specs.Trees.{Lexeme, word_of}
 use Rattle.words.specs.Words.{words_of}
-use Rattle.words.specs.declared.Reading.TheVariants.{Whole}
 use Rattle.lexemes.specs.Lists.{Items, is_list, items_of}
 use Rattle.script.specs.Script.{Known, judged, known_after, nothing_known, passed}
 
@@ -19,5 +18,5 @@ pub data Met (nowhere : ℕ) : (k : Known) → (commands : Items) → (known : K
 
 -- The same of a script, whose words pass.
 pub record MetIn (script : List ℕ) (known : Known) (at : ℕ) (c : Items) : Type 0 where
-  pub words : reading_of script_limits script ≡ Whole (length (words_of script))
+  pub words : reading_of script_limits script ≡ Ok (length (words_of script))
   pub met : Met (length (words_of script)) nothing_known (items_of script) known at c

@@ -10,8 +10,8 @@ use Rattle.forest.specs.Forest.{none, tree}
 use Rattle.words.specs.Reading.{reading_of}
 use Rattle.words.specs.Trees.{word_of}
 use Rattle.words.specs.Limits.{script_limits}
-use Rattle.words.specs.declared.Reading.{Reading}
-use Rattle.words.specs.declared.Reading.TheVariants.{Whole, Refused}
+use Rattle.words.specs.Answers.{Reading}
+use Rattle.std.specs.Prelude.{Ok, Err}
 use Rattle.lexemes.specs.Lists.{Items, is_list, items_of}
 use Rattle.lexemes.proofs.WholeText.{text_stands}
 use Rattle.shapes.specs.Carried.{is_not_carried}
@@ -80,8 +80,8 @@ module _ (P : Known → Type 0)
   text_keeps text p = go (reading_of script_limits text) refl
     where
       go : (reading : Reading) → reading_of script_limits text ≡ reading → SaidKeeps (by_words text reading)
-      go (Refused fault place n) whole = nothing_said
-      go (Whole n) whole =
+      go (Err refusal) whole = nothing_said
+      go (Ok n) whole =
           let stands = text_stands script_limits text n whole in
           commands_keep text (all_keep n (items_of text) (stands_below n stands (omega arith)) p)
 

@@ -3,11 +3,10 @@ use Prim.Native.Nat.{ℕ, ◌≤◌}
 use native.Mathlib.Omega.{arith}
 use mathlib.Core.Path.{◌≡◌, refl, subst, sym}
 use mathlib.Core.List.{List}
-use Rattle.words.specs.Answers.{number_of, passed as passedWords}
+use Rattle.words.specs.Answers.{Reading, number_of, passed as passedWords}
 use Rattle.words.specs.Reading.{reading_of}
 use Rattle.words.specs.declared.Limits.{Limits}
-use Rattle.words.specs.declared.Reading.{Reading}
-use Rattle.words.specs.declared.Reading.TheVariants.{Whole, Refused}
+use Rattle.std.specs.Prelude.{Ok, Err}
 use Rattle.script.specs.Script.{Known}
 use Rattle.script.specs.Outcome.{ResponseOutcome, ScriptOutcome, given, response_within, said, script_outcome}
 use Rattle.script.specs.Rows.{ResponseRow, ScriptRow, TextRow, bad_name, bad_word, closed_too_often, ends_early, fail, grammar-fault, header-differs}
@@ -45,12 +44,12 @@ response_row_number (header-differs a) = omega arith
 -- ---- texts
 
 -- a text without a number is read whole
-pub read_whole : (limits : Limits) (text : List ℕ) (r : Reading) → r ≡ reading_of limits text → number_of r ≡ 0 → r ≡ Whole (passedWords r)
+pub read_whole : (limits : Limits) (text : List ℕ) (r : Reading) → r ≡ reading_of limits text → number_of r ≡ 0 → r ≡ Ok (passedWords r)
 read_whole limits text r e z = go r (subst (ReadingRow text) (sym e) (reading_row limits text)) z
   where
-    go : (r : Reading) → ReadingRow text r → number_of r ≡ 0 → r ≡ Whole (passedWords r)
-    go (Whole n) row z = refl
-    go (Refused fault place n) (ReadingRow.refuses row) z = let h = text_number row in absurd (omega arith)
+    go : (r : Reading) → ReadingRow text r → number_of r ≡ 0 → r ≡ Ok (passedWords r)
+    go (Ok n) row z = refl
+    go (Err refusal) (ReadingRow.refuses row) z = let h = text_number row in absurd (omega arith)
 
 -- what was found has a number, one of those that texts give
 pub record Numbered {A : Type 0} (number : A → ℕ) (a : A) : Type 0 where

@@ -9,20 +9,19 @@ use lib.Dec.{eqb, leb, ltb}
 use lib.ListN.{drop, length, length-map}
 use Rattle.forest.specs.Forest.{none, tree}
 use Rattle.forest.specs.Limits.{Counts, allowed}
-use Rattle.forest.proofs.Bools.{apart}
 use Rattle.forest.proofs.Lists.{drop_more, stands, within}
 use Rattle.word_kinds.specs.declared.Fault.{Fault}
-use Rattle.word_kinds.specs.declared.Fault.TheVariants.{BadWord, Bracket, NoFault, NotCarried, PastLimit}
+use Rattle.word_kinds.specs.declared.Fault.TheVariants.{BadWord, Bracket, NotCarried, PastLimit}
 use Rattle.word_kinds.specs.declared.Kind.{Kind}
-use Rattle.words.specs.Reading.{close_fault, depth_after, fault_at, found_from, lesser, limit_fault, own_fault, reading_of}
+use Rattle.words.specs.Reading.{close_fault, depth_after, fault_at, found_from, found_there, lesser, limit_fault, own_fault, reading_of}
 use Rattle.words.specs.Spans.{comment_after, in_run, starts, starts_from, word_starts}
 use Rattle.words.specs.Words.{Word, word_at, words_of}
 use Rattle.words.specs.Table.{closes as closing, opens as opening}
-use Rattle.words.specs.Answers.{fault_number}
+use Rattle.words.specs.Answers.{Reading, fault_number}
 use Rattle.words.specs.Limits.{script_limits}
 use Rattle.words.specs.declared.Limits.{Limits}
-use Rattle.words.specs.declared.Reading.{Reading}
-use Rattle.words.specs.declared.Reading.TheVariants.{Whole, Refused}
+use Rattle.std.specs.Prelude.{Option, None, Some, Ok, Err}
+use Rattle.words.specs.declared.Refusal.{Refusal}
 use Rattle.lexemes.specs.Lists.{Items, inside, is, is_list, item, items_of}
 use Rattle.lexemes.proofs.Said.{found}
 use Rattle.lexemes.proofs.WholeText.{text_stands, whole_count}
@@ -41,8 +40,8 @@ use Rattle.script.specs.Response.{Answered, Body, answered, bodies, nothing_behi
 use Rattle.script.specs.Response.{refused as declined, response_view, with_body}
 use Rattle.script.specs.Outcome.{ResponseOutcome, ScriptOutcome, by_answers, by_commands, by_response, by_words, given, offset_of, response_within, said}
 use Rattle.script.specs.Outcome.{script_outcome, second_of, start_of}
-use Rattle.script.specs.Rows.{AtWord, ResponseRow, ScriptRow, TextRow, bad_name, bad_word, closed_too_often, ends_early, fail, grammar-fault}
-use Rattle.script.specs.Rows.{header-differs, infeasible, name_taken, never_closed, not_carried, past_limit, shape_unknown, sort_fault, too_long}
+use Rattle.script.specs.Rows.{AtWord, ResponseRow, ScriptRow, TextRow, bad_name, bad_word, closed_too_often, ends_early, fail, grammar-fault, header-differs}
+use Rattle.script.specs.Rows.{infeasible, name_taken, never_closed, not_carried, past_limit, shape_unknown, sort_fault, too_long}
 use Rattle.script.proofs.WordFaults.{OwnFault, OwnKind, a_keyword, a_literal, a_numeral, a_symbol, closes, faulty, kind_own, opens}
 use Rattle.script.proofs.WordsBelow.{Below, item_below, stands_below}
 use Rattle.script.specs.code.Answers.{fail_answer, infeasible_answer, name_answer, shape_answer}
@@ -131,15 +130,15 @@ words_rise text i j l h = starts_rise text text 0 false false (length text) i j 
 -- ---- words
 
 -- A fault that a word of a text may have.
-data OfWord : Fault → Type 0 where
-  none_there : OfWord NoFault
-  bad : OfWord BadWord
-  bracket : OfWord Bracket
-  limit : OfWord PastLimit
-  uncarried : OfWord NotCarried
+data OfWord : Option Fault → Type 0 where
+  none_there : OfWord None
+  bad : OfWord (Some BadWord)
+  bracket : OfWord (Some Bracket)
+  limit : OfWord (Some PastLimit)
+  uncarried : OfWord (Some NotCarried)
 
 -- a fault by its own bytes
-own-fault : {fault : Fault} → OwnFault fault → OfWord fault
+own-fault : {fault : Fault} → OwnFault fault → OfWord (Some fault)
 own-fault OwnFault.bad_word = bad
 own-fault OwnFault.past_limit = limit
 own-fault OwnFault.not_carried = uncarried
@@ -154,8 +153,10 @@ own_of a_keyword = none_there
 own_of (faulty o) = own-fault o
 
 -- the lesser of two
-lesser_of : (a b : Fault) → OfWord a → OfWord b → OfWord (lesser a b)
-lesser_of a b p q = either OfWord (ltb 0 (fault_number a) && (eqb (fault_number b) 0 || leb (fault_number a) (fault_number b))) (λ t. p) q
+lesser_of : (a b : Option Fault) → OfWord a → OfWord b → OfWord (lesser a b)
+lesser_of None b p q = q
+lesser_of (Some a) None p q = p
+lesser_of (Some a) (Some b) p q = either (λ (f : Fault). OfWord (Some f)) (leb (fault_number a) (fault_number b)) (λ t. p) q
 
 -- a fault of a word
 fault_of : (limits : Limits) (kind : Kind) (n depth : ℕ) → OwnKind kind → OfWord (fault_at limits kind n depth)
@@ -167,18 +168,16 @@ fault_of limits kind n depth own =
     (either OfWord (leb limits.words n || opening kind && leb limits.nesting depth) (λ t. limit) none_there))
 
 -- the row of a fault of a word
-fault_row : (text : List ℕ) {fault : Fault} {place : ℕ} → OfWord fault → AtWord text place → eqb (fault_number fault) 0 ≡ false
-    → TextRow text (fault_number fault) place
-fault_row text none_there a e = apart (let z : ◌≡◌ {A = Bool} true false = e in cc)
-fault_row text bad a e = bad_word a
-fault_row text bracket a e = closed_too_often a
-fault_row text limit a e = past_limit a
-fault_row text uncarried a e = not_carried a
+fault_row : (text : List ℕ) {fault : Fault} {place : ℕ} → OfWord (Some fault) → AtWord text place → TextRow text (fault_number fault) place
+fault_row text bad a = bad_word a
+fault_row text bracket a = closed_too_often a
+fault_row text limit a = past_limit a
+fault_row text uncarried a = not_carried a
 
 -- What is found in the words of a text: all is well, or a row.
 pub data ReadingRow (text : List ℕ) : Reading → Type 0 where
-  whole : {n : ℕ} → ReadingRow text (Whole n)
-  refuses : {fault : Fault} {place n : ℕ} → TextRow text (fault_number fault) place → ReadingRow text (Refused fault place n)
+  whole : {n : ℕ} → ReadingRow text (Ok n)
+  refuses : {refusal : Refusal} → TextRow text (fault_number refusal.fault) refusal.place → ReadingRow text (Err refusal)
 
 -- from word i on
 found_row : (limits : Limits) (text : List ℕ) (ws : List Word) (i depth : ℕ) → drop i (words_of text) ≡ ws
@@ -190,13 +189,12 @@ found_row limits text (w ∷ ws) i depth here =
     let own : OwnKind w.kind = rw f.is (kind_own _) in
     let start = start_there (length text) (words_of text) i w ws here in
     let there = subst (AtWord text) start (at_word text i (within (words_of text) i w ws here)) in
-    go (eqb (fault_number (fault_at limits w.kind i depth)) 0) refl (fault_of limits w.kind i depth own) there
+    go (fault_at limits w.kind i depth) (fault_of limits w.kind i depth own) there
     (found_row limits text ws (i + 1) (depth_after w.kind depth) (drop_more (words_of text) i w ws here))
   where
-    go : (t : Bool) → eqb (fault_number (fault_at limits w.kind i depth)) 0 ≡ t → OfWord (fault_at limits w.kind i depth) → AtWord text w.start
-        → {later : Reading} → ReadingRow text later → ReadingRow text (cond t later (Refused (fault_at limits w.kind i depth) w.start i))
-    go true e o a r = r
-    go false e o a r = refuses (fault_row text o a e)
+    go : (f : Option Fault) → OfWord f → AtWord text w.start → {later : Reading} → ReadingRow text later → ReadingRow text (found_there f w.start i later)
+    go None o a r = r
+    go (Some fault) o a r = refuses (fault_row text o a)
 
 -- a text
 pub reading_row : (limits : Limits) (text : List ℕ) → ReadingRow text (reading_of limits text)
@@ -279,10 +277,10 @@ script_kept text = go (reading_of script_limits text) refl (reading_row script_l
     by (passed k) passes = says
 
     go : (r : Reading) → reading_of script_limits text ≡ r → ReadingRow text r → ScriptKept text (by_words text r)
-    go (Whole n) e whole =
+    go (Ok n) e whole =
         by _ (all-rows text n (whole_count script_limits text n e) allowed nothing_known (items_of text)
         (stands_below n (text_stands script_limits text n e) (omega arith)))
-    go (Refused fault place n) e (refuses row) = refuses (ScriptRow.of_text row)
+    go (Err refusal) e (refuses row) = refuses (ScriptRow.of_text row)
 
 -- ---- commands of a response
 
@@ -385,7 +383,7 @@ response_kept limits k text = go (reading_of limits text) refl (reading_row limi
     by (bodies bs) (gives first) = gives first
 
     go : (r : Reading) → reading_of limits text ≡ r → ReadingRow text r → ResponseKept text (by_response k text r)
-    go (Whole n) e whole =
+    go (Ok n) e whole =
         by _ (answered_row text n (whole_count limits text n e) allowed k.defined (in_script_order k.functions) (items_of text)
         (stands_below n (text_stands limits text n e) (omega arith)))
-    go (Refused fault place n) e (refuses row) = refuses (ResponseRow.of_text row)
+    go (Err refusal) e (refuses row) = refuses (ResponseRow.of_text row)

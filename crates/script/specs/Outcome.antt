@@ -1,12 +1,10 @@
 -- What is read of a script and of a response, from their bytes: the words, then the commands, each refusal by its offset.
-use Rattle.std.specs.Prelude.{ℕ, zero, suc, cond, ◌||◌, List, [], ◌∷◌, eqb, length}
+use Rattle.std.specs.Prelude.{ℕ, zero, suc, cond, ◌||◌, List, [], ◌∷◌, eqb, length, Ok, Err}
 use Rattle.words.specs.Reading.{reading_of}
 use Rattle.words.specs.Words.{Word, words_of}
-use Rattle.words.specs.Answers.{fault_number}
+use Rattle.words.specs.Answers.{Reading, fault_number}
 use Rattle.words.specs.Limits.{response_limits, script_limits}
 use Rattle.words.specs.declared.Limits.{Limits}
-use Rattle.words.specs.declared.Reading.{Reading}
-use Rattle.words.specs.declared.Reading.TheVariants.{Whole, Refused}
 use Rattle.lexemes.specs.Lists.{items_of}
 use Rattle.forest.specs.Limits.{allowed}
 use Rattle.script.specs.Script.{Known, Read, passed, read_all, refused, nothing_known}
@@ -38,8 +36,8 @@ by_commands text (passed k) = said k
 
 -- What the words give, and then the commands.
 abbrev pub by_words : (text : List ℕ) → Reading → ScriptOutcome
-by_words text (Refused fault place n) = faulty (fault_number fault) place 0
-by_words text (Whole n) = by_commands text (read_all allowed n nothing_known (items_of text))
+by_words text (Err refusal) = faulty (fault_number refusal.fault) refusal.place 0
+by_words text (Ok n) = by_commands text (read_all allowed n nothing_known (items_of text))
 
 -- The script: its words, then its commands.
 unfoldable pub script_outcome : (text : List ℕ) → ScriptOutcome
@@ -57,8 +55,8 @@ by_answers text (bodies bs) = given bs
 
 -- What the words of a response give, and then its commands.
 abbrev pub by_response : Known → (text : List ℕ) → Reading → ResponseOutcome
-by_response k text (Refused fault place n) = faulty (fault_number fault) place
-by_response k text (Whole n) = by_answers text (answered allowed n k.defined (in_script_order k.functions) (items_of text))
+by_response k text (Err refusal) = faulty (fault_number refusal.fault) refusal.place
+by_response k text (Ok n) = by_answers text (answered allowed n k.defined (in_script_order k.functions) (items_of text))
 
 -- The response to a script that says this, read within these limits: its words "likewise", then its commands.
 unfoldable pub response_within : Limits → Known → (text : List ℕ) → ResponseOutcome

@@ -7,7 +7,7 @@ use lib.ListN.{drop, length}
 use Rattle.forest.proofs.Lists.{stands}
 use Rattle.forest.proofs.Rows.{length_rows}
 use Rattle.words.specs.declared.Limits.{Limits}
-use Rattle.words.specs.declared.Reading.TheVariants.{Whole}
+use Rattle.std.specs.Prelude.{Ok}
 use Rattle.words.specs.Reading.{reading_of}
 use Rattle.words.specs.Table.{entries}
 use Rattle.words.specs.Trees.{bytes_of}
@@ -28,7 +28,7 @@ record Known (source : Source) (i : ℕ) : Type 0 where
   says : Saying source i word later
   kept : Kept (bytes_of source.text word) word.kind
 
-module _ (limits : Limits) (text : List ℕ) (n : ℕ) (whole : reading_of limits text ≡ Whole n) where
+module _ (limits : Limits) (text : List ℕ) (n : ℕ) (whole : reading_of limits text ≡ Ok n) where
   -- the tables of a text that is read whole keep to their bounds
   pub text_lawful : Lawful (all_of text) n
   unfolding lexeme_table

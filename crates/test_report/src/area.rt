@@ -23,36 +23,21 @@ const LENT: u16 = 4660;
 pub fn area_room() -> [u16; 32770]
     ensures { 32770 ≡ length result }
 {
-    [4660; 32770]
+    [LENT; 32770]
 }
 
-// Whether every entry from `start` up to `end` is a given one.
-fn all_are(area: &[u16], start: usize, end: usize, entry: u16) -> bool
-    requires { end ≤ length area.now }
-{
-    let mut i = start;
-    while i < end {
-        if area[i] != entry {
-            return false;
-        }
-        i += 1;
-    }
-    true
+// Whether every entry is a given one.
+fn all_are(entries: &[u16], entry: u16) -> bool {
+    entries.iter().all(|other| *other == entry)
 }
 
-// The end of the list that begins at `start` and has room up to `end`: its first unused entry.
-fn list_end(area: &[u16], start: usize, end: usize) -> usize
-    requires { (start ≤ end) × (end ≤ length area.now) }
-    ensures { (start ≤ result) × (result ≤ end) }
+// How many entries of a list stand before the first that is unused.
+fn list_length(list: &[u16]) -> usize
+    ensures { result ≤ length list.now }
 {
-    let mut i = start;
-    while i < end {
-        if area[i] == UNUSED {
-            return i;
-        }
-        i += 1;
-    }
-    i
+    list.iter()
+        .position(|entry| *entry == UNUSED)
+        .unwrap_or(list.len())
 }
 
 // How many lists there are: those before the first that has no entry.
@@ -60,48 +45,34 @@ fn lists_in(area: &[u16]) -> usize
     requires { 32768 ≡ length area.now }
     ensures { result ≤ 8 }
 {
-    let mut k = 0;
-    while k < FUNCTIONS {
+    for k in 0..FUNCTIONS {
         if area[LIST * k] == UNUSED {
             return k;
         }
-        k += 1;
     }
-    k
+    FUNCTIONS
 }
 
 // Whether every entry that is in none of the first `count` lists is unused.
 fn rest_unused(area: &[u16], count: usize) -> bool
     requires { (32768 ≡ length area.now) × (count ≤ 8) }
 {
-    let mut k = 0;
-    while k < count {
-        let end = LIST * k + LIST;
-        if !all_are(area, list_end(area, LIST * k, end), end, UNUSED) {
+    for k in 0..count {
+        let list = &area[LIST * k..LIST * k + LIST];
+        if !all_are(&list[list_length(list)..], UNUSED) {
             return false;
         }
-        k += 1;
     }
-    all_are(area, LIST * count, AREA, UNUSED)
+    all_are(&area[LIST * count..], UNUSED)
 }
 
-// Writes an entry.
-fn write_entry(out: &mut impl Write, entry: u16) -> io::Result<()> {
-    write!(out, "{entry}")
-}
-
-// Writes the entries of a list from `start` on, with commas between.
-fn write_list(out: &mut impl Write, area: &[u16], start: usize, end: usize) -> io::Result<()>
-    requires { (start ≤ end) × (end ≤ length area.now) }
-{
-    let stop = list_end(area, start, end);
-    let mut i = start;
-    while i < stop {
-        if i > start {
+// Writes the entries of a list, with commas between.
+fn write_list(out: &mut impl Write, list: &[u16]) -> io::Result<()> {
+    for (i, entry) in list[..list_length(list)].iter().enumerate() {
+        if i > 0 {
             out.write_all(b",")?;
         }
-        write_entry(out, area[i])?;
-        i += 1;
+        write!(out, "{entry}")?;
     }
     Ok(())
 }
@@ -110,13 +81,11 @@ fn write_list(out: &mut impl Write, area: &[u16], start: usize, end: usize) -> i
 fn write_lists(out: &mut impl Write, area: &[u16], count: usize) -> io::Result<()>
     requires { (32768 ≡ length area.now) × (count ≤ 8) }
 {
-    let mut k = 0;
-    while k < count {
+    for k in 0..count {
         if k > 0 {
             out.write_all(b"/")?;
         }
-        write_list(out, area, LIST * k, LIST * k + LIST)?;
-        k += 1;
+        write_list(out, &area[LIST * k..LIST * k + LIST])?;
     }
     Ok(())
 }
@@ -135,10 +104,10 @@ fn report_lists(out: &mut impl Write, area: &[u16]) -> io::Result<()> {
 // Writes what stands in an area after the call.
 pub fn report_area(out: &mut impl Write, area: &[u16]) -> io::Result<()> {
     out.write_all(b" area ")?;
-    if all_are(area, 0, area.len(), LENT) {
+    if all_are(area, LENT) {
         return out.write_all(b"unchanged");
     }
-    if all_are(area, 0, area.len(), UNUSED) {
+    if all_are(area, UNUSED) {
         return out.write_all(b"blank");
     }
     report_lists(out, area)

@@ -6,14 +6,12 @@ pub fn field_end(text: &[u8], start: usize, separator: u8) -> usize
     requires { start ≤ length text.now }
     ensures { (start ≤ result) × (result ≤ length text.now) }
 {
-    let mut i = start;
-    while i < text.len() {
+    for i in start..text.len() {
         if text[i] == separator {
             return i;
         }
-        i += 1;
     }
-    i
+    text.len()
 }
 
 // The start of the field after one that ends at `end`.
@@ -21,8 +19,5 @@ pub fn next_field(text: &[u8], end: usize) -> usize
     requires { end ≤ length text.now }
     ensures { (end ≤ result) × (result ≤ length text.now) }
 {
-    if end < text.len() {
-        return end + 1;
-    }
-    end
+    (end + 1).min(text.len())
 }

@@ -18,36 +18,29 @@ fn digit(b: u8) -> u8
 pub fn decode(digits: &[u8], bytes: &mut [u8]) -> usize
     ensures { (result ≤ length bytes.new) × (result ≡ length (take result bytes.new)) }
 {
-    let pairs = digits.len() / 2;
-    let mut i = 0;
-    while i < pairs && i < bytes.len() {
+    let count = (digits.len() / 2).min(bytes.len());
+    for i in 0..count {
         bytes[i] = digit(digits[2 * i]) * 16 + digit(digits[2 * i + 1]);
-        i += 1;
     }
-    i
+    count
 }
 
 // The number that hex digits stand for, modulo 2^64.
 pub fn number_of(digits: &[u8]) -> u64 {
-    let mut number: u64 = 0;
-    let mut i = 0;
-    while i < digits.len() {
-        number = (number << 4) | digit(digits[i]) as u64;
-        i += 1;
-    }
-    number
+    digits
+        .iter()
+        .fold(0, |number, byte| (number << 4) | u64::from(digit(*byte)))
 }
 
 // Where a list of numbers begins: at its end where it is `-`, which stands for none.
 fn list_start(digits: &[u8]) -> usize
     ensures { result ≤ length digits.now }
 {
-    if digits.len() > 0 {
-        if digits[0] == b'-' {
-            return digits.len();
-        }
+    if digits.starts_with(b"-") {
+        digits.len()
+    } else {
+        0
     }
-    0
 }
 
 // Writes the numbers that hex digits between commas stand for, as far as there is room, and answers how many there are.

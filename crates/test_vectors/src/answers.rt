@@ -8,43 +8,21 @@ use test_report::area::{area_room, report_area};
 use test_report::hex::{decode, decode_numbers, number_of};
 use test_report::texts::{text_room, write_number};
 
-// Room for a list of points that is too long by one number.
-fn points_room() -> [u64; 1025]
-    ensures { 1025 ≡ length result }
-{
-    [0; 1025]
-}
-
 // The size of the area to be lent, given in hex: a part of the room there is.
 fn area_size(digits: &[u8], room: &[u16]) -> usize
     ensures { (result ≤ length room.now) × (result ≡ length (take result room.now)) }
 {
-    let size = number_of(digits) as usize;
-    if size > room.len() {
-        return room.len();
-    }
-    size
+    (number_of(digits) as usize).min(room.len())
 }
 
 // Writes the sixteen numbers of an answer: its number, its text, its place, its second number and its units; the end of the word at its place, the line and
 // the column; and the weight of each function's derivation.
 fn write_answer(out: &mut impl Write, numbers: &[u64; 16]) -> io::Result<()> {
     write_number(out, b" answer ", numbers[0])?;
-    write_number(out, b" ", numbers[1])?;
-    write_number(out, b" ", numbers[2])?;
-    write_number(out, b" ", numbers[3])?;
-    write_number(out, b" ", numbers[4])?;
-    write_number(out, b" ", numbers[5])?;
-    write_number(out, b" ", numbers[6])?;
-    write_number(out, b" ", numbers[7])?;
-    write_number(out, b" ", numbers[8])?;
-    write_number(out, b" ", numbers[9])?;
-    write_number(out, b" ", numbers[10])?;
-    write_number(out, b" ", numbers[11])?;
-    write_number(out, b" ", numbers[12])?;
-    write_number(out, b" ", numbers[13])?;
-    write_number(out, b" ", numbers[14])?;
-    write_number(out, b" ", numbers[15])
+    for number in &numbers[1..] {
+        write_number(out, b" ", *number)?;
+    }
+    Ok(())
 }
 
 // Writes the answer as C gets it, and what stands in the area afterwards.
@@ -62,7 +40,7 @@ fn report_check(
     report_area(out, area)
 }
 
-// Does so for texts, points, a budget and the size of an area that are given in hex.
+// Does so for texts, points, a budget and the size of an area that are given in hex, in room for a list of points that is too long by one number.
 pub fn report_answer(
     out: &mut impl Write,
     script_digits: &[u8],
@@ -73,7 +51,7 @@ pub fn report_answer(
 ) -> io::Result<()> {
     let mut script = text_room();
     let mut response = text_room();
-    let mut points = points_room();
+    let mut points = [0; 1025];
     let mut area = area_room();
     let script_size = decode(script_digits, &mut script);
     let response_size = decode(response_digits, &mut response);

@@ -7,10 +7,9 @@ use mathlib.Core.List.{List}
 use lib.Dec.{eqb}
 use lib.ListN.{take}
 use Rattle.words.specs.Reading.{reading_of}
-use Rattle.words.specs.Answers.{number_of, place_of}
+use Rattle.words.specs.Answers.{Reading, number_of, place_of}
 use Rattle.words.specs.declared.Limits.{Limits}
-use Rattle.words.specs.declared.Reading.{Reading}
-use Rattle.words.specs.declared.Reading.TheVariants.{Whole, Refused}
+use Rattle.std.specs.Prelude.{Ok, Err}
 use Rattle.lexemes.specs.code.Table.{row_width as lexemeWidth}
 use Rattle.lexemes.specs.Lists.{items_of}
 use Rattle.lexemes.proofs.WholeText.{text_stands}
@@ -34,8 +33,8 @@ pub words_refused : {limits : Limits} {text names places nodes placesAfter nodes
     (r : Reading) {v : Verdict} → r ≡ reading_of limits text → (number_of r ≡ 0 → ⊥) → v.number ≡ number_of r → v.place ≡ place_of r
     → ResponseRead q placesAfter nodesAfter v
 unfolding response_within
-words_refused q (Whole n) e some number place = absurd (some refl)
-words_refused q (Refused fault at n) e some number place = record { told = rw (← e) (number, place) }
+words_refused q (Ok n) e some number place = absurd (some refl)
+words_refused q (Err refusal) e some number place = record { told = rw (← e) (number, place) }
 
 module _ {limits : Limits} {text lexemes names raw places nodes : List ℕ} {p : Progress} {n : ℕ} (w : Worded limits text lexemes n)
     (ready : Ready limits text names places nodes p) (raw_room : RowEach limits text rawWidth raw) where

@@ -6,10 +6,9 @@ use mathlib.Core.List.{List}
 use lib.ListN.{take}
 use borrow.Author.Tests.{ne_eqb}
 use Rattle.words.specs.Reading.{reading_of}
-use Rattle.words.specs.Answers.{number_of, place_of}
+use Rattle.words.specs.Answers.{Reading, number_of, place_of}
 use Rattle.words.specs.Limits.{script_limits}
-use Rattle.words.specs.declared.Reading.{Reading}
-use Rattle.words.specs.declared.Reading.TheVariants.{Whole, Refused}
+use Rattle.std.specs.Prelude.{Ok, Err}
 use Rattle.lexemes.specs.code.Table.{row_width as lexemeWidth}
 use Rattle.lexemes.specs.Lists.{items_of}
 use Rattle.lexemes.proofs.WholeText.{text_stands}
@@ -38,8 +37,8 @@ second_there text {word} some e = rw (ne_eqb word 0 some) e
 pub words_refused : {text names places nodes forms : List ℕ} (r : Reading) {s : Step} → r ≡ reading_of script_limits text → (number_of r ≡ 0 → ⊥)
     → (s.number ≡ number_of r) × (s.place ≡ place_of r) × (s.second ≡ 0) → ScriptRead text names places nodes forms s
 unfolding script_outcome
-words_refused (Whole n) e some told = absurd (some refl)
-words_refused (Refused fault place n) e some told = record { told = rw (← e) told }
+words_refused (Ok n) e some told = absurd (some refl)
+words_refused (Err refusal) e some told = record { told = rw (← e) told }
 
 module _ {text lexemes names raw places nodes forms : List ℕ} {n : ℕ} (w : Worded script_limits text lexemes n) (lent : Lent text names places nodes forms)
     (raw_room : RowEach script_limits text rawWidth raw) where

@@ -11,10 +11,9 @@ use Rattle.words.specs.Reading.{ReadWords, reading_of, words_read}
 use Rattle.words.specs.Table.{entries, word_table, word_values}
 use Rattle.words.specs.Words.{Word, words_of}
 use Rattle.words.proofs.Chains.{entries_long}
-use Rattle.words.specs.Answers.{number_of, passed}
+use Rattle.words.specs.Answers.{Reading, number_of, passed}
 use Rattle.words.specs.declared.Limits.{Limits}
-use Rattle.words.specs.declared.Reading.{Reading}
-use Rattle.words.specs.declared.Reading.TheVariants.{Whole}
+use Rattle.std.specs.Prelude.{Ok}
 use Rattle.lexemes.specs.code.Table.{lexeme_row, lexeme_table, row_width as lexemeWidth}
 use Rattle.lexemes.specs.code.Numbering.{Numbering}
 use Rattle.lexemes.proofs.WholeText.{whole_count, whole_few, whole_words}
@@ -41,7 +40,7 @@ module _ {limits : Limits} {text words values lexemes wordsAfter valuesAfter : L
 
   module _ (none : number_of r ≡ 0) where
     -- the text is read whole
-    pub whole : reading_of limits text ≡ Whole (passed r)
+    pub whole : reading_of limits text ≡ Ok (passed r)
     whole = sym found_same ∙ read_whole limits text r found_same none
 
     -- it has no more words than bytes

@@ -64,15 +64,8 @@ numeral_power n h = power_fits 10 n 9 (omega arith) h tt
 
 -- what follows `#x` or `#b`
 module _ {class : Class} {bits base : ℕ} (radix : Radix class bits base) where
-  pub bits_some : 0 < bits
-  bits_some = go radix
-    where
-      go : {class : Class} {bits base : ℕ} → Radix class bits base → 0 < bits
-      go hex = omega arith
-      go binary = omega arith
-
   module _ (n : ℕ) where
-    pub bits_fit : n ≤ 64 / bits → bits * n ≤ 64
+    bits_fit : n ≤ 64 / bits → bits * n ≤ 64
     bits_fit h = go radix h
       where
         go : {class : Class} {bits base : ℕ} → Radix class bits base → n ≤ 64 / bits → bits * n ≤ 64

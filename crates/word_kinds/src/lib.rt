@@ -14,10 +14,9 @@ pub enum Class {
     SymbolBytes,
 }
 
-// Why a text is refused; `NoFault` is why one is not.
+// Why a text is refused.
 #[derive(Clone, Copy)]
 pub enum Fault {
-    NoFault,
     TooLong,
     BadWord,
     Bracket,

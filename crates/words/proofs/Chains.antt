@@ -235,9 +235,6 @@ pub record Linkage (table₀ : List ℕ) (count : ℕ) (table : List ℕ) (i : �
   pub long : length table ≡ length table₀
   pub is : (e : Linking table₀ count count) → table ≡ rows row (linked_from e.ws i) ++ e.rest
 
-pub linkage_begins : {table : List ℕ} {count : ℕ} → Linking table count count → Linkage table count table count
-linkage_begins p = record { reached = omega arith; long = refl; is = λ e. e.is }
-
 pub linkage_ends : {table₀ : List ℕ} {count : ℕ} {table : List ℕ} {i : ℕ} → Linkage table₀ count table i → i ≤ 0 → Linked table₀ count table
 unfolding word_table linked_from
 linkage_ends {i = i} linkage h e = let z : i ≡ 0 = omega arith in linkage.is e ∙ rw z
@@ -252,7 +249,7 @@ unfolding linked_from
 linked_long ws at h = simp (length-append, length-map, length-take-le at ws h, entries_long, length-drop) (omega arith)
 
 module _ {table₀ : List ℕ} {count : ℕ} {table : List ℕ} {i : ℕ} (linkage : Linkage table₀ count table i) (h : 0 < i) where
-  pub linkage_asks : Linking table₀ count count → Linking table count (i - 1 + 1)
+  linkage_asks : Linking table₀ count count → Linking table count (i - 1 + 1)
   linkage_asks p =
       let back : i - 1 + 1 ≡ i = omega arith in
       record { ws = p.ws; rest = p.rest; is = rw back (linkage.is p); counted = p.counted; reached = omega (arith, linkage.reached); small = p.small }

@@ -3,7 +3,7 @@ use Prim.Native.Nat.{ℕ, suc, ◌+◌, ◌-◌, ◌≤◌, ◌<◌, min}
 use native.Mathlib.Omega.{arith}
 use mathlib.Core.Bool.{Bool, true, false, cond}
 use mathlib.Core.List.{List, [], ◌∷◌}
-use mathlib.Core.Path.{◌≡◌, refl, sym, ap, ◌∙◌}
+use mathlib.Core.Path.{◌≡◌, sym, ap, ◌∙◌}
 use borrow.Author.Tests.{eq-eqb, ne_eqb}
 use lib.ListN.{length, get_or, take, drop, drop_of_length-le, length-drop, length-take}
 use lib.Seq.{take_all, take-length}
@@ -23,10 +23,6 @@ pub record Counting (s : List ℕ) (i lines bytes : ℕ) : Type 0 where
   pub few_bytes : bytes ≤ i
   pub lines_left : lines + lines_ended (drop i s) ≡ lines_ended s
   pub bytes_left : in_last_line bytes (drop i s) ≡ in_last_line 0 s
-
--- Before the first byte there are none.
-pub count_begins : (s : List ℕ) → Counting s 0 0 0
-count_begins s = record { within = omega arith; few_lines = omega arith; few_bytes = omega arith; lines_left = omega arith; bytes_left = refl }
 
 module _ {s : List ℕ} {i lines bytes : ℕ} (counting : Counting s i lines bytes) where
   module _ (h : i < length s) where

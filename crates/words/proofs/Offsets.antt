@@ -1,12 +1,12 @@
 -- Where words start and end: one step of each recursion, and how the words from an offset on go by the first start and the word's end.
-use Prim.Native.Nat.{ℕ, suc, ◌+◌, ◌-◌, ◌≤◌, ◌<◌}
+use Prim.Native.Nat.{ℕ, suc, max, ◌+◌, ◌-◌, ◌≤◌, ◌<◌}
 use native.Mathlib.Nat.{add-sub_of_le, sub_self}
 use native.Mathlib.Omega.{arith}
 use mathlib.Core.Path.{◌≡◌, refl, sym, ◌∙◌}
 use mathlib.Core.Bool.{Bool, true, false, not, ◌&&◌, ◌||◌, cond, false≢true}
 use mathlib.Core.List.{List, [], ◌∷◌}
-use borrow.Author.Tests.{eq-eqb, eqb-false, eqb-true, ltb-false, ltb-true, ne_eqb, not-true}
-use lib.Dec.{eqb, ltb}
+use borrow.Author.Tests.{eq-eqb, eqb-false, eqb-true, leb-false, leb-true, ltb-false, ltb-true, ne_eqb, not-true}
+use lib.Dec.{eqb, leb, ltb}
 use lib.ListN.{length, get_or, take, drop, drop_of_length-le, length-drop}
 use lib.Seq.{drop-drop, get_or-drop}
 use Rattle.forest.specs.Lists.{among}
@@ -19,7 +19,7 @@ use Rattle.words.specs.Words.{bytes_at, enquired}
 -- ---- one step, by index
 
 module _ (s : List ℕ) (at i : ℕ) (comment : Bool) (inv : first_from (drop i s) i comment ≡ first_start s at) where
-  pub first_ends : length s ≤ i → i ≡ first_start s at
+  first_ends : length s ≤ i → i ≡ first_start s at
   unfolding first_from
   first_ends h = sym (rw (drop_of_length-le s)) ∙ inv
 
@@ -31,6 +31,21 @@ module _ (s : List ℕ) (at i : ℕ) (comment : Bool) (inv : first_from (drop i 
     pub first_goes : (later : Bool) → r ≡ false → later ≡ comment_after comment (get_or s i 0) → first_from (drop (i + 1) s) (i + 1) later ≡ first_start s at
     unfolding first_from
     first_goes later t p = rw p (sym (rw (drop_next s i h, sym e ∙ t)) ∙ inv)
+
+  -- no word starts from there on
+  pub first_none : length s ≤ i → (at ≤ length s → i ≤ length s) → {r : ℕ} → r ≡ max at (length s) → r ≡ first_start s at
+  unfolding first_from first_start
+  first_none h within {r} e = go (leb at (length s)) refl
+    where
+      go : (t : Bool) → leb at (length s) ≡ t → r ≡ first_start s at
+      go true t =
+          let inside = leb-true at (length s) t in
+          let last : r ≡ i = omega (arith, within inside) in
+          last ∙ first_ends h
+      go false t =
+          let past : length s ≤ at = omega (arith, leb-false at (length s) t) in
+          let there : r ≡ at = omega (arith, leb-false at (length s) t) in
+          there ∙ sym (rw (drop_of_length-le s past))
 
 module _ (s : List ℕ) (at i : ℕ) (inv : run_end (drop i s) i ≡ run_end (drop (at + 1) s) (at + 1)) (apart : bracket (get_or s at 0) ≡ false) where
   pub run_ends : length s ≤ i → i ≡ word_end s at

@@ -4,14 +4,13 @@ use mathlib.Core.List.{List}
 use mathlib.Core.Path.{◌≡◌, sym, ap, ap₂, ◌∙◌}
 use lib.ListN.{length}
 use Rattle.forest.specs.Tables.{over}
-use Rattle.words.specs.Answers.{number_of, passed, place_of}
+use Rattle.words.specs.Answers.{Reading, number_of, passed, place_of}
 use Rattle.words.specs.Positions.{Positioned, end_of}
 use Rattle.words.specs.Reading.{ReadWords, WordsForC, words_read}
 use Rattle.words.specs.Words.{enquired}
 use Rattle.words.specs.Table.{word_table, word_values}
 use Rattle.words.specs.declared.Limits.{Limits}
 use Rattle.words.specs.declared.Position.{Position}
-use Rattle.words.specs.declared.Reading.{Reading}
 
 -- `read_words`: what is found, and what stands in the two lent areas afterwards.
 pub read-words : {limits : Limits} {text table values : List ℕ} {r s : Reading} {tableOne tableOther valuesOne valuesOther : List ℕ}

@@ -9,20 +9,18 @@ use lib.ListN.{length, drop, length-map}
 use lib.Seq.{drop-length, take-length}
 use Rattle.forest.specs.Tables.{rows}
 use Rattle.forest.proofs.Rows.{length_rows}
-use Rattle.words.specs.Reading.{ReadWords, reading_of, room_for, words_read}
-use Rattle.words.specs.Answers.{passed}
+use Rattle.words.specs.Reading.{ReadWords, reading_of, refused, room_for, words_read}
+use Rattle.words.specs.Answers.{Reading, passed}
 use Rattle.words.specs.code.Scan.{Scanned}
 use Rattle.words.specs.code.Links.{Linked, Linking, linked_from}
 use Rattle.words.specs.code.Rows.{unlinked}
 use Rattle.words.specs.Table.{entries, row, word_table, word_values}
 use Rattle.word_kinds.specs.declared.Fault.TheVariants.{TooLong}
 use Rattle.words.specs.declared.Limits.{Limits}
-use Rattle.words.specs.declared.Reading.{Reading}
-use Rattle.words.specs.declared.Reading.TheVariants.{Refused}
 use Rattle.words.proofs.Chains.{entries_long, wide}
 
 pub too_long : (limits : Limits) (text table values : List ℕ) → limits.bytes < length text
-    → ReadWords limits text table values (Refused TooLong (length text) 0) table values
+    → ReadWords limits text table values (refused TooLong (length text) 0) table values
 unfolding reading_of words_read word_table word_values entries rows
 too_long limits text table values h = record { found = rw (lt-leb (length text) limits.bytes h); table_is = refl; values_are = refl }
 

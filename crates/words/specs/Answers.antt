@@ -1,14 +1,16 @@
 -- What is found in a text, by the numbers of the table of answers.
-use Rattle.std.specs.Prelude.{ℕ}
+use Rattle.std.specs.Prelude.{ℕ, Result, Ok, Err}
 use Rattle.word_kinds.specs.declared.Fault.{Fault}
-use Rattle.word_kinds.specs.declared.Fault.TheVariants.{NoFault, TooLong, BadWord, Bracket, PastLimit, NotCarried}
-use Rattle.words.specs.declared.Reading.{Reading}
-use Rattle.words.specs.declared.Reading.TheVariants.{Whole, Refused}
+use Rattle.word_kinds.specs.declared.Fault.TheVariants.{TooLong, BadWord, Bracket, PastLimit, NotCarried}
+use Rattle.words.specs.declared.Refusal.{Refusal}
+
+-- What reading a text finds: how many words there are, or the refusal.
+abbrev pub Reading : Type 0
+Reading = Result ℕ Refusal
 
 -- The number of a fault in the table of answers: 1 "script, response or point list too long ..", 2 "bad word", 3 "bracket closed too often / never closed",
--- 4 "past a limit", 6 "not carried"; 0 where there is none.
+-- 4 "past a limit", 6 "not carried".
 abbrev pub fault_number : Fault → ℕ
-fault_number NoFault = 0
 fault_number TooLong = 1
 fault_number BadWord = 2
 fault_number Bracket = 3
@@ -17,15 +19,15 @@ fault_number NotCarried = 6
 
 -- The answer's number: the fault's, or 0 where the whole text was read.
 abbrev pub number_of : Reading → ℕ
-number_of (Whole n) = 0
-number_of (Refused fault place n) = fault_number fault
+number_of (Ok n) = 0
+number_of (Err refusal) = fault_number refusal.fault
 
 -- The answer's place: the refused word, or the text's length; 0 where the whole text was read.
 abbrev pub place_of : Reading → ℕ
-place_of (Whole n) = 0
-place_of (Refused fault place n) = place
+place_of (Ok n) = 0
+place_of (Err refusal) = refusal.place
 
 -- How many words were passed: all of them, those before the refused word, or none where the text is too long.
 abbrev pub passed : Reading → ℕ
-passed (Whole n) = n
-passed (Refused fault place n) = n
+passed (Ok n) = n
+passed (Err refusal) = refusal.passed

@@ -20,12 +20,11 @@ pub const PAST_LIMIT: u8 = 4;
 // Not carried.
 pub const NOT_CARRIED: u8 = 6;
 
-// The number of a fault in the table of answers; 0 where there is none.
+// The number of a fault in the table of answers.
 pub fn fault_number(fault: Fault) -> u8
     ensures { result ≡ fault_number fault }
 {
     match fault {
-        Fault::NoFault => 0,
         Fault::TooLong => TOO_LONG,
         Fault::BadWord => BAD_WORD,
         Fault::Bracket => BRACKET,
@@ -39,8 +38,8 @@ pub fn number_of(found: Reading) -> u8
     ensures { result ≡ number_of found }
 {
     match found {
-        Reading::Whole(_) => 0,
-        Reading::Refused(fault, _, _) => fault_number(fault),
+        Ok(_) => 0,
+        Err(refusal) => fault_number(refusal.fault),
     }
 }
 
@@ -49,8 +48,8 @@ pub fn place_of(found: Reading) -> usize
     ensures { result ≡ place_of found }
 {
     match found {
-        Reading::Whole(_) => 0,
-        Reading::Refused(_, place, _) => place,
+        Ok(_) => 0,
+        Err(refusal) => refusal.place,
     }
 }
 
@@ -59,7 +58,7 @@ pub fn passed_of(found: Reading) -> usize
     ensures { result ≡ passed found }
 {
     match found {
-        Reading::Whole(n) => n,
-        Reading::Refused(_, _, n) => n,
+        Ok(count) => count,
+        Err(refusal) => refusal.passed,
     }
 }

@@ -24,7 +24,6 @@ use crate::scan::scan_text;
 use crate::spans::{first_start, word_end};
 use crate::table::ROW;
 use forest::limits::{NESTING, RESPONSE_BYTES, RESPONSE_WORDS, SCRIPT_BYTES, SCRIPT_WORDS};
-use forest::numbers::least;
 use word_kinds::Fault;
 
 // What a text may hold at the most: its bytes, its words with brackets counted, and how many lists may stand within one another.
@@ -35,12 +34,16 @@ pub struct Limits {
     pub nesting: u32,
 }
 
-// What reading a text finds: how many words there are, or the refusal, its place, and how many words were passed before it.
+// Why a text is refused, the place, and how many words were passed before it.
 #[derive(Clone, Copy)]
-pub enum Reading {
-    Whole(usize),
-    Refused(Fault, usize, usize),
+pub struct Refusal {
+    pub fault: Fault,
+    pub place: usize,
+    pub passed: usize,
 }
+
+// What reading a text finds: how many words there are, or the refusal.
+pub type Reading = Result<usize, Refusal>;
 
 // Where a place of a text stands: its line and its column, both from 1.
 #[derive(Clone, Copy)]
@@ -75,7 +78,7 @@ pub fn response_limits() -> Limits
 fn room_for(limits: Limits, rows: usize, values: usize) -> Limits
     ensures { result ≡ room_for limits rows values }
 {
-    let words = least(limits.words as usize, least(rows, values));
+    let words = (limits.words as usize).min(rows.min(values));
     Limits {
         bytes: limits.bytes,
         words: words as u32,
@@ -89,7 +92,11 @@ pub fn read_words(text: &[u8], limits: Limits, table: &mut [u32], values: &mut [
     ensures { ReadWords limits text.now table.old values.old result table.new values.new }
 {
     if text.len() > limits.bytes as usize {
-        return Reading::Refused(Fault::TooLong, text.len(), 0);
+        return Err(Refusal {
+            fault: Fault::TooLong,
+            place: text.len(),
+            passed: 0,
+        });
     }
     let room = room_for(limits, table.len() / ROW, values.len());
     let found = scan_text(text, room, table, values);

@@ -35,9 +35,7 @@ pub fn link(table: &mut [u32], count: usize)
     requires { Linking table.old count count }
     ensures { Linked table.old count table.new }
 {
-    let mut i = count;
-    while 0 < i {
-        i -= 1;
+    for i in (0..count).rev() {
         let next = next_of(table, count, i);
         table[ROW * i + 4] = next as u32;
     }

@@ -7,35 +7,23 @@ use crate::{Position, word_at};
 // A line ends at byte 10 only.
 const LINE_END: u8 = 10;
 
-// One more than a count, but for the greatest number, which stays.
-fn one_more(count: usize) -> usize
-    ensures { result ≡ min (count + 1) greatest }
-{
-    if count == usize::MAX {
-        return count;
-    }
-    count + 1
-}
-
 // Where the end of a text stands.
 fn end_position(text: &[u8]) -> Position
     ensures { Positioned text.now (length text.now) result }
 {
-    let mut lines = 0;
-    let mut bytes = 0;
-    let mut i = 0;
-    while i < text.len() {
-        if text[i] == LINE_END {
+    let mut lines = 0usize;
+    let mut bytes = 0usize;
+    for byte in text {
+        if *byte == LINE_END {
             lines += 1;
             bytes = 0;
         } else {
             bytes += 1;
         }
-        i += 1;
     }
     Position {
-        line: one_more(lines),
-        column: one_more(bytes),
+        line: lines.saturating_add(1),
+        column: bytes.saturating_add(1),
     }
 }
 

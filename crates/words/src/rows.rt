@@ -27,12 +27,7 @@ fn width_of(kind: Kind) -> u32
 {
     match kind {
         Kind::Literal(width, _) => width,
-        Kind::Open => 0,
-        Kind::Close => 0,
-        Kind::Numeral(_) => 0,
-        Kind::Symbol => 0,
-        Kind::Keyword => 0,
-        Kind::Faulty(_) => 0,
+        _ => 0,
     }
 }
 
@@ -41,13 +36,8 @@ fn value_of(kind: Kind) -> u64
     ensures { result ≡ value_of kind }
 {
     match kind {
-        Kind::Literal(_, value) => value,
-        Kind::Numeral(value) => value,
-        Kind::Open => 0,
-        Kind::Close => 0,
-        Kind::Symbol => 0,
-        Kind::Keyword => 0,
-        Kind::Faulty(_) => 0,
+        Kind::Literal(_, value) | Kind::Numeral(value) => value,
+        _ => 0,
     }
 }
 

@@ -7,62 +7,55 @@ use crate::answers::fault_number;
 use crate::rows::{kind_number, put_word};
 use crate::spans::{first_start, word_end};
 use crate::table::{CLOSE, OPEN};
-use crate::{Limits, Reading};
+use crate::{Limits, Reading, Refusal};
 use word_kinds::kinds::kind_of;
 use word_kinds::{Fault, Kind};
 
 // A word's fault by its own bytes.
-fn own_fault(kind: Kind) -> Fault
+fn own_fault(kind: Kind) -> Option<Fault>
     ensures { result ≡ own_fault kind }
 {
     match kind {
-        Kind::Faulty(fault) => fault,
-        Kind::Open => Fault::NoFault,
-        Kind::Close => Fault::NoFault,
-        Kind::Numeral(_) => Fault::NoFault,
-        Kind::Literal(_, _) => Fault::NoFault,
-        Kind::Symbol => Fault::NoFault,
-        Kind::Keyword => Fault::NoFault,
+        Kind::Faulty(fault) => Some(fault),
+        _ => None,
     }
 }
 
 // The fault of the two that has the lesser number, where there is one.
-fn lesser_of(first: Fault, second: Fault) -> Fault
+fn lesser_of(first: Option<Fault>, second: Option<Fault>) -> Option<Fault>
     ensures { result ≡ lesser first second }
 {
-    let number = fault_number(first);
-    let other = fault_number(second);
-    if (0 < number) & ((other == 0) | (number <= other)) {
-        first
-    } else {
-        second
+    match (first, second) {
+        (Some(one), Some(other)) if fault_number(other) < fault_number(one) => second,
+        (Some(_), _) => first,
+        (None, _) => second,
     }
 }
 
 // A bracket closed too often.
-fn close_fault(kind: Kind, depth: usize) -> Fault
+fn close_fault(kind: Kind, depth: usize) -> Option<Fault>
     ensures { result ≡ close_fault kind depth }
 {
     if (kind_number(kind) == CLOSE) & (depth == 0) {
-        return Fault::Bracket;
+        return Some(Fault::Bracket);
     }
-    Fault::NoFault
+    None
 }
 
 // A word past the word count, or a list past the nesting.
-fn limit_fault(limits: Limits, kind: Kind, count: usize, depth: usize) -> Fault
+fn limit_fault(limits: Limits, kind: Kind, count: usize, depth: usize) -> Option<Fault>
     ensures { result ≡ limit_fault limits kind count depth }
 {
     let words = limits.words as usize;
     let nesting = limits.nesting as usize;
     if (words <= count) | ((kind_number(kind) == OPEN) & (nesting <= depth)) {
-        return Fault::PastLimit;
+        return Some(Fault::PastLimit);
     }
-    Fault::NoFault
+    None
 }
 
 // The least fault of a word before which `count` words stand and `depth` lists are open.
-fn fault_at(limits: Limits, kind: Kind, count: usize, depth: usize) -> Fault
+fn fault_at(limits: Limits, kind: Kind, count: usize, depth: usize) -> Option<Fault>
     ensures { result ≡ fault_at limits kind count depth }
 {
     let bracket = close_fault(kind, depth);
@@ -90,9 +83,13 @@ fn at_end(size: usize, count: usize, depth: usize) -> Reading
     ensures { result ≡ found_at_end size count depth }
 {
     if depth == 0 {
-        return Reading::Whole(count);
+        return Ok(count);
     }
-    Reading::Refused(Fault::Bracket, size, count)
+    Err(Refusal {
+        fault: Fault::Bracket,
+        place: size,
+        passed: count,
+    })
 }
 
 // Reads words until one is refused or the text ends; the rows of the words passed stand in the table, and none is linked.
@@ -106,9 +103,12 @@ pub fn scan_text(text: &[u8], limits: Limits, table: &mut [u32], values: &mut [u
     while start < text.len() {
         let end = word_end(text, start);
         let kind = kind_of(&text[start..end]);
-        let fault = fault_at(limits, kind, count, depth);
-        if fault_number(fault) != 0 {
-            return Reading::Refused(fault, start, count);
+        if let Some(fault) = fault_at(limits, kind, count, depth) {
+            return Err(Refusal {
+                fault,
+                place: start,
+                passed: count,
+            });
         }
         put_word(table, values, count, kind, start, end);
         depth = depth_after(kind, depth);

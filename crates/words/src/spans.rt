@@ -7,7 +7,7 @@ ghost use Rattle.words.specs.code.Spans.{first_start};
 fn is_white(byte: u8) -> bool
     ensures { result ≡ white byte }
 {
-    (byte == 9) | (byte == 10) | (byte == 13) | (byte == 32)
+    matches!(byte, 9 | 10 | 13 | 32)
 }
 
 // What a comment begins with.
@@ -21,14 +21,14 @@ fn starts_comment(byte: u8) -> bool
 fn ends_comment(byte: u8) -> bool
     ensures { result ≡ comment_end byte }
 {
-    (byte == 10) | (byte == 13)
+    matches!(byte, 10 | 13)
 }
 
 // One of the two brackets.
 fn is_bracket(byte: u8) -> bool
     ensures { result ≡ bracket byte }
 {
-    (byte == b'(') | (byte == b')')
+    matches!(byte, b'(' | b')')
 }
 
 // What ends a run of bytes: white space, a bracket, `;`.
@@ -56,17 +56,15 @@ fn begins(comment: bool, byte: u8) -> bool
 pub fn first_start(text: &[u8], at: usize) -> usize
     ensures { result ≡ first_start text.now at }
 {
-    let mut i = at;
     let mut comment = false;
-    while i < text.len() {
+    for i in at..text.len() {
         let byte = text[i];
         if begins(comment, byte) {
             return i;
         }
         comment = comment_after(comment, byte);
-        i += 1;
     }
-    i
+    at.max(text.len())
 }
 
 // The offset past the word that starts at `at`.
@@ -74,15 +72,13 @@ pub fn word_end(text: &[u8], at: usize) -> usize
     requires { at < length text.now }
     ensures { result ≡ word_end text.now at }
 {
-    let mut i = at + 1;
     if is_bracket(text[at]) {
-        return i;
+        return at + 1;
     }
-    while i < text.len() {
+    for i in at + 1..text.len() {
         if ends_run(text[i]) {
             return i;
         }
-        i += 1;
     }
-    i
+    text.len()
 }

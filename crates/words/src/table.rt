@@ -27,11 +27,7 @@ fn number_at(table: &[u32], word: usize, column: usize) -> u32
     if word >= table.len() {
         return 0;
     }
-    let place = ROW * word + column;
-    if place >= table.len() {
-        return 0;
-    }
-    table[place]
+    table.get(ROW * word + column).copied().unwrap_or(0)
 }
 
 // The number of a word's kind.

@@ -1,13 +1,11 @@
 -- What the reading of the words and lexemes of one text asks and gives.
-use Rattle.std.specs.Prelude.{ℕ, ◌≤◌, List, ◌++◌, ◌≡◌, length}
+use Rattle.std.specs.Prelude.{ℕ, ◌≤◌, List, ◌++◌, ◌≡◌, length, Ok}
 use Rattle.words.specs.Reading.{reading_of}
 use Rattle.words.specs.Table.{row_width as wordWidth}
 use Rattle.words.specs.Words.{words_of}
 use Rattle.lexemes.specs.code.Table.{lexeme_table, row_width as lexemeWidth}
-use Rattle.words.specs.Answers.{number_of, passed}
+use Rattle.words.specs.Answers.{Reading, number_of, passed}
 use Rattle.words.specs.declared.Limits.{Limits}
-use Rattle.words.specs.declared.Reading.{Reading}
-use Rattle.words.specs.declared.Reading.TheVariants.{Whole}
 use Rattle.texts.specs.code.Texts.{RowEach}
 
 -- The limits allow at most so many words, and there is a row for each word.
@@ -23,7 +21,7 @@ pub record Rooms (limits : Limits) (text words values lexemes : List ℕ) : Type
 
 -- A text is read whole, and the table begins with its lexemes.
 pub record Worded (limits : Limits) (text lexemes : List ℕ) (n : ℕ) : Type 0 where
-  pub whole : reading_of limits text ≡ Whole n
+  pub whole : reading_of limits text ≡ Ok n
   pub few : n ≤ limits.words
   pub short : n ≤ length text
   pub rest : List ℕ

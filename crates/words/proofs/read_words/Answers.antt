@@ -1,16 +1,9 @@
 use native.Mathlib.Omega.{arith}
-use Rattle.words.proofs.WholeText.{all_read, rows_fit, to_link, too_long, values_fit}
+use Rattle.words.proofs.WholeText.{all_read, to_link, too_long}
 use Rattle.words.proofs.read_words.Goals as goal
 
 pub returns-then-text-limits : goal.returns-then-text-limits
 returns-then-text-limits c = search too_long
-
-pub scan_text-found-requires : goal.scan_text-found-requires
-scan_text-found-requires c =
-    let fit = c.room_for-room.ensures in
-    let table = c.args.table.now in
-    let values = c.args.values.now in
-    (omega arith, rows_fit _ table values _ fit, values_fit _ table values _ fit)
 
 pub link-requires : goal.link-requires
 link-requires c =

@@ -1,21 +1,15 @@
 use native.Mathlib.Omega.{arith}
-use Rattle.words.proofs.Offsets.{end_past, end_within, found_inside, found_is, found_none, seek_begins, seek_goes, seek_inside, seek_less}
+use Rattle.words.proofs.Offsets.{end_past, end_within, found_inside, found_is, found_none, seek_begins, seek_goes, seek_less}
 use Rattle.words.proofs.word_at.Goals as goal
 
 pub loop-start-init : goal.loop-start-init
 loop-start-init c = search seek_begins
-
-pub word_end-requires : goal.word_end-requires
-word_end-requires c = search seek_inside
 
 pub loop-start-smaller : goal.loop-start-smaller
 loop-start-smaller c = search seek_less
 
 pub loop-start-preserved : goal.loop-start-preserved
 loop-start-preserved c = search seek_goes
-
-pub word_end-end-requires : goal.word_end-end-requires
-word_end-end-requires c = search found_inside
 
 pub slice_bounds-result-count : goal.slice_bounds-result-count
 slice_bounds-result-count c = omega (arith, end_past _ _ _ c.word_end-end.ensures)

@@ -2,11 +2,10 @@
 use Rattle.std.specs.Prelude.{ℕ, ◌≤◌, List, map, ◌≡◌, length}
 use Rattle.forest.specs.Tables.{over, rows}
 use Rattle.words.specs.Reading.{found_from, words_read}
-use Rattle.words.specs.Answers.{passed}
+use Rattle.words.specs.Answers.{Reading, passed}
 use Rattle.words.specs.Table.{row, word_values}
 use Rattle.words.specs.Words.{words_of}
 use Rattle.words.specs.declared.Limits.{Limits}
-use Rattle.words.specs.declared.Reading.{Reading}
 use Rattle.words.specs.code.Rows.{unlinked}
 
 -- What the scan of a text leaves: what it found, and the rows and the values of the words that it passed, none of them linked.

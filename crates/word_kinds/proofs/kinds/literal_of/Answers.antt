@@ -1,23 +1,13 @@
-use native.Mathlib.Omega.{arith}
 use mathlib.Core.Bool.{not}
 use mathlib.Core.Path.{ap}
-use Rattle.word_kinds.proofs.Forms.{bits_fit, bits_some, literal_bad, literal_digits, literal_is, literal_long, literal_power}
+use Rattle.word_kinds.proofs.Forms.{literal_bad, literal_digits, literal_is, literal_long, literal_power}
 use Rattle.word_kinds.proofs.kinds.literal_of.Goals as goal
 
 pub returns-then-not-all_in-digits : goal.returns-then-not-all_in-digits
 returns-then-not-all_in-digits c = search literal_bad
 
-pub nonzero_div-bits : goal.nonzero_div-bits
-nonzero_div-bits c = search bits_some
-
 pub returns-then-digits-bits : goal.returns-then-digits-bits
 returns-then-digits-bits c = search literal_long
-
-pub overflow_mul-result : goal.overflow_mul-result
-overflow_mul-result c = let b = bits_fit c.requires _ c.if-digits-bits.false in omega arith
-
-pub overflow_cast-result : goal.overflow_cast-result
-overflow_cast-result c = let b = bits_fit c.requires _ c.if-digits-bits.false in omega arith
 
 pub spell-requires : goal.spell-requires
 spell-requires c =

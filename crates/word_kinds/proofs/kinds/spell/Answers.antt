@@ -1,11 +1,5 @@
-use native.Mathlib.Nat.{pow-zero}
-use native.Mathlib.Omega.{arith}
-use mathlib.Core.Path.{refl}
 use Rattle.word_kinds.proofs.Digits.{below_goes, spell_add, spell_ends, spell_goes, spell_more, spell_mul}
 use Rattle.word_kinds.proofs.kinds.spell.Goals as goal
-
-pub loop-digit-init : goal.loop-digit-init
-loop-digit-init c = (refl, c.requires.0, omega (arith, pow-zero c.args.base))
 
 pub overflow_mul-value : goal.overflow_mul-value
 overflow_mul-value c = record { fits = search spell_mul }

@@ -1,8 +1,5 @@
-use Rattle.words.proofs.Chains.{inside_begins, inside_closes, inside_ends, inside_goes, inside_less}
+use Rattle.words.proofs.Chains.{inside_closes, inside_ends, inside_goes, inside_less}
 use Rattle.words.proofs.links.close_of.Goals as goal
-
-pub loop-i-init : goal.loop-i-init
-loop-i-init c = search inside_begins
 
 pub returns-then-kind_at-eq-CLOSE : goal.returns-then-kind_at-eq-CLOSE
 returns-then-kind_at-eq-CLOSE c = search inside_closes

@@ -1,21 +1,11 @@
-use native.Mathlib.Omega.{arith}
-use Rattle.words.proofs.Chains.{linkage_asks, linkage_begins, linkage_ends, linkage_goes, linkage_room, linkage_small}
+use Rattle.words.proofs.Chains.{linkage_ends, linkage_goes, linkage_room, linkage_small}
 use Rattle.words.proofs.links.link.Goals as goal
-
-pub loop-i-init : goal.loop-i-init
-loop-i-init c = search linkage_begins
-
-pub next_of-next-requires : goal.next_of-next-requires
-next_of-next-requires c = search linkage_asks
 
 pub overflow_cast-table : goal.overflow_cast-table
 overflow_cast-table c = record { fits = search linkage_small }
 
 pub bounds-table-i : goal.bounds-table-i
 bounds-table-i c = search linkage_room
-
-pub loop-i-smaller : goal.loop-i-smaller
-loop-i-smaller c = omega arith
 
 pub loop-i-preserved : goal.loop-i-preserved
 loop-i-preserved c = search linkage_goes

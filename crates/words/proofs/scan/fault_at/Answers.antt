@@ -1,5 +1,6 @@
-use Rattle.words.proofs.Faults.{fault_is}
+use Rattle.words.specs.Reading.{fault_at}
 use Rattle.words.proofs.scan.fault_at.Goals as goal
 
 pub returns : goal.returns
-returns c = search fault_is
+unfolding fault_at
+returns c = cc

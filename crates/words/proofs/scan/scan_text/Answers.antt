@@ -15,27 +15,21 @@ slice_bounds-kind_of-start c = omega (arith, end_past _ _ _ c.word_end-end.ensur
 pub slice_bounds-kind_of-end : goal.slice_bounds-kind_of-end
 slice_bounds-kind_of-end c = search end_within
 
-pub returns-then-fault_number-ne0 : goal.returns-then-fault_number-ne0
-returns-then-fault_number-ne0 c = search scan_stops
+pub returns-in-Some : goal.returns-in-Some
+returns-in-Some c = scan_stops c.loop-start.invariant c.loop-start-test.true _ c.word_end-end.ensures _ c.kind_of-kind.ensures c.in-Some.ensures
 
 pub put_word-requires : goal.put_word-requires
-put_word-requires c = search word_fits
-
-pub depth_after-depth-requires : goal.depth_after-depth-requires
-depth_after-depth-requires c =
-    let inv = c.loop-start.invariant in
-    omega arith
-
-pub overflow_add-count : goal.overflow_add-count
-overflow_add-count c =
-    let inv = c.loop-start.invariant in
-    omega arith
+put_word-requires c =
+    word_fits c.loop-start.invariant c.loop-start-test.true _ c.word_end-end.ensures _ c.kind_of-kind.ensures
+    c.in_default.ensures c.requires.1 c.requires.2 c.requires.0
 
 pub loop-start-smaller : goal.loop-start-smaller
 loop-start-smaller c = search next_less
 
 pub loop-start-preserved : goal.loop-start-preserved
-loop-start-preserved c = search scan_goes
+loop-start-preserved c =
+    scan_goes c.loop-start.invariant c.loop-start-test.true _ c.word_end-end.ensures _ c.kind_of-kind.ensures
+    c.in_default.ensures c.requires.1 c.requires.2 _ _ c.put_word.ensures _ c.depth_after-depth.ensures _ c.first_start-start-in-loop-start.ensures
 
 pub returns : goal.returns
 returns c = search scan_ends
