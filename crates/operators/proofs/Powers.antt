@@ -1,10 +1,10 @@
 -- Laws of numbers modulo a power of two, at any width.
-use Rattle.std.proofs.Common.{◌≡◌, ℕ, ◌+◌, ◌-◌, ◌*◌, ◌/◌, ◌%◌, ◌^◌, ◌<◌, ◌≤◌, sym, ap, ◌∙◌, mod-eq_of_lt, arith, shl_exact}
-use native.Mathlib.Nat.{add-mod_right, mod_self}
+use Rattle.std.proofs.Common.{◌≡◌, ℕ, ◌+◌, ◌-◌, ◌*◌, ◌/◌, ◌%◌, ◌^◌, sym, ap, ◌∙◌, arith, shl_exact}
+use native.Mathlib.Nat.{mod_self}
 use lib.Bits.{bit_and, bit_or, and_mask, or_shifted}
 use lib.Pow.{high, mod-mod-pow, ones_lt, ones_split}
-use Rattle.operators.specs.code.Vectors.{Joined, Width, Word, Words}
-use Rattle.operators.specs.Values.{bvneg_value, bvsub_value, concat_value}
+use Rattle.operators.specs.code.Vectors.{Joined, Width}
+use Rattle.operators.specs.Values.{bvneg_value, concat_value}
 
 -- The largest number shifted down by 64 - n leaves n ones.
 pub ones_law : {n : ℕ} → Width n → (2 ^ 64 - 1) / 2 ^ (64 - n) ≡ 2 ^ n - 1
@@ -24,32 +24,11 @@ cut_again x {n = n} h e q =
     let l : 64 ≡ (64 - n) + n = omega arith in
     q ∙ ap (λ (y : ℕ). y % 2 ^ n) e ∙ ap (λ (k : ℕ). x % 2 ^ k % 2 ^ n) l ∙ mod-mod-pow x (64 - n) n
 
--- A difference that is not below 0 is `bvsub`.
-pub sub_above : {n a b : ℕ} → Words n a b → b ≤ a → a - b ≡ bvsub_value n a b
-sub_above {n} {a} {b} w h =
-    let e : a + (2 ^ n - b) ≡ (a - b) + 2 ^ n = omega arith in
-    let l : a - b < 2 ^ n = omega arith in
-    sym (ap (λ (x : ℕ). x % 2 ^ n) e ∙ add-mod_right (a - b) (2 ^ n) ∙ mod-eq_of_lt l)
-
--- A difference below 0, counted down from n ones, is `bvsub`.
-pub sub_below : {n a b m : ℕ} → Words n a b → a < b → m ≡ 2 ^ n - 1 → m - (b - a - 1) ≡ bvsub_value n a b
-sub_below {n} {a} {b} w h q =
-    let e : 2 ^ n - 1 - (b - a - 1) ≡ a + (2 ^ n - b) = omega arith in
-    let l : a + (2 ^ n - b) < 2 ^ n = omega arith in
-    ap (λ (x : ℕ). x - (b - a - 1)) q ∙ e ∙ sym (mod-eq_of_lt l)
-
 -- `bvneg` of 0 is 0.
 pub neg_zero : (n : ℕ) {a : ℕ} → a ≡ 0 → 0 ≡ bvneg_value n a
 neg_zero n {a} h =
     let e : 2 ^ n - a ≡ 2 ^ n = omega arith in
     sym (ap (λ (x : ℕ). x % 2 ^ n) e ∙ mod_self (2 ^ n))
-
--- `bvneg` of another number is counted down from n ones.
-pub neg_more : {n a m : ℕ} → Word n a → (a ≡ 0 → ⊥) → m ≡ 2 ^ n - 1 → m - (a - 1) ≡ bvneg_value n a
-neg_more {n} {a} w h q =
-    let e : 2 ^ n - 1 - (a - 1) ≡ 2 ^ n - a = omega (arith, h) in
-    let l : 2 ^ n - a < 2 ^ n = omega (arith, h) in
-    ap (λ (x : ℕ). x - (a - 1)) q ∙ e ∙ sym (mod-eq_of_lt l)
 
 -- A number shifted up, with another in the bits below it, is `concat`.
 pub joined : {n m a b : ℕ} → Joined n m a b → bit_or (a * 2 ^ m % 2 ^ 64) b ≡ concat_value m a b

@@ -1,58 +1,23 @@
 -- Tests of sorts: whether a number is a value of one, and whether a rule, and so an operator, takes operands of some.
-use Rattle.std.proofs.Common.{◌≡◌, ℕ, ◌+◌, ◌-◌, ◌^◌, ◌<◌, ◌≤◌, Bool, true, false, cond, ◌&&◌, eqb, ltb, leb, List, [], ◌∷◌, length, get_or, drop, sym, refl, ap}
-use Rattle.std.proofs.Common.{◌∙◌, arith, ltb-false, ltb-true, lt-ltb, eqb-true, le-leb, leb-false, leb-true}
-use mathlib.Core.Bool.{and-false}
+use Rattle.std.proofs.Common.{◌≡◌, ℕ, ◌+◌, ◌-◌, ◌<◌, ◌≤◌, Bool, true, false, cond, ◌&&◌, eqb, ltb, leb, List, [], ◌∷◌, length, get_or, drop, sym, refl, ap}
+use Rattle.std.proofs.Common.{◌∙◌, arith, ltb-true, eqb-true, leb-true}
 use mathlib.Core.Logic.{◌⊎◌, inl, inr}
-use borrow.Author.Tests.{lt-leb}
 use lib.ListN.{get_or-replicate}
 use Rattle.std.specs.List.{list_all}
 use Rattle.forest.proofs.Bools.{and_left, and_right}
 use Rattle.operators.specs.Operators.{Operator, operator_at, operator_count, operator_sort, operators, takes}
-use Rattle.operators.specs.Sorts.{SortRule, all_are, bool, choice, cutting, equality, joining, max_width, order, sort_by, sort_where, values_of, vector}
+use Rattle.operators.specs.Sorts.{SortRule, all_are, bool, choice, cutting, equality, joining, max_width, order, sort_by, sort_where, vector}
 use Rattle.operators.specs.Sorts.{width}
 use Rattle.operators.specs.code.Rules.{sort_rule}
 use Rattle.operators.specs.declared.rules.Rule.{Rule}
 use Rattle.operators.specs.declared.rules.Rule.TheVariants.{Logic, Equality, Choice, Width, Order, Joining, Cutting}
 use Rattle.operators.specs.code.Sorting.{has_sort, least_operands}
-use Rattle.operators.proofs.Below.{mod_below}
 use Rattle.operators.proofs.Table.{column}
-
--- A number is below b where it is at most b - 1.
-below_is_most : (a b : ℕ) → 0 < b → leb a (b - 1) ≡ ltb a b
-below_is_most a b h = go (ltb a b) refl
-  where
-    go : (t : Bool) → ltb a b ≡ t → leb a (b - 1) ≡ ltb a b
-    go true e = let l = ltb-true a b e in le-leb a (b - 1) (omega arith) ∙ sym e
-    go false e = let l = ltb-false a b e in lt-leb a (b - 1) (omega arith) ∙ sym e
-
--- A Bool is below 2.
-pub bool_test : {s : ℕ} (x : ℕ) → s ≡ 0 → ltb x 2 ≡ ltb x (values_of s)
-bool_test x e = rw e
-
--- A vector is at most all ones.
-pub vector_test : {s m : ℕ} (x : ℕ) → (s ≡ 0 → ⊥) → m ≡ 2 ^ s - 1 → leb x m ≡ ltb x (values_of s)
-vector_test {s} x h e =
-    let p = mod_below s 0 in
-    rw (e, lt-ltb 0 s (omega arith)) (below_is_most x (2 ^ s) (omega arith))
 
 -- Each of the sorts is one and the same.
 pub each_is : (sort : ℕ) (sorts : List ℕ) → list_all (λ t. eqb t sort) sorts ≡ all_are sort sorts
 each_is sort [] = refl
 each_is sort (t ∷ more) = ap (λ r. eqb t sort && r) (each_is sort more)
-
--- Two widths that are too wide together.
-pub joins_not : (first second : ℕ) → max_width < first → false ≡ (vector first && vector second && leb (first + second) max_width)
-joins_not first second h = rw (lt-leb (first + second) max_width (omega arith), and-false)
-
--- Whether they are, by what the first leaves.
-pub joins_by : (first second : ℕ) → first ≤ max_width
-    → (ltb 0 first && ltb 0 second && leb second (64 - first)) ≡ (vector first && vector second && leb (first + second) max_width)
-joins_by first second h = go (leb (first + second) max_width) refl
-  where
-    go : (t : Bool) → leb (first + second) max_width ≡ t
-        → (ltb 0 first && ltb 0 second && leb second (64 - first)) ≡ (vector first && vector second && leb (first + second) max_width)
-    go true e = let l = leb-true (first + second) max_width e in rw (e, le-leb second (64 - first) (omega arith))
-    go false e = let l = leb-false (first + second) max_width e in rw (e, lt-leb second (64 - first) (omega arith))
 
 -- A test that gives a sort.
 when_test : (test : Bool) (s : ℕ) → test ≡ has_sort (sort_where test s)

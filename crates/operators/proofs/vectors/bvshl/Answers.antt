@@ -1,9 +1,6 @@
-use Rattle.std.proofs.Common.{refl, le-ltb, lt-ltb}
+use Rattle.std.proofs.Common.{refl, lt-ltb}
 use Rattle.operators.proofs.Powers.{cut_again}
 use Rattle.operators.proofs.vectors.bvshl.Goals as goal
-
-pub returns-then-width-right : goal.returns-then-width-right
-returns-then-width-right c = simp (le-ltb _ _ c.if-width-right.true)
 
 pub returns : goal.returns
 returns c = simp (lt-ltb _ _ c.if-width-right.false) (cut_again _ c.requires refl c.cut.ensures)

@@ -1,8 +1,0 @@
-use Rattle.std.proofs.Common.{eq-eqb, ne_eqb}
-use Rattle.operators.proofs.vectors.bvurem.Goals as goal
-
-pub returns-then-right-eq0 : goal.returns-then-right-eq0
-returns-then-right-eq0 c = simp (eq-eqb _ _ c.if-right-eq0.true)
-
-pub returns : goal.returns
-returns c = simp (ne_eqb _ _ c.if-right-eq0.false)
