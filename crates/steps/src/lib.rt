@@ -17,7 +17,6 @@ pub struct Step {
 pub enum Refusal {
     // A step is refused, or the list ends with anything but one value.
     BadStep(usize),
-
     // Sorts and arguments are not as many, or a sort is none, or an argument no value of it.
     BadArgument(usize),
 }
