@@ -10,6 +10,13 @@ use std::io::Write;
 // The place in the area where function 1's list starts.
 const PLACE: usize = 4096;
 
+// The rules, their right sides, and the body.
+const RULES: [u64; 9] = [0, 0, 0, 1, 1, 0, 2, 1, 0];
+
+const FORMS: [u64; 12] = [5, 1, 0, 1, 5, 0, 0, 1, 513, 0, 0, 1];
+
+const BODY: [u64; 4] = [513, 0, 0, 1];
+
 // An area in which no list is shown.
 fn unused_area() -> [u16; 32768]
     ensures { length result ≡ 32768 }
@@ -27,10 +34,7 @@ fn digit(rule: u16) -> u8 {
 
 // Whether a list derives the body, in print.
 fn followed(list: &[u16]) -> u8 {
-    let rules: [u64; 9] = [0, 0, 0, 1, 1, 0, 2, 1, 0];
-    let forms: [u64; 12] = [5, 1, 0, 1, 5, 0, 0, 1, 513, 0, 0, 1];
-    let body: [u64; 4] = [513, 0, 0, 1];
-    if following::follows(&rules, &forms, &body, list) {
+    if following::follows(&RULES, &FORMS, &BODY, list) {
         return b'y';
     }
     b'n'
@@ -56,11 +60,8 @@ fn show_followed(out: &mut impl Write) -> io::Result<()> {
 
 fn main(rt: HostRuntime) -> io::Result<()> {
     let mut out = io::writer(&rt);
-    let rules: [u64; 9] = [0, 0, 0, 1, 1, 0, 2, 1, 0];
-    let forms: [u64; 12] = [5, 1, 0, 1, 5, 0, 0, 1, 513, 0, 0, 1];
-    let body: [u64; 4] = [513, 0, 0, 1];
     let mut area = unused_area();
-    if searching::derive(&rules, &forms, &body, 1, &mut area).is_some() {
+    if searching::derive(&RULES, &FORMS, &BODY, 1, &mut area).is_some() {
         let line = [
             digit(area[PLACE]),
             b' ',
