@@ -1,15 +1,13 @@
 //! The texts of a file without a fault: their own answer, or that on the lists.
 ghost use Rattle.words.specs.Limits.{response_limits};
+ghost use Rattle.names.specs.code.Lookup.{Names};
 ghost use Rattle.evidence.specs.Evidence.{Audited};
 ghost use Rattle.both_texts.specs.code.Both.{Rooms};
 ghost use Rattle.auditing.specs.code.Files.{FileTexts};
 
 use crate::lists::follow_all;
 use both_texts::read_texts;
-use both_texts::tables::{
-    are_short, form_room, is_middling, middle_forms, middle_nodes, no_names, no_places, node_room,
-    short_forms, short_nodes,
-};
+use both_texts::tables::{in_tables, no_names, no_places};
 use outcome::{NONE, Outcome, refusal};
 use script::answers::{ACCEPTED, NOT_FOLLOWED};
 use words::response_limits;
@@ -19,25 +17,18 @@ fn audit_in(
     file: &[u8],
     script: &[u8],
     response: &[u8],
+    names: &mut [u8],
     nodes: &mut [u64],
     forms: &mut [u64],
 ) -> Outcome
     requires file_texts { FileTexts file.now script.now response.now }
+    requires table { Names names.old }
     requires rooms { Rooms response_limits script.now response.now nodes.old forms.old }
     ensures { Audited file.now result }
 {
-    let mut names = no_names();
     let mut places = no_places();
     let limits = response_limits();
-    let told = read_texts(
-        script,
-        response,
-        limits,
-        &mut names,
-        &mut places,
-        nodes,
-        forms,
-    );
+    let told = read_texts(script, response, limits, names, &mut places, nodes, forms);
     if told.outcome.number != ACCEPTED {
         return told.outcome;
     }
@@ -52,17 +43,7 @@ pub(crate) fn audit_texts(file: &[u8], script: &[u8], response: &[u8]) -> Outcom
     requires { FileTexts file.now script.now response.now }
     ensures { Audited file.now result }
 {
-    if are_short(script.len(), response.len()) {
-        let nodes: &mut [u64] = &mut short_nodes();
-        let forms: &mut [u64] = &mut short_forms();
-        return audit_in(file, script, response, nodes, forms);
-    }
-    if is_middling(script.len()) {
-        let nodes: &mut [u64] = &mut middle_nodes();
-        let forms: &mut [u64] = &mut middle_forms();
-        return audit_in(file, script, response, nodes, forms);
-    }
-    let nodes: &mut [u64] = &mut node_room();
-    let forms: &mut [u64] = &mut form_room();
-    audit_in(file, script, response, nodes, forms)
+    in_tables(script, response, &mut no_names(), |names, nodes, forms| {
+        audit_in(file, script, response, names, nodes, forms)
+    })
 }

@@ -1,15 +1,9 @@
 -- The two texts, from the calls that read them.
-use Prim.Native.Nat.{ℕ, ◌+◌, ◌*◌, ◌≤◌}
+use Prim.Native.Nat.{ℕ, ◌+◌, ◌*◌}
 use native.Mathlib.Omega.{arith}
 use mathlib.Core.Path.{◌≡◌, refl, sym, ap, ◌∙◌}
-use mathlib.Core.Bool.{Bool, true, ◌&&◌}
 use mathlib.Core.List.{List}
-use lib.Dec.{leb}
-use borrow.Author.Tests.{leb-true}
-use Rattle.forest.proofs.Bools.{and_left, and_right}
 use lib.ListN.{get_or-replicate, length, length-replicate, replicate}
-use Rattle.forest.specs.Limits.{response_words, script_words}
-use Rattle.terms.specs.code.Nodes.{row_width as nodeWidth}
 use Rattle.words.specs.Limits.{response_limits}
 use Rattle.words.specs.declared.Limits.{Limits}
 use Rattle.names.specs.code.Lookup.{Names}
@@ -22,8 +16,6 @@ use Rattle.script_reader.specs.declared.Step.{Step}
 use Rattle.script.specs.Outcome.{ResponseOutcome, ScriptOutcome, given, response_within, said, script_outcome}
 use Rattle.texts.specs.code.Responses.{Ready, ResponseRead, ResponseTold}
 use Rattle.texts.specs.code.Scripts.{Lent as ScriptLent, ScriptRead, ScriptTold}
-use Rattle.texts.specs.code.Texts.{middle_script, short_response, short_script}
-use Rattle.texts.proofs.Rooms.{short_room}
 use Rattle.script.proofs.Numbers.{Numbered, in_response, in_script, response_numbered, script_numbered}
 use Rattle.outcome.specs.code.Texts.{script_text, response_text}
 use Rattle.outcome.proofs.Script.{script_assured}
@@ -31,35 +23,6 @@ use Rattle.outcome.specs.Checked.{refusal, refusal_with, response_refused, scrip
 use Rattle.outcome.specs.declared.Outcome.{Outcome}
 use Rattle.both_texts.specs.code.Both.{Lent, Rooms, TextsRead}
 use Rattle.both_texts.proofs.BothTables.{held}
-
-module _ {limits : Limits} {script response nodes forms : List ℕ} where
-  -- the tables of short texts have room for them
-  pub short_rooms : {short : Bool} → length nodes ≡ nodeWidth * (short_script + short_response) → length forms ≡ nodeWidth * short_script
-      → short ≡ (leb (length script) short_script && leb (length response) short_response) → short ≡ true → Rooms limits script response nodes forms
-  short_rooms nodes_long forms_long is taken =
-      let t = sym is ∙ taken in
-      let one : length script ≤ short_script = leb-true _ _ (and_left (leb (length script) short_script) (leb (length response) short_response) t) in
-      let two : length response ≤ short_response = leb-true _ _ (and_right (leb (length script) short_script) (leb (length response) short_response) t) in
-      record { nodes_room = λ n m a b c d. omega (arith, one, two); forms_room = short_room forms_long one }
-
-  -- and those of a response with any words, where they have a row for each word that the script can have
-  wide_rooms : (most : ℕ) → ((n : ℕ) → n ≤ script_words → n ≤ length script → n ≤ most) → limits.words ≤ response_words
-      → length nodes ≡ nodeWidth * (most + response_words) → length forms ≡ nodeWidth * most → Rooms limits script response nodes forms
-  wide_rooms most fits few nodes_long forms_long =
-      record {
-        nodes_room = λ n m a b c d. omega (arith, fits n a b);
-        forms_room = record { room = λ n a b. omega (arith, fits n a b) };
-      }
-
-  -- a script of middle length
-  pub middle_rooms : {middling : Bool} → middling ≡ leb (length script) middle_script → middling ≡ true → limits.words ≤ response_words
-      → length nodes ≡ nodeWidth * (middle_script + response_words) → length forms ≡ nodeWidth * middle_script → Rooms limits script response nodes forms
-  middle_rooms is taken = wide_rooms middle_script (λ n a b. omega (arith, leb-true (length script) middle_script (sym is ∙ taken)))
-
-  -- any script
-  pub full_rooms : limits.words ≤ response_words → length nodes ≡ nodeWidth * (script_words + response_words) → length forms ≡ nodeWidth * script_words
-      → Rooms limits script response nodes forms
-  full_rooms = wide_rooms script_words (λ n a b. a)
 
 -- the tables that are lent, within the limits of a response
 pub lent : {limits : Limits} {script response names places nodes forms : List ℕ} → limits ≡ response_limits → Names names → length places ≡ places_length

@@ -1,3 +1,4 @@
 pub mod Both
 pub mod Located
 pub mod Lengths
+pub mod Tables

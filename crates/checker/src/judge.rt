@@ -6,10 +6,7 @@ ghost use Rattle.checker.specs.code.Judge.{Judgeable, Judging, PointsJudged};
 
 use accepting::area::blank_area;
 use accepting::{TextsWeighed, accept};
-use both_texts::tables::{
-    are_short, form_room, is_middling, middle_forms, middle_nodes, no_names, no_places, node_room,
-    short_forms, short_nodes,
-};
+use both_texts::tables::{in_tables, no_names, no_places};
 use outcome::{Weighed, unweighed};
 use script::answers::{ACCEPTED, POINTS};
 use verdicts::evaluate::evaluate;
@@ -89,17 +86,7 @@ pub(crate) fn judge_texts(
     ensures { Checked script.now response.now points.now budget shown.old
         result.outcome shown.new result.totals }
 {
-    if are_short(script.len(), response.len()) {
-        let nodes: &mut [u64] = &mut short_nodes();
-        let forms: &mut [u64] = &mut short_forms();
-        return judge_in(script, response, points, budget, shown, nodes, forms);
-    }
-    if is_middling(script.len()) {
-        let nodes: &mut [u64] = &mut middle_nodes();
-        let forms: &mut [u64] = &mut middle_forms();
-        return judge_in(script, response, points, budget, shown, nodes, forms);
-    }
-    let nodes: &mut [u64] = &mut node_room();
-    let forms: &mut [u64] = &mut form_room();
-    judge_in(script, response, points, budget, shown, nodes, forms)
+    in_tables(script, response, shown, |shown, nodes, forms| {
+        judge_in(script, response, points, budget, shown, nodes, forms)
+    })
 }

@@ -12,10 +12,7 @@ use accepting::area::no_lists;
 use accepting::{TextsWeighed, accept};
 use both_texts::answers::unlocated;
 use both_texts::located::locate;
-use both_texts::tables::{
-    are_short, form_room, is_middling, middle_forms, middle_nodes, no_names, no_places, node_room,
-    short_forms, short_nodes,
-};
+use both_texts::tables::{in_tables, no_names, no_places};
 use forest::limits::{AREA, NODES};
 use outcome::{Answer, NONE, Outcome, refusal, unweighed};
 use script::Progress;
@@ -202,19 +199,9 @@ fn list_texts(
     ensures { StepList script.now response.now points.now budget index area.old
         result.answer result.count area.new }
 {
-    if are_short(script.len(), response.len()) {
-        let nodes: &mut [u64] = &mut short_nodes();
-        let forms: &mut [u64] = &mut short_forms();
-        return list_in(script, response, points, budget, index, area, nodes, forms);
-    }
-    if is_middling(script.len()) {
-        let nodes: &mut [u64] = &mut middle_nodes();
-        let forms: &mut [u64] = &mut middle_forms();
-        return list_in(script, response, points, budget, index, area, nodes, forms);
-    }
-    let nodes: &mut [u64] = &mut node_room();
-    let forms: &mut [u64] = &mut form_room();
-    list_in(script, response, points, budget, index, area, nodes, forms)
+    in_tables(script, response, area, |area, nodes, forms| {
+        list_in(script, response, points, budget, index, area, nodes, forms)
+    })
 }
 
 // The steps of the body of a function, by its number in script order, where the response is accepted: they are written from the tables of the check.

@@ -13,10 +13,7 @@ use blocks::writing::{file_length, rules_in, write_file};
 use both_texts::answers::unlocated;
 use both_texts::lengths::length_answer;
 use both_texts::located::locate;
-use both_texts::tables::{
-    are_short, form_room, is_middling, middle_forms, middle_nodes, no_names, no_places, node_room,
-    short_forms, short_nodes,
-};
+use both_texts::tables::{in_tables, no_names, no_places};
 use outcome::{Answer, Location, NONE, Weighed, refusal};
 use script::answers::{ACCEPTED, AREA_SIZE};
 use words::response_limits;
@@ -69,19 +66,9 @@ fn derive_texts(script: &[u8], response: &[u8], shown: &mut [u16]) -> Weighed
     requires { Derivable script.now response.now shown.old }
     ensures { ListsFound script.now response.now result shown.new }
 {
-    if are_short(script.len(), response.len()) {
-        let nodes: &mut [u64] = &mut short_nodes();
-        let forms: &mut [u64] = &mut short_forms();
-        return derive_in(script, response, shown, nodes, forms);
-    }
-    if is_middling(script.len()) {
-        let nodes: &mut [u64] = &mut middle_nodes();
-        let forms: &mut [u64] = &mut middle_forms();
-        return derive_in(script, response, shown, nodes, forms);
-    }
-    let nodes: &mut [u64] = &mut node_room();
-    let forms: &mut [u64] = &mut form_room();
-    derive_in(script, response, shown, nodes, forms)
+    in_tables(script, response, shown, |shown, nodes, forms| {
+        derive_in(script, response, shown, nodes, forms)
+    })
 }
 
 // The file of two texts and the lists that the area shows, where the answer on them is 0 and there is room for it.

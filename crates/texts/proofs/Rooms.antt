@@ -1,6 +1,6 @@
 -- Tables that have a row for each word that a text can have: a text has no more words than bytes.
 use Prim.Native.Nat.{ℕ, suc, ◌+◌, ◌*◌, ◌/◌, ◌≤◌, ◌<◌, min}
-use native.Mathlib.Nat.{le-div_iff_mul-le, le-min, min-le_left, mul-le-mul_left}
+use native.Mathlib.Nat.{le-div_iff_mul-le, le-min, min-le_left}
 use native.Mathlib.Omega.{arith}
 use mathlib.Core.Path.{◌≡◌, refl}
 use mathlib.Core.Bool.{Bool, true, false, cond}
@@ -29,17 +29,6 @@ starts_few (b ∷ s) i comment run = go (starts comment run b) _ (starts_few s (
 pub words_few : (text : List ℕ) → length (words_of text) ≤ length text
 unfolding words_of word_starts
 words_few text = rw length-map (starts_few text 0 false false)
-
--- ---- tables with room
-
-module _ {limits : Limits} {text table : List ℕ} {width most : ℕ} (long : length table ≡ width * most) where
-  -- there are as many rows as a text has bytes at most
-  pub short_room : length text ≤ most → RowEach limits text width table
-  short_room h = record { room = λ n few short. rw long (mul-le-mul_left width (omega arith)) }
-
-  -- and as many as it may have words
-  pub full_room : limits.words ≤ most → RowEach limits text width table
-  full_room h = record { room = λ n few short. rw long (mul-le-mul_left width (omega arith)) }
 
 -- ---- what is found in a text by whoever has room for its words
 

@@ -2,10 +2,9 @@
 #![tactic(auto)]
 
 mod lexed;
-mod response_words;
 pub mod responses;
-mod script_words;
 pub mod scripts;
+mod text_words;
 
 // How many bytes a short script and a short response have at most: tables of so many rows have room for their words.
 pub const SHORT_SCRIPT: usize = 2048;

@@ -1,15 +1,15 @@
 //! A response, from its bytes.
-ghost use Rattle.std.specs.Prelude.{◌≡◌, ◌*◌, length, ◌||◌, cond, eqb};
+ghost use Rattle.std.specs.Prelude.{◌≡◌, ◌≤◌, length, min, ◌||◌, cond, eqb};
 ghost use Rattle.forest.specs.Limits.{response_words};
 ghost use Rattle.lexemes.specs.code.Table.{row_width};
 ghost use Rattle.term_nodes.specs.code.Table.{row_width as rawWidth};
 ghost use Rattle.script.specs.Outcome.{offset_of};
-ghost use Rattle.texts.specs.code.Texts.{Placed, RowEach, short_response};
+ghost use Rattle.texts.specs.code.Texts.{Placed, RowEach};
 ghost use Rattle.texts.specs.code.Responses.{ReadsResponse, Ready};
 
 use crate::SHORT_RESPONSE;
 use crate::lexed::offset_of;
-use crate::response_words::read_lexemes;
+use crate::text_words::read_lexemes;
 use forest::limits::RESPONSE_WORDS;
 use lexemes::ROW;
 use response::answers::read_response;
@@ -17,34 +17,6 @@ use script::answers::{FAIL, INFEASIBLE};
 use script::{Progress, Verdict};
 use words::Limits;
 use words::answers::{number_of, passed_of, place_of};
-
-// Room for the lexemes of a response.
-fn lexeme_rows() -> [u64; ROW * RESPONSE_WORDS]
-    ensures { length result ≡ row_width * response_words }
-{
-    [0; ROW * RESPONSE_WORDS]
-}
-
-// Room for the lexemes of a short response.
-fn short_lexemes() -> [u64; ROW * SHORT_RESPONSE]
-    ensures { length result ≡ row_width * short_response }
-{
-    [0; ROW * SHORT_RESPONSE]
-}
-
-// Room for what is gathered of a response.
-fn raw_rows() -> [u64; term_nodes::ROW * RESPONSE_WORDS]
-    ensures { length result ≡ rawWidth * response_words }
-{
-    [0; term_nodes::ROW * RESPONSE_WORDS]
-}
-
-// Room for what is gathered of a short response.
-fn short_raw() -> [u64; term_nodes::ROW * SHORT_RESPONSE]
-    ensures { length result ≡ rawWidth * short_response }
-{
-    [0; term_nodes::ROW * SHORT_RESPONSE]
-}
 
 // The offset of a refusal of a response, by its number and its word; 10 and 11 have the offset 0.
 fn refusal_offset(text: &[u8], lexemes: &[u64], count: usize, number: usize, word: usize) -> usize
@@ -100,6 +72,35 @@ fn response_in(
     }
 }
 
+// Reads a response of at most `N` words, with tables that have room for so many.
+fn response_of<const N: usize>(
+    text: &[u8],
+    limits: Limits,
+    names: &[u8],
+    places: &mut [u64],
+    nodes: &mut [u64],
+    progress: Progress,
+) -> Verdict
+    requires ready { Ready limits text.now names.now places.old nodes.old progress }
+    requires few_rows { N ≤ response_words }
+    requires few { min (length text.now) limits.words ≤ N }
+    ensures { ReadsResponse limits text.now names.now places.old nodes.old progress
+        places.new nodes.new result }
+{
+    let mut lexemes = [[0; ROW]; N];
+    let mut raw = [[0; term_nodes::ROW]; N];
+    response_in(
+        text,
+        limits,
+        lexemes.as_flattened_mut(),
+        names,
+        raw.as_flattened_mut(),
+        places,
+        nodes,
+        progress,
+    )
+}
+
 // Reads a response, within limits, to a script whose tables are given: its bodies stand in the tables, or it is refused at an offset.
 pub fn read_response_text(
     text: &[u8],
@@ -114,29 +115,7 @@ pub fn read_response_text(
         places.new nodes.new result }
 {
     if text.len() <= SHORT_RESPONSE {
-        let mut lexemes = short_lexemes();
-        let mut raw = short_raw();
-        return response_in(
-            text,
-            limits,
-            &mut lexemes,
-            names,
-            &mut raw,
-            places,
-            nodes,
-            progress,
-        );
+        return response_of::<SHORT_RESPONSE>(text, limits, names, places, nodes, progress);
     }
-    let mut lexemes = lexeme_rows();
-    let mut raw = raw_rows();
-    response_in(
-        text,
-        limits,
-        &mut lexemes,
-        names,
-        &mut raw,
-        places,
-        nodes,
-        progress,
-    )
+    response_of::<RESPONSE_WORDS>(text, limits, names, places, nodes, progress)
 }

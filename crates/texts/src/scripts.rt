@@ -1,15 +1,15 @@
 //! A script, from its bytes.
-ghost use Rattle.std.specs.Prelude.{◌≡◌, ◌*◌, length};
+ghost use Rattle.std.specs.Prelude.{◌≡◌, ◌≤◌, length, min};
 ghost use Rattle.forest.specs.Limits.{script_words};
 ghost use Rattle.lexemes.specs.code.Table.{row_width};
 ghost use Rattle.term_nodes.specs.code.Table.{row_width as rawWidth};
 ghost use Rattle.words.specs.Limits.{script_limits};
 ghost use Rattle.script.specs.Outcome.{second_of};
-ghost use Rattle.texts.specs.code.Texts.{Placed, RowEach, middle_script, short_script};
+ghost use Rattle.texts.specs.code.Texts.{Placed, RowEach};
 ghost use Rattle.texts.specs.code.Scripts.{Lent, ScriptRead, in_offsets};
 
 use crate::lexed::offset_of;
-use crate::script_words::read_lexemes;
+use crate::text_words::read_lexemes;
 use crate::{MIDDLE_SCRIPT, SHORT_SCRIPT};
 use forest::limits::SCRIPT_WORDS;
 use lexemes::ROW;
@@ -17,48 +17,6 @@ use script_reader::Step;
 use script_reader::scripts::{nothing_said, read_script};
 use words::answers::{number_of, passed_of, place_of};
 use words::script_limits;
-
-// Room for the lexemes of a script.
-fn lexeme_rows() -> [u64; ROW * SCRIPT_WORDS]
-    ensures { length result ≡ row_width * script_words }
-{
-    [0; ROW * SCRIPT_WORDS]
-}
-
-// Room for the lexemes of a short script.
-fn short_lexemes() -> [u64; ROW * SHORT_SCRIPT]
-    ensures { length result ≡ row_width * short_script }
-{
-    [0; ROW * SHORT_SCRIPT]
-}
-
-// Room for the lexemes of a script of middle length.
-fn middle_lexemes() -> [u64; ROW * MIDDLE_SCRIPT]
-    ensures { length result ≡ row_width * middle_script }
-{
-    [0; ROW * MIDDLE_SCRIPT]
-}
-
-// Room for what is gathered of a script.
-fn raw_rows() -> [u64; term_nodes::ROW * SCRIPT_WORDS]
-    ensures { length result ≡ rawWidth * script_words }
-{
-    [0; term_nodes::ROW * SCRIPT_WORDS]
-}
-
-// Room for what is gathered of a short script.
-fn short_raw() -> [u64; term_nodes::ROW * SHORT_SCRIPT]
-    ensures { length result ≡ rawWidth * short_script }
-{
-    [0; term_nodes::ROW * SHORT_SCRIPT]
-}
-
-// Room for what is gathered of a script of middle length.
-fn middle_raw() -> [u64; term_nodes::ROW * MIDDLE_SCRIPT]
-    ensures { length result ≡ rawWidth * middle_script }
-{
-    [0; term_nodes::ROW * MIDDLE_SCRIPT]
-}
 
 // The refusal of a word of a script, by its number and its offset.
 fn refused_word(number: usize, place: usize) -> Step
@@ -131,6 +89,32 @@ fn script_in(
     step_in(text, lexemes, count, step)
 }
 
+// Reads a script of at most `N` words, with tables that have room for so many.
+fn script_of<const N: usize>(
+    text: &[u8],
+    names: &mut [u8],
+    places: &mut [u64],
+    nodes: &mut [u64],
+    forms: &mut [u64],
+) -> Step
+    requires lent { Lent text.now names.old places.old nodes.old forms.old }
+    requires few_rows { N ≤ script_words }
+    requires few { min (length text.now) script_words ≤ N }
+    ensures { ScriptRead text.now names.new places.new nodes.new forms.new result }
+{
+    let mut lexemes = [[0; ROW]; N];
+    let mut raw = [[0; term_nodes::ROW]; N];
+    script_in(
+        text,
+        lexemes.as_flattened_mut(),
+        names,
+        raw.as_flattened_mut(),
+        places,
+        nodes,
+        forms,
+    )
+}
+
 // Reads a script: the tables hold what it says, or it is refused at an offset.
 pub fn read_script_text(
     text: &[u8],
@@ -143,16 +127,10 @@ pub fn read_script_text(
     ensures { ScriptRead text.now names.new places.new nodes.new forms.new result }
 {
     if text.len() <= SHORT_SCRIPT {
-        let mut lexemes = short_lexemes();
-        let mut raw = short_raw();
-        return script_in(text, &mut lexemes, names, &mut raw, places, nodes, forms);
+        return script_of::<SHORT_SCRIPT>(text, names, places, nodes, forms);
     }
     if text.len() <= MIDDLE_SCRIPT {
-        let mut lexemes = middle_lexemes();
-        let mut raw = middle_raw();
-        return script_in(text, &mut lexemes, names, &mut raw, places, nodes, forms);
+        return script_of::<MIDDLE_SCRIPT>(text, names, places, nodes, forms);
     }
-    let mut lexemes = lexeme_rows();
-    let mut raw = raw_rows();
-    script_in(text, &mut lexemes, names, &mut raw, places, nodes, forms)
+    script_of::<SCRIPT_WORDS>(text, names, places, nodes, forms)
 }
