@@ -4,8 +4,6 @@
 mod lists;
 mod reading;
 
-ghost use Rattle.std.specs.Prelude.{◌≡◌, length};
-ghost use Rattle.forest.specs.Limits.{response_bytes, script_bytes};
 ghost use Rattle.evidence.specs.Evidence.{AuditForC, AuditGiven};
 ghost use Rattle.auditing.specs.code.Files.{FileTexts, TextRooms};
 
@@ -42,20 +40,6 @@ fn answer_copied(file: &[u8], script: &mut [u8], response: &mut [u8]) -> Answer
     answer_texts(file, script, response)
 }
 
-// Room for a script.
-fn script_room() -> [u8; SCRIPT_BYTES]
-    ensures { length result ≡ script_bytes }
-{
-    [0; SCRIPT_BYTES]
-}
-
-// Room for a response.
-fn response_room() -> [u8; RESPONSE_BYTES]
-    ensures { length result ≡ response_bytes }
-{
-    [0; RESPONSE_BYTES]
-}
-
 // The answer on any file: 21 with the block at fault, the answers of its texts, 22 with the function whose list is wrong, or 0.
 pub fn check_evidence(file: &[u8]) -> Answer
     ensures { AuditGiven file.now result }
@@ -69,8 +53,8 @@ pub fn check_evidence(file: &[u8]) -> Answer
     if long.number != ACCEPTED {
         return unlocated(long);
     }
-    let mut script = script_room();
-    let mut response = response_room();
+    let mut script = [0; SCRIPT_BYTES];
+    let mut response = [0; RESPONSE_BYTES];
     answer_copied(
         file,
         &mut script[..script_size],

@@ -1,6 +1,6 @@
 //! The lists of a file, each followed in the grammar of its function.
-ghost use Rattle.std.specs.Prelude.{◌≡◌, ◌<◌, length};
-ghost use Rattle.forest.specs.Limits.{list_size, most_functions};
+ghost use Rattle.std.specs.Prelude.{◌<◌};
+ghost use Rattle.forest.specs.Limits.{most_functions};
 ghost use Rattle.one_function.specs.code.OneFunction.{OneHeld};
 ghost use Rattle.auditing.specs.code.Lists.{AllFollowed, FileHeld, FollowsIn, FollowsList, InFile, ListPasses};
 
@@ -28,13 +28,6 @@ fn follow_list(places: &[u64], nodes: &[u64], forms: &[u64], function: usize, li
     follows(rules, sides, body, list)
 }
 
-// Room for the list of one function.
-fn no_rules() -> [u16; LIST]
-    ensures { length result ≡ list_size }
-{
-    [0u16; LIST]
-}
-
 // Whether the list that a file holds for a function derives the function's body; one that is longer than a list can be does not.
 fn follow_one(file: &[u8], places: &[u64], nodes: &[u64], forms: &[u64], function: usize) -> bool
     requires { InFile file.now places.now nodes.now forms.now function }
@@ -44,7 +37,7 @@ fn follow_one(file: &[u8], places: &[u64], nodes: &[u64], forms: &[u64], functio
     if count > LIST {
         return false;
     }
-    let mut list = no_rules();
+    let mut list = [0; LIST];
     copy_list(file, list_at(file, function), &mut list[..count]);
     follow_list(places, nodes, forms, function, &list[..count])
 }

@@ -109,31 +109,28 @@ module _ {place : Place} {b : ℕ} {lent : List ℕ} (o : Fitting place (b ∷ [
       unfolding written
       put_within_three = let r = o.room in rw full at r
 
-      pub put_full : Written place (b ∷ []) lent
-          (
-          set (set (set lent place.at b) (place.at + 1) ((place.sum + (place.filled + 1) * w) % 65521 % 256)) (place.at + 2)
-          ((place.sum + (place.filled + 1) * w) % 65521 / 256)
-          )
-          (record { at = place.at + 3; filled = 0; sum = 0 })
-      unfolding written filled_by sum_by
-      put_full =
-          let n : ℕ = (place.sum + (place.filled + 1) * w) % 65521 in
-          let en : n ≡ sum_with place.filled place.sum b = ap (λ (m : ℕ). (place.sum + (place.filled + 1) * m) % 65521) ew in
-          let hn : n < 65521 = mod-lt (place.sum + (place.filled + 1) * w) (lit< {m = 0} {n = 65521} tt) in
-          let e1 : place.at + 1 ≡ suc place.at = omega arith in
-          let e2 : place.at + 2 ≡ suc (suc place.at) = omega arith in
-          let e3 : n / 256 ≡ n / 256 % 256 = omega arith in
-          record {
-            area_is =
-                ap (λ (k : ℕ). set (set (set lent place.at b) k (n % 256)) (place.at + 2) (n / 256)) e1
-                ∙ ap (λ (k : ℕ). set (set (set lent place.at b) (suc place.at) (n % 256)) k (n / 256)) e2
-                ∙ ap (λ (k : ℕ). set (set (set lent place.at b) (suc place.at) (n % 256)) (suc (suc place.at)) k) e3
-                ∙ ap (λ (k : ℕ). sets lent place.at (b ∷ low 2 k)) en
-                ∙ rw full;
-            at_is = rw full;
-            filled_is = rw full;
-            sum_is = rw full;
-          }
+      module _ {first second : ℕ} (first_is : first ≡ (place.sum + (place.filled + 1) * w) % 65521 % 256)
+          (second_is : second ≡ (place.sum + (place.filled + 1) * w) % 65521 / 256 % 256) where
+        pub put_full : Written place (b ∷ []) lent (set (set (set lent place.at b) (place.at + 1) first) (place.at + 2) second)
+            (record { at = place.at + 3; filled = 0; sum = 0 })
+        unfolding written filled_by sum_by
+        put_full =
+            let n : ℕ = (place.sum + (place.filled + 1) * w) % 65521 in
+            let en : n ≡ sum_with place.filled place.sum b = ap (λ (m : ℕ). (place.sum + (place.filled + 1) * m) % 65521) ew in
+            let e1 : place.at + 1 ≡ suc place.at = omega arith in
+            let e2 : place.at + 2 ≡ suc (suc place.at) = omega arith in
+            record {
+              area_is =
+                  ap (λ (k : ℕ). set (set (set lent place.at b) k first) (place.at + 2) second) e1
+                  ∙ ap (λ (k : ℕ). set (set (set lent place.at b) (suc place.at) first) k second) e2
+                  ∙ ap (λ (k : ℕ). set (set (set lent place.at b) (suc place.at) k) (suc (suc place.at)) second) first_is
+                  ∙ ap (λ (k : ℕ). set (set (set lent place.at b) (suc place.at) (n % 256)) (suc (suc place.at)) k) second_is
+                  ∙ ap (λ (k : ℕ). sets lent place.at (b ∷ low 2 k)) en
+                  ∙ rw full;
+              at_is = rw full;
+              filled_is = rw full;
+              sum_is = rw full;
+            }
 
 -- ---- what is left to write
 

@@ -56,14 +56,7 @@ fn right_block(file: &[u8], block: usize) -> bool
 pub fn blocks_in(file: &[u8]) -> usize
     ensures { result ≡ blocks_in file.now }
 {
-    let whole = file.len() / BLOCK;
-    if file.len() == 0 {
-        return 1;
-    }
-    if file.len() % BLOCK == 0 {
-        return whole;
-    }
-    whole + 1
+    file.len().div_ceil(BLOCK).max(1)
 }
 
 // The first block that is cut short or has a wrong sum.

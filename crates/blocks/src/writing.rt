@@ -26,8 +26,9 @@ fn put(area: &mut [u8], place: Place, byte: u8) -> Place
             sum,
         };
     }
-    area[at + 1] = (sum % 256) as u8;
-    area[at + 2] = (sum / 256) as u8;
+    let held = (sum as u16).to_le_bytes();
+    area[at + 1] = held[0];
+    area[at + 2] = held[1];
     Place {
         at: at + 3,
         filled: 0,
@@ -141,7 +142,7 @@ pub fn file_length(script: usize, response: usize, rules: usize) -> usize
     requires { script + response + 2 * rules < 2 ^ 62 }
     ensures { result ≡ file_length script response rules }
 {
-    BLOCK * ((HEAD + script + response + 2 * rules + (PAY - 1)) / PAY)
+    BLOCK * (HEAD + script + response + 2 * rules).div_ceil(PAY)
 }
 
 // Writes the lengths of the texts and of the lists.

@@ -11,16 +11,16 @@ pub returns-then-long-ne-ACCEPTED : goal.returns-then-long-ne-ACCEPTED
 returns-then-long-ne-ACCEPTED c = long_told _ c.in_default.ensures c.script_length-script_size.ensures c.response_length-response_size.ensures c.length_answer-long.ensures c.if-long-ne-ACCEPTED.true c.unlocated-then-long-ne-ACCEPTED.ensures
 
 pub slice_bounds-script-end : goal.slice_bounds-script-end
-slice_bounds-script-end c = omega (arith, (c.length_answer-long.ensures.short c.if-long-ne-ACCEPTED.false).0, c.script_room-script.ensures)
+slice_bounds-script-end c = omega (arith, (c.length_answer-long.ensures.short c.if-long-ne-ACCEPTED.false).0)
 
 pub slice_bounds-answer_copied-end : goal.slice_bounds-answer_copied-end
-slice_bounds-answer_copied-end c = sym (length-take-le _ _ (omega (arith, (c.length_answer-long.ensures.short c.if-long-ne-ACCEPTED.false).0, c.script_room-script.ensures)))
+slice_bounds-answer_copied-end c = sym (length-take-le _ _ (omega (arith, (c.length_answer-long.ensures.short c.if-long-ne-ACCEPTED.false).0)))
 
 pub slice_bounds-response-end : goal.slice_bounds-response-end
-slice_bounds-response-end c = omega (arith, (c.length_answer-long.ensures.short c.if-long-ne-ACCEPTED.false).1, c.response_room-response.ensures)
+slice_bounds-response-end c = omega (arith, (c.length_answer-long.ensures.short c.if-long-ne-ACCEPTED.false).1)
 
 pub slice_bounds-answer_copied-end-2 : goal.slice_bounds-answer_copied-end-2
-slice_bounds-answer_copied-end-2 c = sym (length-take-le _ _ (omega (arith, (c.length_answer-long.ensures.short c.if-long-ne-ACCEPTED.false).1, c.response_room-response.ensures)))
+slice_bounds-answer_copied-end-2 c = sym (length-take-le _ _ (omega (arith, (c.length_answer-long.ensures.short c.if-long-ne-ACCEPTED.false).1)))
 
 pub answer_copied-requires : goal.answer_copied-requires
-answer_copied-requires c = rooms_right _ c.in_default.ensures c.script_length-script_size.ensures c.response_length-response_size.ensures c.length_answer-long.ensures c.if-long-ne-ACCEPTED.false (length-take-le _ _ (omega (arith, (c.length_answer-long.ensures.short c.if-long-ne-ACCEPTED.false).0, c.script_room-script.ensures))) (length-take-le _ _ (omega (arith, (c.length_answer-long.ensures.short c.if-long-ne-ACCEPTED.false).1, c.response_room-response.ensures)))
+answer_copied-requires c = rooms_right _ c.in_default.ensures c.script_length-script_size.ensures c.response_length-response_size.ensures c.length_answer-long.ensures c.if-long-ne-ACCEPTED.false (length-take-le _ _ (omega (arith, (c.length_answer-long.ensures.short c.if-long-ne-ACCEPTED.false).0))) (length-take-le _ _ (omega (arith, (c.length_answer-long.ensures.short c.if-long-ne-ACCEPTED.false).1)))

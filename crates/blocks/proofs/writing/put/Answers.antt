@@ -1,5 +1,8 @@
 use Rattle.blocks.proofs.Cursor.{put_full, put_open, put_within, put_within_three, term_low}
-use lib.ListN.{length-set}
+use lib.ListN.{get_or, length-set}
+use mathlib.Core.List.{List}
+use mathlib.Core.Path.{ap}
+use Prim.Native.Nat.{ℕ}
 use native.Mathlib.Omega.{arith}
 use Rattle.blocks.proofs.writing.put.Goals as goal
 
@@ -22,4 +25,6 @@ pub bounds-area-at-3 : goal.bounds-area-at-3
 bounds-area-at-3 c = simp length-set (omega (arith, put_within_three c.requires c.from.ensures c.if-filled-lt-PAY.false))
 
 pub returns : goal.returns
-returns c = put_full c.requires c.from.ensures c.if-filled-lt-PAY.false
+returns c =
+    put_full c.requires c.from.ensures c.if-filled-lt-PAY.false (ap (λ (l : List ℕ). get_or l 0 0) c.to_le_bytes-held.ensures)
+    (ap (λ (l : List ℕ). get_or l 1 0) c.to_le_bytes-held.ensures)
