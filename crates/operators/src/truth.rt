@@ -1,7 +1,7 @@
 //! The operators whose operands or values are Bools: 0 is false, 1 is true.
-ghost use Rattle.std.specs.Prelude.{◌≡◌, drop, nat_eq, slice_index, ℕ};
-ghost use Rattle.operators.specs.Values.{and_value, or_value, xor_value, bvule_value, bvult_value, chained, differ, group_left, group_right, implies_value, ite_value, not_value};
-ghost use Rattle.operators.specs.Values.{pairwise, truth, with_each};
+ghost use Rattle.std.specs.Prelude.{◌≡◌, ℕ, drop, nat_eq, slice_index};
+ghost use Rattle.operators.specs.Values.{and_value, bvule_value, bvult_value, chained, differ, group_left, group_right, implies_value, ite_value};
+ghost use Rattle.operators.specs.Values.{not_value, or_value, pairwise, truth, with_each, xor_value};
 
 // The numbers of `and`, `or` and `xor`.
 pub(crate) const AND: usize = 1;

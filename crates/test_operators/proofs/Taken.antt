@@ -1,8 +1,7 @@
 -- The operands that the program makes are such as the operators take.
-use Rattle.std.proofs.Common.{◌≡◌, ℕ, ◌+◌, ◌-◌, ◌%◌, ◌^◌, ◌<◌, ◌≤◌, Bool, true, false, cond, ◌||◌, eqb, ltb, leb, List, [], ◌∷◌, length, get_or, take, sym, refl, subst, ◌∙◌, mod-lt, arith, lt-ltb, eq-eqb, eqb-true, le-leb}
+use Rattle.std.proofs.Common.{◌≡◌, ℕ, ◌+◌, ◌-◌, ◌%◌, ◌<◌, ◌≤◌, Bool, true, false, cond, ◌||◌, eqb, ltb, leb, List, [], ◌∷◌, length, get_or, take, sym, refl, subst, ◌∙◌, mod-lt, arith, lt-ltb, eq-eqb, eqb-true, le-leb}
 use mathlib.Core.Logic.{◌⊎◌, inl, inr}
 use mathlib.Core.Option.{some}
-use lib.Bits.{bit_and, mask_lt}
 use lib.ListN.{get_or-replicate}
 use Rattle.operators.specs.Operators.{Operator, operator_at, operator_count, operator_sort, operators}
 use Rattle.operators.specs.Sorts.{AllFit, Fit, SortRule, all_are, bool, choice, cutting, equality, joining, logic, order, sort_by, width}
@@ -15,10 +14,6 @@ use Rattle.operators.specs.code.Vectors.{Width, Word, Words}
 use Rattle.test_operators.specs.Alike.{Alike}
 use Rattle.operators.proofs.RuledOperands.{gives_bool, word_fits}
 use Rattle.operators.proofs.Table.{column}
-
--- The low bits of a number are a word.
-pub low_word : (x : ℕ) {n m : ℕ} → Width n → m ≡ 2 ^ n - 1 → Word n (bit_and x m)
-low_word x {n} w e = record { width = w; below = rw e (mask_lt x n) }
 
 -- How many operands a row with a rule has.
 usual : SortRule → ℕ → Bool
@@ -81,14 +76,6 @@ module _ {operator s a b : ℕ} (x : Alike operator s a b) where
           (operable x.known x.result (s ∷ s ∷ []) (a ∷ b ∷ []) (sym two) (x.sorted (s ∷ []) (rw (eq-eqb s s refl)))
           (also x.first (also x.second no_more)))
 
-  -- As many of two values as there are operands.
-  pub count_within : (operator_at operator).operands ≤ 2
-  count_within = go (eqb (operator_at operator).operands 1) refl x.counted
-    where
-      go : (t : Bool) → eqb (operator_at operator).operands 1 ≡ t → (t || eqb (operator_at operator).operands 2) ≡ true → (operator_at operator).operands ≤ 2
-      go true q e = omega (arith, eqb-true (operator_at operator).operands 1 q)
-      go false q e = omega (arith, eqb-true (operator_at operator).operands 2 e)
-
   -- The operands of an operator that has one or two of one sort.
   pub alike_taken : {count other : ℕ} → count ≡ (operator_at operator).operands → other ≡ second operator s
       → Operable operator 0 0 s other (take count (a ∷ b ∷ []))
@@ -118,10 +105,6 @@ choice_taken {operator} {n = n} {c} {a} {b} l r u vw =
 -- What y chooses of the bits that n leaves of 64 is no more than these.
 within : (y : ℕ) {n a : ℕ} → Word n a → (n ≡ 64 → ⊥) → n + (1 + y % (64 - n)) ≤ 64
 within y {n} w h = let l : y % (64 - n) < 64 - n = mod-lt y (omega (arith, h)) in omega arith
-
--- So it is a width.
-pub room : (y : ℕ) {n a : ℕ} → Word n a → (n ≡ 64 → ⊥) → Width (1 + y % (64 - n))
-room y w h = record { least = omega arith; most = omega (arith, within y w h) }
 
 -- The operands of `concat`.
 pub joined_taken : (y : ℕ) {operator n a b : ℕ} → operator < operator_count → (operator_at operator).rule ≡ joining → Word n a → (n ≡ 64 → ⊥)

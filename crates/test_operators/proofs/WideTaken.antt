@@ -1,5 +1,5 @@
 -- More than two operands of one sort are such as the operators take that may have more.
-use Rattle.std.proofs.Common.{◌≡◌, ℕ, zero, suc, ◌+◌, ◌*◌, ◌/◌, ◌%◌, ◌^◌, ◌<◌, ◌≤◌, Bool, true, false, cond, ◌&&◌, leb, List, [], ◌∷◌, take, replicate, sym, refl, ◌∙◌, mod-lt, arith, lt-ltb, eq-eqb, le-leb, leb-true}
+use Rattle.std.proofs.Common.{◌≡◌, ℕ, zero, suc, ◌<◌, ◌≤◌, Bool, true, false, cond, ◌&&◌, leb, List, [], ◌∷◌, take, replicate, sym, refl, ◌∙◌, arith, lt-ltb, eq-eqb, le-leb, leb-true}
 use mathlib.Core.Option.{some}
 use lib.ListN.{get_or-replicate, length-replicate}
 use Rattle.operators.specs.Operators.{Operator, operator_at, operator_count, operator_sort, operators, takes}
@@ -10,23 +10,10 @@ use Rattle.operators.specs.code.Rules.{sort_rule}
 use Rattle.operators.specs.declared.rules.Rule.{Rule}
 use Rattle.operators.specs.declared.rules.Rule.TheVariants.{Logic, Equality, Choice, Width, Order, Joining, Cutting}
 use Rattle.std.proofs.lemmas.Bool.{false≢true}
-use Rattle.operators.specs.code.Vectors.{Width as IsWidth, Word}
-use Rattle.operators.proofs.RuledOperands.{both, word_fits}
+use Rattle.operators.specs.code.Vectors.{Width as IsWidth}
+use Rattle.operators.proofs.RuledOperands.{both}
 use Rattle.operators.proofs.Table.{column}
 use Rattle.test_operators.specs.Wide.{Wide, most_operands}
-use Rattle.test_operators.proofs.Taken.{bit_fits}
-
--- The shift of an operand is below the number of bits.
-pub short : (x right : ℕ) → right < 2 ^ 64 → x % (2 + 6 * (right / 2 ^ 63)) < 64
-short x right h = let l : x % (2 + 6 * (right / 2 ^ 63)) < 2 + 6 * (right / 2 ^ 63) = mod-lt x (omega arith) in omega arith
-
--- A bit is a value of the sort 0.
-pub bool_fits : {s v : ℕ} → s ≡ 0 → Word 1 v → Fit s v
-bool_fits e w = rw e (bit_fits w)
-
--- A word is a value of the sort that is its width.
-pub vector_fits : {s v : ℕ} → Word s v → Fit s v
-vector_fits w = word_fits w.width w.below
 
 -- Whether a rule is `logic` or `equality`.
 abbrev uniform : SortRule → Bool
