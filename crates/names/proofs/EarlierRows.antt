@@ -2,11 +2,10 @@
 use Prim.Native.Nat.{ℕ, zero, suc, ◌+◌, ◌-◌, ◌≤◌, ◌<◌, max}
 use native.Mathlib.Omega.{arith}
 use mathlib.Core.Path.{◌≡◌, refl, sym, ap, ◌∙◌}
-use mathlib.Core.Bool.{Bool, true, false, cond, ◌&&◌}
+use mathlib.Core.Bool.{Bool, true, false, cond}
 use mathlib.Core.List.{List, [], ◌∷◌, ◌++◌, append_assoc, append-nil}
-use lib.Dec.{eqb, ltb}
-use borrow.Author.Tests.{eq-eqb, ltb-false, ltb-true, ne_eqb}
-use Rattle.forest.specs.Lists.{same_bytes}
+use lib.Dec.{eqb}
+use borrow.Author.Tests.{eq-eqb, ne_eqb}
 use Rattle.names.specs.Earlier.{Declared, earlier, last_before}
 use Rattle.std.specs.Prelude.{Option, None, Some}
 use Rattle.std.specs.Option.{option_or}
@@ -26,10 +25,6 @@ last_both (d ∷ more) es w n = omega (arith, last_both more es w n)
 pub record LastLeft (names name : List ℕ) (first count word place last row : ℕ) : Type 0 where
   pub left : max last (last_before (declared_from names row (first + count - row)) word name) ≡ max place (last_before (declared_from names first count) word name)
 
--- Before the first row.
-pub last_begins : (names name : List ℕ) (first count word place : ℕ) → LastLeft names name first count word place place first
-last_begins names name first count word place = let all : first + count - first ≡ count = omega arith in record { left = rw all }
-
 module _ {names name : List ℕ} {first count word place last row : ℕ} (l : LastLeft names name first count word place last row) where
   -- a row more
   pub last_turn : row < first + count → {later : ℕ} → later ≡ max last (before_in names row name word)
@@ -47,29 +42,6 @@ module _ {names name : List ℕ} {first count word place last row : ℕ} (l : La
       let none : first + count - row ≡ 0 = omega arith in
       let step = rw none at l.left in
       omega arith
-
--- The later of a place and the word of a row, by the tests of the row.
-later_is : (at word place : ℕ) (t : Bool) → cond (t && ltb at word && ltb place at) at place ≡ max place (cond (t && ltb at word) at 0)
-later_is at word place t = go t (ltb at word) (ltb place at) refl
-  where
-    go : (t b c : Bool) → ltb place at ≡ c → cond (t && b && c) at place ≡ max place (cond (t && b) at 0)
-    go true true true e = let l = ltb-true place at e in omega arith
-    go true true false e = let l = ltb-false place at e in omega arith
-    go true false c e = omega arith
-    go false b c e = omega arith
-
-module _ (names : List ℕ) (row : ℕ) (name : List ℕ) (word place : ℕ) {at : ℕ} (ea : at ≡ word_in names row)
-    {t : Bool} (et : t ≡ same_bytes (name_in names row) name) where
-  by_tests : {u : Bool} → t && ltb at word && ltb place at ≡ u → cond u at place ≡ max place (before_in names row name word)
-  by_tests e = rw (← e) (later_is at word place t ∙ rw (et, ea))
-
-  -- it is that word
-  pub later_row : t && ltb at word && ltb place at ≡ true → at ≡ max place (before_in names row name word)
-  later_row e = by_tests e
-
-  -- it is the place
-  pub earlier_row : t && ltb at word && ltb place at ≡ false → place ≡ max place (before_in names row name word)
-  earlier_row e = by_tests e
 
 max_next : (a b c : ℕ) → max (max a b) c ≡ max a (max b c)
 max_next a b c = omega arith
@@ -113,10 +85,6 @@ last_of_parts names scope own listed name word ev ed ef eo ea er =
 -- The rows from a row on, of so many from the first on, decide the row of a word among all of them.
 pub record RowLeft (names : List ℕ) (first count word row : ℕ) : Type 0 where
   pub left : row_for names row (first + count - row) word ≡ row_for names first count word
-
--- Before the first row.
-pub row_begins : (names : List ℕ) (first count word : ℕ) → RowLeft names first count word first
-row_begins names first count word = let all : first + count - first ≡ count = omega arith in record { left = rw all }
 
 module _ {names : List ℕ} {first count word row : ℕ} (l : RowLeft names first count word row) where
   module _ (h : row < first + count) {at : ℕ} (ea : at ≡ word_in names row) where

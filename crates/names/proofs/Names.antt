@@ -1,6 +1,5 @@
 -- The names in the table, by its rows.
-use Prim.Native.Nat.{ℕ, suc, ◌+◌, ◌-◌, ◌≤◌, ◌<◌, ◌*◌, ◌/◌, ◌%◌}
-use native.Mathlib.Numerals.{unary_clauses}
+use Prim.Native.Nat.{ℕ, suc, ◌+◌, ◌-◌, ◌≤◌, ◌<◌, ◌/◌, ◌%◌}
 use native.Mathlib.Omega.{arith}
 use mathlib.Core.Path.{◌≡◌, refl, sym, ◌∙◌}
 use mathlib.Core.Bool.{Bool, true, false, cond}
@@ -13,23 +12,12 @@ use Rattle.std.proofs.lemmas.Slice.{put_mid-paste}
 use Rattle.forest.proofs.Rows.{sets_append}
 use Rattle.forest.specs.Lists.{same_bytes}
 use Rattle.forest.specs.Search.{place_in}
-use Rattle.names.specs.code.Table.{length_in, longest, name_in, name_row, names_from, row_width}
-
--- The bytes of the name in a row stand from `start` to `end`.
-pub named_there : (names : List ℕ) (row : ℕ) {start end : ℕ} → start ≡ row_width * row + 4 → end ≡ start + length_in names row
-    → take (end - start) (drop start names) ≡ name_in names row
-named_there names row {start} {end} es ee =
-    let long : end - start ≡ length_in names row = omega arith in
-    rw (long, es)
+use Rattle.names.specs.code.Table.{longest, name_in, name_row, names_from}
 
 -- The names from a place on, of so many from a row on, decide the place of a word among all of them.
 pub record Searching (names word : List ℕ) (first count place : ℕ) : Type 0 where
   pub passed : place ≤ count
   pub left : place_in (names_from names (first + place) (count - place)) place word ≡ place_in (names_from names first count) 0 word
-
--- Before the first place.
-pub unsearched : (names word : List ℕ) (first count : ℕ) → Searching names word first count 0
-unsearched names word first count = record { passed = omega arith; left = simp unary_clauses }
 
 module _ {names word : List ℕ} {first count place : ℕ} (w : Searching names word first count place) where
   module _ (h : place < count) where

@@ -1,10 +1,10 @@
 -- The sorts of non-terminals in the table of signatures.
-use Prim.Native.Nat.{ℕ, zero, suc, ◌+◌, ◌*◌, ◌≤◌, ◌<◌}
+use Prim.Native.Nat.{ℕ, zero, suc, ◌+◌, ◌*◌, ◌<◌}
 use native.Mathlib.Nat.{add-zero}
 use native.Mathlib.Omega.{arith}
-use mathlib.Core.Path.{◌≡◌, sym, ◌∙◌}
+use mathlib.Core.Path.{◌≡◌, ◌∙◌}
 use mathlib.Core.List.{List, [], ◌∷◌}
-use lib.ListN.{get_or, length, get_or-eq_default}
+use lib.ListN.{get_or, length}
 use Rattle.forest.specs.code.Rows.{number_at}
 use Rattle.term_sorts.specs.code.Signatures.{RowIs, SortsAre, non_terminal_signature, signature_width}
 use Rattle.term_faults.specs.code.Grammars.{HeadSort, Heads}
@@ -20,10 +20,6 @@ row_of signatures r (s ∷ more) (suc k) rows h =
     rw (← next) (row_of signatures (r + 1) more k rows.1 (omega arith))
 
 module _ {signatures : List ℕ} {listed head : ℕ} where
-  -- There are not so many.
-  pub head-past : listed ≤ head → (p : Heads signatures listed) → HeadSort p head 0
-  head-past h p = record { is = sym (get_or-eq_default p.sorts 0 (omega (arith, p.counted))); low = omega arith }
-
   module _ (h : head < listed) where
     -- The table has the sort.
     pub head_there : {r : ℕ} → r ≡ get_or signatures (signature_width * (non_terminal_signature + head) + 1) 0 → (p : Heads signatures listed) → HeadSort p head r

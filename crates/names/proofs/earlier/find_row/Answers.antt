@@ -1,8 +1,5 @@
-use Rattle.names.proofs.EarlierRows.{row_begins, row_found, row_none, row_turn}
+use Rattle.names.proofs.EarlierRows.{row_found, row_none, row_turn}
 use Rattle.names.proofs.earlier.find_row.Goals as goal
-
-pub loop-row-init : goal.loop-row-init
-loop-row-init c = search row_begins
 
 pub returns-then-word_in-word : goal.returns-then-word_in-word
 returns-then-word_in-word c = search row_found

@@ -1,8 +1,5 @@
-use Rattle.names.proofs.EarlierRows.{last_begins, last_ends, last_turn}
+use Rattle.names.proofs.EarlierRows.{last_ends, last_turn}
 use Rattle.names.proofs.earlier.last_of.Goals as goal
-
-pub loop-row-init : goal.loop-row-init
-loop-row-init c = search last_begins
 
 pub loop-row-preserved : goal.loop-row-preserved
 loop-row-preserved c = search last_turn

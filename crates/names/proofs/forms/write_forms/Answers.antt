@@ -1,4 +1,3 @@
-use native.Mathlib.Omega.{arith}
 use Rattle.names.proofs.NodeTurns.{all_written, begins, node_here, turn}
 use Rattle.names.proofs.forms.write_forms.Goals as goal
 
@@ -7,13 +6,6 @@ loop-node-init c = search begins
 
 pub node_means-meaning-requires : goal.node_means-meaning-requires
 node_means-meaning-requires c = search node_here
-
-pub put_form-requires : goal.put_form-requires
-put_form-requires c =
-    let going = c.loop-node.invariant in
-    let room = going.given.room in
-    let inside = c.loop-node-test.true in
-    omega (arith, going.long)
 
 pub loop-node-preserved : goal.loop-node-preserved
 loop-node-preserved c =
@@ -28,9 +20,6 @@ loop-node-preserved c =
     c.put_form.ensures
     c.unknown_word.ensures
     c.least-unknown.ensures
-
-pub shape_of-forms : goal.shape_of-forms
-shape_of-forms c = c.loop-node.invariant.long
 
 pub returns : goal.returns
 returns c = search all_written

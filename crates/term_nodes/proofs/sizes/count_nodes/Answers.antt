@@ -1,4 +1,3 @@
-use native.Mathlib.Omega.{arith}
 use Rattle.term_nodes.proofs.Counting.{sweep_asks, sweep_begins, sweep_ends, sweep_goes, sweep_less}
 use Rattle.term_nodes.proofs.sizes.count_nodes.Goals as goal
 
@@ -10,18 +9,6 @@ past_tree-requires c = search sweep_asks
 
 pub overflow_sub-raw : goal.overflow_sub-raw
 overflow_sub-raw c = search sweep_less
-
-pub overflow_mul-raw : goal.overflow_mul-raw
-overflow_mul-raw c = omega arith
-
-pub overflow_add-raw : goal.overflow_add-raw
-overflow_add-raw c = omega arith
-
-pub offset_bounds-raw-node : goal.offset_bounds-raw-node
-offset_bounds-raw-node c = omega arith
-
-pub bounds-raw-node : goal.bounds-raw-node
-bounds-raw-node c = omega arith
 
 pub loop-node-preserved : goal.loop-node-preserved
 loop-node-preserved c = search sweep_goes
