@@ -3,8 +3,5 @@ use lib.Seq.{length-take-le}
 use native.Mathlib.Omega.{arith}
 use Rattle.test_vectors.proofs.answers.area_size.Goals as goal
 
-pub returns-then-size-room : goal.returns-then-size-room
-returns-then-size-room c = (omega arith, sym (length-take-le _ _ (omega arith)))
-
 pub returns : goal.returns
 returns c = (omega arith, sym (length-take-le _ _ (omega arith)))
