@@ -1,4 +1,5 @@
 -- The verdict on texts of right sizes, from the answer on them and their bodies and from that on the points.
+use Rattle.std.specs.Prelude.{Result, Ok, Err}
 use Prim.Native.Nat.{ℕ, zero, suc}
 use native.Mathlib.Omega.{arith}
 use mathlib.Core.Path.{◌≡◌, refl, sym, ap, subst, ◌∙◌}
@@ -11,8 +12,6 @@ use lib.ListN.{length}
 use Rattle.words.specs.Limits.{response_limits}
 use Rattle.words.specs.declared.Limits.{Limits}
 use Rattle.evaluation.specs.Points.{points_of}
-use Rattle.evaluation.specs.declared.PointList.{PointList}
-use Rattle.evaluation.specs.declared.PointList.TheVariants.{Good, Bad}
 use Rattle.names.specs.Scopes.{named_sorts}
 use Rattle.script.specs.declared.Progress.{Progress}
 use Rattle.script.specs.Outcome.{given, response_within}
@@ -65,15 +64,15 @@ module _ {limits : Limits} {script response names places nodes forms between poi
   all_derive {after} long area-after =
       go (points_of (named_sorts all.both.known.variables) points) refl (answer.given! zero-told (evaluable all))
     where
-      go : (found : PointList) → points_of (named_sorts all.both.known.variables) points ≡ found
+      go : (found : Result ℕ ℕ) → points_of (named_sorts all.both.known.variables) points ≡ found
           → w.outcome ≡ points_outcome all.both.known (terms_of all.both.bodies) points budget found
           → Judgement response all.both.known all.both.bodies points budget w.outcome after w.totals
-      go (Bad place) found f =
+      go (Err place) found f =
           let sixteen = ap (λ (x : Outcome). x.number) f in
           let blank = area-after.bad! sixteen ∙ unshown_blank between (long ∙ blank_long) in
           let nothing = answer.bad! zero-told sixteen in
           rw (f, blank, nothing) (Judgement.points_refused all.accepted.shown found)
-      go (Good m) found f =
+      go (Ok m) found f =
           let shows = run_showing budget (ran_with all.both.known (terms_of all.both.bodies) points m budget) in
           let shown = subst Showing (sym (ap (λ (x : Outcome). x.number) f)) shows in
           let other : w.outcome.number ≡ points_answer → ⊥ = λ n. not_showing (omega arith, omega arith, omega arith) shown in

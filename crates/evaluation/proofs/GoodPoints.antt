@@ -1,4 +1,5 @@
 -- A list of numbers that is points: it is whole points, and each number is a value of its variable's sort.
+use Rattle.std.specs.Prelude.{Ok, Err}
 use Prim.Native.Nat.{ℕ, zero, suc, ◌+◌, ◌*◌, ◌/◌, ◌%◌, ◌≤◌, ◌<◌}
 use native.Mathlib.Omega.{arith}
 use native.Mathlib.Nat.{add-mul, div-add-mod', mod-eq_of_lt, mul-add-mod_self_right, mul-le-mul_right}
@@ -14,7 +15,6 @@ use Rattle.operators.specs.Sorts.AllFit.{no_more, also}
 use Rattle.terms.specs.Values.{numbers_in}
 use Rattle.evaluation.specs.Points.{cut_short, first_outside, point_at, point_count, points_of, values_by}
 use Rattle.evaluation.specs.code.Points.{SortsSmall}
-use Rattle.evaluation.specs.declared.PointList.TheVariants.{Bad, Good}
 
 -- What the tests of a list that is points have found.
 pub record GoodList (sorts numbers : List ℕ) (n : ℕ) : Type 0 where
@@ -23,14 +23,14 @@ pub record GoodList (sorts numbers : List ℕ) (n : ℕ) : Type 0 where
   pub counted : n ≡ point_count (length sorts) (length numbers)
 
 -- So it is of every such list.
-pub good_list : (sorts numbers : List ℕ) {n : ℕ} → points_of sorts numbers ≡ Good n → GoodList sorts numbers n
+pub good_list : (sorts numbers : List ℕ) {n : ℕ} → points_of sorts numbers ≡ Ok n → GoodList sorts numbers n
 unfolding points_of
 good_list sorts numbers {n} h =
     by_case (cut_short (length sorts) (length numbers)) refl (ltb (first_outside sorts numbers 0) (length numbers)) refl h
   where
     by_case : (cut : Bool) → cut_short (length sorts) (length numbers) ≡ cut
         → (outside : Bool) → ltb (first_outside sorts numbers 0) (length numbers) ≡ outside
-        → cond cut (Bad (length numbers)) (cond outside (Bad (first_outside sorts numbers 0)) (Good (point_count (length sorts) (length numbers)))) ≡ Good n
+        → cond cut (Err (length numbers)) (cond outside (Err (first_outside sorts numbers 0)) (Ok (point_count (length sorts) (length numbers)))) ≡ Ok n
         → GoodList sorts numbers n
     by_case true e outside o g = let z : ◌≡◌ {A = ℕ} 0 1 = cc in absurd (omega arith)
     by_case false e true o g = let z : ◌≡◌ {A = ℕ} 0 1 = cc in absurd (omega arith)

@@ -1,4 +1,5 @@
 -- Points as a list of numbers: the loop that looks for a number outside its sort, and the tests on the list's length.
+use Rattle.std.specs.Prelude.{Ok, Err}
 use Prim.Native.Nat.{ℕ, zero, suc, ◌+◌, ◌%◌, ◌≤◌, ◌<◌}
 use native.Mathlib.Omega.{arith}
 use mathlib.Core.Path.{◌≡◌, refl, sym, ap, ◌∙◌}
@@ -12,7 +13,6 @@ use Rattle.forest.proofs.Lists.{drop_next}
 use Rattle.operators.specs.Sorts.{values_of}
 use Rattle.evaluation.specs.Points.{cut_short, first_outside, point_count, points_of}
 use Rattle.evaluation.specs.code.Points.{SortsSmall, VariableSorts}
-use Rattle.evaluation.specs.declared.PointList.TheVariants.{Bad, Good}
 
 -- No number before i is outside its sort.
 pub record NoneBefore (sorts numbers : List ℕ) (i : ℕ) : Type 0 where
@@ -50,7 +50,7 @@ no_numbers (suc n) size h p = omega arith
 
 module _ (sorts numbers : List ℕ) {cut : Bool} (tested : cut ≡ cut_short (length sorts) (length numbers)) where
   -- A list that is no whole points is bad at its length.
-  pub bad_length : cut ≡ true → Bad (length numbers) ≡ points_of sorts numbers
+  pub bad_length : cut ≡ true → Err (length numbers) ≡ points_of sorts numbers
   unfolding points_of
   bad_length h = rw (sym tested ∙ h)
 
@@ -60,12 +60,12 @@ module _ (sorts numbers : List ℕ) {cut : Bool} (tested : cut ≡ cut_short (le
     variable-sorts e = record { small = e.small; some-variable = no_numbers (length sorts) (length numbers) (sym tested ∙ whole) }
 
     -- A number outside its sort makes the list bad there.
-    pub bad_number : {i : ℕ} → (i < length numbers) × (i ≡ first_outside sorts numbers 0) → Bad i ≡ points_of sorts numbers
+    pub bad_number : {i : ℕ} → (i < length numbers) × (i ≡ first_outside sorts numbers 0) → Err i ≡ points_of sorts numbers
     unfolding points_of
     bad_number {i} (h, e) = rw (sym tested ∙ whole, ← e, lt-ltb i (length numbers) h)
 
     -- Any other list is good.
     pub good_points : {n : ℕ} → first_outside sorts numbers 0 ≡ length numbers → n ≡ point_count (length sorts) (length numbers)
-        → Good n ≡ points_of sorts numbers
+        → Ok n ≡ points_of sorts numbers
     unfolding points_of
     good_points e q = rw (sym tested ∙ whole, e, le-ltb (length numbers) (length numbers) (omega arith), q)

@@ -1,10 +1,8 @@
 -- Points: "a list of 64-bit numbers, one per declared variable, point after point; Bool is 0 or 1".
-use Rattle.std.specs.Prelude.{ℕ, ◌+◌, ◌*◌, ◌/◌, ◌%◌, Bool, cond, not, List, [], ◌∷◌, eqb, ltb, drop, get_or, length}
+use Rattle.std.specs.Prelude.{ℕ, ◌+◌, ◌*◌, ◌/◌, ◌%◌, Bool, cond, not, List, [], ◌∷◌, eqb, ltb, drop, get_or, length, Result, Ok, Err}
 use Rattle.operators.specs.Sorts.{values_of}
 use Rattle.terms.specs.Values.{value}
 use Rattle.terms.specs.declared.Value.{Value}
-use Rattle.evaluation.specs.declared.PointList.{PointList}
-use Rattle.evaluation.specs.declared.PointList.TheVariants.{Good, Bad}
 
 -- How many points a list of `size` numbers is, where there are n variables: "With no variables the list is empty and one empty point is taken.
 -- With variables and an empty list nothing is evaluated."
@@ -23,11 +21,11 @@ first_outside sorts (x ∷ more) i =
     cond (ltb x (values_of (get_or sorts (i % length sorts) 0))) later i
 
 -- 16: "point list not whole points, or value outside its sort", at "list length, or first bad index"; "16 (length first)".
-unfoldable pub points_of : (sorts : List ℕ) → (numbers : List ℕ) → PointList
+unfoldable pub points_of : (sorts : List ℕ) → (numbers : List ℕ) → Result ℕ ℕ
 points_of sorts numbers =
-    cond (cut_short (length sorts) (length numbers)) (Bad (length numbers))
-    (cond (ltb (first_outside sorts numbers 0) (length numbers)) (Bad (first_outside sorts numbers 0))
-    (Good (point_count (length sorts) (length numbers))))
+    cond (cut_short (length sorts) (length numbers)) (Err (length numbers))
+    (cond (ltb (first_outside sorts numbers 0) (length numbers)) (Err (first_outside sorts numbers 0))
+    (Ok (point_count (length sorts) (length numbers))))
 
 -- The values of the variables, by their sorts and their numbers.
 unfoldable pub values_by : (sorts numbers : List ℕ) → List Value

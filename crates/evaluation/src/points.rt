@@ -3,7 +3,6 @@ ghost use Rattle.std.specs.Prelude.{◌≡◌};
 ghost use Rattle.evaluation.specs.code.Points.{FirstOutside, SortsSmall, VariableSorts};
 ghost use Rattle.evaluation.specs.Points.{cut_short, point_count, points_of};
 
-use crate::PointList;
 use operators::sorting::fits;
 
 // How many points a list of `size` numbers is, by how many variables there are.
@@ -33,16 +32,16 @@ fn first_outside(sorts: &[u64], numbers: &[u64]) -> Option<usize>
     None
 }
 
-// The points that a list of numbers is, where the variables have these sorts.
-pub fn points_of(sorts: &[u64], numbers: &[u64]) -> PointList
+// How many points a list of numbers is, where the variables have these sorts; else the place of its fault.
+pub fn points_of(sorts: &[u64], numbers: &[u64]) -> Result<usize, usize>
     requires { SortsSmall sorts.now }
     ensures { result ≡ points_of sorts.now numbers.now }
 {
     if cut_short(sorts.len(), numbers.len()) {
-        return PointList::Bad(numbers.len());
+        return Err(numbers.len());
     }
     match first_outside(sorts, numbers) {
-        Some(place) => PointList::Bad(place),
-        None => PointList::Good(point_count(sorts.len(), numbers.len())),
+        Some(place) => Err(place),
+        None => Ok(point_count(sorts.len(), numbers.len())),
     }
 }

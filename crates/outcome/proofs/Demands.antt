@@ -1,4 +1,5 @@
 -- Demand 3: what a script that passes ensures of all terms that its grammars derive, and so of the answer.
+use Rattle.std.specs.Prelude.{Ok}
 use Prim.Native.Nat.{ℕ, zero, suc, ◌+◌, ◌*◌, ◌≤◌, ◌<◌}
 use native.Mathlib.Numerals.{add-one}
 use native.Mathlib.Omega.{arith}
@@ -21,7 +22,6 @@ use Rattle.derivation.specs.Answer.{start}
 use Rattle.derivation.specs.Derivation.{Derives}
 use Rattle.evaluation.specs.Points.{point_at, points_of}
 use Rattle.evaluation.specs.Running.{is_true_value}
-use Rattle.evaluation.specs.declared.PointList.TheVariants.{Good}
 use Rattle.evaluation.specs.declared.Run.{Run}
 use Rattle.names.specs.Scopes.{Defined, Function, named_sorts}
 use Rattle.term_faults.specs.Faults.{scope_of}
@@ -122,7 +122,7 @@ member_behind [] (t ∷ ts) (suc c) h = Memᴰ.tail (member_behind [] ts c (omeg
 
 -- The points of a list that passes have the right sorts.
 points_right : (script : List ℕ) {k : Known} → script_outcome script ≡ said k → (points : List ℕ) {n : ℕ}
-    → points_of (named_sorts k.variables) points ≡ Good n → (p : ℕ) → p < n → RightSorts k (point_at (named_sorts k.variables) points p)
+    → points_of (named_sorts k.variables) points ≡ Ok n → (p : ℕ) → p < n → RightSorts k (point_at (named_sorts k.variables) points p)
 points_right script {k} e points good p h =
     let sorts = named_sorts k.variables in
     let list = good_list sorts points good in
@@ -176,7 +176,7 @@ never_ends {k} {ts} {points} {n} affords (not_begun {p = p} inside before named 
 
 -- Nor in a verdict.
 verdict_ends : {response : List ℕ} {k : Known} {bs : List Body} {points : List ℕ} {n budget : ℕ} {o : Outcome} {a w : List ℕ}
-    → points_of (named_sorts k.variables) points ≡ Good n → Affords k (terms_of bs) points n budget → Judgement response k bs points budget o a w
+    → points_of (named_sorts k.variables) points ≡ Ok n → Affords k (terms_of bs) points n budget → Judgement response k bs points budget o a w
     → o.number ≡ 15 → ⊥
 verdict_ends good affords (underived u) is = omega arith
 verdict_ends good affords (points_refused s e) is = omega arith
@@ -208,7 +208,7 @@ truthful {script} {points = points} {k = k} {bs} {o} passing c =
 
 -- A budget that is at least the summed cost of all the evaluations does not end.
 pub enough : {script response points : List ℕ} {budget : ℕ} {area : List ℕ} {k : Known} {bs : List Body} {n : ℕ} {o : Outcome} {a w : List ℕ}
-    → Passing script response points area k bs → points_of (named_sorts k.variables) points ≡ Good n → Affords k (terms_of bs) points n budget
+    → Passing script response points area k bs → points_of (named_sorts k.variables) points ≡ Ok n → Affords k (terms_of bs) points n budget
     → Checked script response points budget area o a w → o.number ≡ 15 → ⊥
 enough passing good affords c = verdict_ends good affords (of_passing passing c)
 
@@ -216,7 +216,7 @@ enough passing good affords c = verdict_ends good affords (of_passing passing c)
 -- named false constraint."
 pub decided : {script response points : List ℕ} {budget : ℕ} {area : List ℕ} {k : Known} {bs : List Body} {n : ℕ} {o : Outcome} {a w : List ℕ}
     → Passing script response points area k bs → Derived (in_script_order k.functions) (terms_of bs)
-    → points_of (named_sorts k.variables) points ≡ Good n → Affords k (terms_of bs) points n budget
+    → points_of (named_sorts k.variables) points ≡ Ok n → Affords k (terms_of bs) points n budget
     → Checked script response points budget area o a w → Decided k (terms_of bs) points n o
 decided {points = points} {k = k} {bs} {n} {o} passing derived good affords c =
     go o.number refl (verdict_showing derived good (of_passing passing c))

@@ -1,10 +1,10 @@
 -- 13 is answered exactly when some body has no derivation, 0, 14, 15 or 16 exactly when all have one, and derivations are shown exactly after 0, 14 and 15.
+use Rattle.std.specs.Prelude.{Ok}
 use Prim.Native.Nat.{ℕ}
 use native.Mathlib.Omega.{arith}
 use mathlib.Core.List.{List}
 use mathlib.Core.Path.{◌≡◌, refl, sym}
 use Rattle.evaluation.specs.Points.{points_of}
-use Rattle.evaluation.specs.declared.PointList.TheVariants.{Good}
 use Rattle.evaluation.specs.declared.Ran.{Ran}
 use Rattle.evaluation.specs.declared.Ran.TheVariants.{Passed, False, Ended}
 use Rattle.names.specs.Scopes.{named_sorts}
@@ -121,7 +121,7 @@ shown_derives (judged p v) = judged_derives p v
 
 -- Of derived bodies and points that pass the answer is 0, 14 or 15.
 pub verdict_showing : {response : List ℕ} {k : Known} {bs : List Body} {points : List ℕ} {budget n : ℕ} {o : Outcome} {a w : List ℕ}
-    → Derived (in_script_order k.functions) (terms_of bs) → points_of (named_sorts k.variables) points ≡ Good n
+    → Derived (in_script_order k.functions) (terms_of bs) → points_of (named_sorts k.variables) points ≡ Ok n
     → Judgement response k bs points budget o a w → Showing o.number
 verdict_showing d good (underived u) = absurd (not_derived u d)
 verdict_showing d good (points_refused s e) = let z : ◌≡◌ {A = ℕ} 0 1 = cc in absurd (omega arith)
@@ -136,7 +136,7 @@ shown_there s (shows_none no-show e z) = absurd (no-show s)
 -- "and a derivation is shown once the points pass too".
 pub shown_once : {script response points : List ℕ} {budget : ℕ} {area : List ℕ} {k : Known} {bs : List Body} {n : ℕ} {o : Outcome} {a w : List ℕ}
     → Passing script response points area k bs → Derived (in_script_order k.functions) (terms_of bs)
-    → points_of (named_sorts k.variables) points ≡ Good n → Checked script response points budget area o a w
+    → points_of (named_sorts k.variables) points ≡ Ok n → Checked script response points budget area o a w
     → Showing o.number × DerivationsShown script response points area a w
 shown_once passing d good c =
     let there = verdict_showing d good (of_passing passing c) in

@@ -1,4 +1,5 @@
 -- Every answer is a row of the table of answers.
+use Rattle.std.specs.Prelude.{Ok, Err}
 use Prim.Native.Nat.{ℕ, ◌≤◌}
 use native.Mathlib.Omega.{arith}
 use mathlib.Core.Bool.{Bool, true, false, cond}
@@ -9,7 +10,6 @@ use lib.Dec.{ltb}
 use lib.ListN.{length}
 use Rattle.terms.specs.Labels.{Terms}
 use Rattle.evaluation.specs.Points.{cut_short, first_outside, point_count, points_of}
-use Rattle.evaluation.specs.declared.PointList.TheVariants.{Bad, Good}
 use Rattle.evaluation.specs.declared.Ran.{Ran}
 use Rattle.evaluation.specs.declared.Ran.TheVariants.{Passed, False, Ended}
 use Rattle.names.specs.Scopes.{Function, named_sorts}
@@ -19,8 +19,8 @@ use Rattle.script.specs.Outcome.{ResponseOutcome, ScriptOutcome, given, offset_o
 use Rattle.script.specs.Rows.{AtWord, ResponseRow, ScriptRow}
 use Rattle.words.specs.Limits.{response_limits}
 use Rattle.script.proofs.Rows.{FirstWords, ResponseKept, ScriptKept, response_kept, script_kept}
-use Rattle.outcome.specs.Checked.{Checked, Judgement, Passing, TextsRefused, evaluated, judged, missized, points_refused, response_refused}
-use Rattle.outcome.specs.Checked.{script_refused, texts_refused, underived}
+use Rattle.outcome.specs.Checked.{Checked, Judgement, Passing, TextsRefused, evaluated, judged, missized, points_refused, response_refused, script_refused}
+use Rattle.outcome.specs.Checked.{texts_refused, underived}
 use Rattle.outcome.specs.Demands.{AllDone, InOrder, assumed_at}
 use Rattle.outcome.specs.Derived.{FirstUnderived, terms_of}
 use Rattle.outcome.specs.Evaluated.{ran_outcome, ran_with}
@@ -61,13 +61,13 @@ underived_there (FirstUnderived.here n) (FirstWords.also a more) = a
 underived_there (FirstUnderived.later d u) (FirstWords.also a more) = underived_there u more
 
 -- A list that is not points is refused at its length or before it.
-bad_within : (sorts numbers : List ℕ) {place : ℕ} → points_of sorts numbers ≡ Bad place → place ≤ length numbers
+bad_within : (sorts numbers : List ℕ) {place : ℕ} → points_of sorts numbers ≡ Err place → place ≤ length numbers
 unfolding points_of
 bad_within sorts numbers {place} h =
     by_case (cut_short (length sorts) (length numbers)) (ltb (first_outside sorts numbers 0) (length numbers)) refl h
   where
     by_case : (cut outside : Bool) → ltb (first_outside sorts numbers 0) (length numbers) ≡ outside
-        → cond cut (Bad (length numbers)) (cond outside (Bad (first_outside sorts numbers 0)) (Good (point_count (length sorts) (length numbers)))) ≡ Bad place
+        → cond cut (Err (length numbers)) (cond outside (Err (first_outside sorts numbers 0)) (Ok (point_count (length sorts) (length numbers)))) ≡ Err place
         → place ≤ length numbers
     by_case true outside o g = let e : length numbers ≡ place = cc in omega arith
     by_case false true o g = let e : first_outside sorts numbers 0 ≡ place = cc in omega (arith, ltb-true (first_outside sorts numbers 0) (length numbers) o)

@@ -1,9 +1,9 @@
 -- No second outcome satisfies the checker's contract.
+use Rattle.std.specs.Prelude.{Ok, Err}
 use Prim.Native.Nat.{ℕ}
 use native.Mathlib.Omega.{arith}
 use mathlib.Core.List.{List}
 use mathlib.Core.Path.{◌≡◌, refl, ap, ap₂, sym, ◌∙◌}
-use Rattle.evaluation.specs.declared.PointList.TheVariants.{Good, Bad}
 use Rattle.script.specs.Script.{Known}
 use Rattle.script.specs.Response.{Body, in_script_order}
 use Rattle.outcome.specs.Checked.{Answered, Checked, Judgement, evaluated, judged, missized, points_refused, texts_refused, underived}
@@ -17,7 +17,7 @@ use Rattle.outcome.proofs.Deriving.{first_only, lists_only, not_derived, shown_d
 use Rattle.outcome.proofs.Stages.{of_missized, of_passing, of_refused}
 
 -- No list of points is good and bad.
-not_good : {A : Type 0} {place n : ℕ} → Bad place ≡ Good n → A
+not_good : {A : Type 0} {place n : ℕ} → Err place ≡ Ok n → A
 not_good e = let z : ◌≡◌ {A = ℕ} 0 1 = cc in absurd (omega arith)
 
 -- One verdict on texts that pass, with one area afterwards and one list of totals.

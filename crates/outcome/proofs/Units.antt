@@ -1,4 +1,5 @@
 -- The units spent, and the order of the evaluations.
+use Rattle.std.specs.Prelude.{Ok}
 use Prim.Native.Nat.{ℕ}
 use native.Mathlib.Numerals.{add-one}
 use native.Mathlib.Omega.{arith}
@@ -7,7 +8,6 @@ use mathlib.Core.Path.{◌≡◌, refl, ap}
 use lib.ListN.{take}
 use Rattle.terms.specs.Labels.{Terms}
 use Rattle.evaluation.specs.Points.{points_of}
-use Rattle.evaluation.specs.declared.PointList.TheVariants.{Good}
 use Rattle.evaluation.specs.declared.Run.{Run}
 use Rattle.names.specs.Scopes.{named_sorts}
 use Rattle.script.specs.Script.{Known}
@@ -20,7 +20,7 @@ use Rattle.outcome.specs.declared.Outcome.{Outcome}
 use Rattle.outcome.proofs.Runs.{PointsFound, all-passed, not_begun, run_found, some_false}
 use Rattle.outcome.proofs.Stages.{missized_one, of_passing, refused_number, run_showing}
 
-module _ (k : Known) (ts : List Terms) (points : List ℕ) (n budget : ℕ) (good : points_of (named_sorts k.variables) points ≡ Good n) where
+module _ (k : Known) (ts : List Terms) (points : List ℕ) (n budget : ℕ) (good : points_of (named_sorts k.variables) points ≡ Ok n) where
   -- The units of a run.
   ran_units : {r : Run} → PointsFound k ts points n budget r → UnitsStated k ts points budget (run_outcome budget r)
   ran_units (all-passed {rest = rest} e h before) =

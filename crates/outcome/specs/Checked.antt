@@ -1,11 +1,10 @@
 -- The checker: which answer, what stands in the lent area afterwards, and the totals.
-use Rattle.std.specs.Prelude.{ℕ, cond, List, ◌≡◌, eqb, ltb, length}
+use Rattle.std.specs.Prelude.{ℕ, cond, List, ◌≡◌, eqb, ltb, length, Ok, Err}
 use Rattle.std.proofs.Math.Option.{Option, none as nothing, some}
 use Rattle.words.specs.Limits.{response_limits, script_limits}
 use Rattle.words.specs.declared.Limits.{Limits}
 use Rattle.forest.specs.Limits.{area_size, most_numbers}
 use Rattle.evaluation.specs.Points.{points_of}
-use Rattle.evaluation.specs.declared.PointList.TheVariants.{Good, Bad}
 use Rattle.names.specs.Scopes.{named_sorts}
 use Rattle.script.specs.Script.{Known}
 use Rattle.script.specs.Response.{Body, in_script_order}
@@ -55,9 +54,9 @@ pub data Judgement (response : List ℕ) (k : Known) (bs : List Body) (points : 
   underived : {j : ℕ} {b : Body} → FirstUnderived (in_script_order k.functions) bs j b
       → Judgement response k bs points budget (record { number = 13; text = 1; place = offset_of response b.first; second = j; units = 0 }) blank_area no_totals
   points_refused : {lists : List (List ℕ)} {place : ℕ} → ListsShown (in_script_order k.functions) (terms_of bs) lists
-      → points_of (named_sorts k.variables) points ≡ Bad place → Judgement response k bs points budget (refusal 16 2 place) blank_area no_totals
+      → points_of (named_sorts k.variables) points ≡ Err place → Judgement response k bs points budget (refusal 16 2 place) blank_area no_totals
   evaluated : {lists : List (List ℕ)} {n : ℕ} → ListsShown (in_script_order k.functions) (terms_of bs) lists
-      → points_of (named_sorts k.variables) points ≡ Good n
+      → points_of (named_sorts k.variables) points ≡ Ok n
       → Judgement response k bs points budget (run_outcome budget (ran_with k (terms_of bs) points n budget)) (shown_area lists)
       (totals (in_script_order k.functions) lists)
 

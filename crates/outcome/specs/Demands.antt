@@ -1,5 +1,5 @@
 -- What follows from the checker's contract, `Checked`: the words in which proofs/ states it (Exact, Units, Demands).
-use Rattle.std.specs.Prelude.{ℕ, ◌+◌, ◌≤◌, ◌<◌, Bool, true, false, cond, List, [], ◌∷◌, ◌≡◌, get_or, length, take}
+use Rattle.std.specs.Prelude.{ℕ, ◌+◌, ◌≤◌, ◌<◌, Bool, true, false, cond, List, [], ◌∷◌, ◌≡◌, get_or, length, take, Ok}
 use Rattle.std.proofs.Math.Option.{Option, some}
 use Rattle.forest.specs.Forest.{none}
 use Rattle.forest.specs.Limits.{first_assumption}
@@ -9,7 +9,6 @@ use Rattle.terms.specs.Values.{numbers_in, sorts_in, value, values_at}
 use Rattle.terms.specs.declared.Value.{Value}
 use Rattle.evaluation.specs.Points.{point_at, points_of}
 use Rattle.evaluation.specs.Running.{is_true_value}
-use Rattle.evaluation.specs.declared.PointList.TheVariants.{Good}
 use Rattle.names.specs.Scopes.{named_sorts}
 use Rattle.script.specs.Script.{Known, definitions_of}
 use Rattle.script.specs.Response.{Body, in_script_order}
@@ -128,7 +127,7 @@ pub record NotBegun (k : Known) (ts : List Terms) (points : List ℕ) (budget : 
 
 -- "the units spent: the summed cost of evaluations done, a false one included".
 pub record UnitsStated (k : Known) (ts : List Terms) (points : List ℕ) (budget : ℕ) (o : Outcome) : Type 0 where
-  pub accepted : o.number ≡ 0 → (n : ℕ) → points_of (named_sorts k.variables) points ≡ Good n → o.units ≡ spent_before k ts points n
+  pub accepted : o.number ≡ 0 → (n : ℕ) → points_of (named_sorts k.variables) points ≡ Ok n → o.units ≡ spent_before k ts points n
   pub constraint_false : o.number ≡ 14
       → o.units ≡ spent_before k ts points o.place + (cost_on k ts k.assumptions + cost_on k ts (take (o.second + 1) k.constraints))
   pub budget_ended : o.number ≡ 15 → NotBegun k ts points budget o
@@ -137,7 +136,7 @@ pub record UnitsStated (k : Known) (ts : List Terms) (points : List ℕ) (budget
 -- A point of the list and a constraint, by their numbers.
 pub record Named (k : Known) (points : List ℕ) (p c : ℕ) : Type 0 where
   pub n : ℕ
-  pub whole : points_of (named_sorts k.variables) points ≡ Good n
+  pub whole : points_of (named_sorts k.variables) points ≡ Ok n
   pub point : p < n
   pub constraint : c < length k.constraints
 
@@ -148,7 +147,7 @@ PassedBefore k ts points p = (q : ℕ) → q < p → assumed_at k ts points q �
 -- All points are done, and so many hold their assumptions.
 pub record AllDone (k : Known) (ts : List Terms) (points : List ℕ) (held : ℕ) : Type 0 where
   pub n : ℕ
-  pub whole : points_of (named_sorts k.variables) points ≡ Good n
+  pub whole : points_of (named_sorts k.variables) points ≡ Ok n
   pub passed : PassedBefore k ts points n
   pub counted : held ≡ held_before k ts points n
 
@@ -160,7 +159,7 @@ TrueBefore k ts points p (assumption_named {a} h) = TrueTo k ts points p k.assum
 -- The run ended before the term of the number at point p.
 pub record EndedBefore (k : Known) (ts : List Terms) (points : List ℕ) (p number : ℕ) : Type 0 where
   pub n : ℕ
-  pub whole : points_of (named_sorts k.variables) points ≡ Good n
+  pub whole : points_of (named_sorts k.variables) points ≡ Ok n
   pub point : p < n
   pub passed : PassedBefore k ts points p
   pub named : TermNamed k number
@@ -204,7 +203,7 @@ pub record NamedFalse (k : Known) (ts : List Terms) (points : List ℕ) (p c : �
 -- "accepted" and "constraint false", for every budget: with 0 every constraint is true at every point whose assumptions hold, and 14 names a point whose
 -- assumptions hold and a constraint that is false there.
 pub record Truthful (k : Known) (ts : List Terms) (points : List ℕ) (o : Outcome) : Type 0 where
-  pub accepted : o.number ≡ 0 → (n : ℕ) → points_of (named_sorts k.variables) points ≡ Good n → AllTrue k ts points n
+  pub accepted : o.number ≡ 0 → (n : ℕ) → points_of (named_sorts k.variables) points ≡ Ok n → AllTrue k ts points n
   pub constraint_false : o.number ≡ 14 → NamedFalse k ts points o.place o.second
 
 -- "the answer can only be accepted or a named false constraint": every constraint is true at every point whose assumptions hold; or the constraint named is

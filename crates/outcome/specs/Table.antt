@@ -1,7 +1,6 @@
 -- The table of answers: for each number which text it speaks of, what its place and its second number are, and when it has no units.
-use Rattle.std.specs.Prelude.{ℕ, ◌≤◌, ◌<◌, List, ◌≡◌, length}
+use Rattle.std.specs.Prelude.{ℕ, ◌≤◌, ◌<◌, List, ◌≡◌, length, Ok, Err}
 use Rattle.evaluation.specs.Points.{points_of}
-use Rattle.evaluation.specs.declared.PointList.TheVariants.{Bad, Good}
 use Rattle.names.specs.Scopes.{named_sorts}
 use Rattle.script.specs.Script.{Known}
 use Rattle.script.specs.Response.{in_script_order}
@@ -28,7 +27,7 @@ pub data LengthOf (script response points area : List ℕ) : (text place : ℕ) 
 -- "15 | budget ended | point; constraint": "15 numbers assumptions from 64" (E1)
 -- "16 | point list not whole points, or value outside its sort | list length, or first bad index; 0"
 pub data AnswerRow (script response points area : List ℕ) : Outcome → Type 0 where
-  accepted : {k : Known} {done held units : ℕ} → script_outcome script ≡ said k → points_of (named_sorts k.variables) points ≡ Good done → held ≤ done
+  accepted : {k : Known} {done held units : ℕ} → script_outcome script ≡ said k → points_of (named_sorts k.variables) points ≡ Ok done → held ≤ done
       → AnswerRow script response points area (record { number = 0; text = 3; place = 0; second = held; units = units })
   too_long : {text place : ℕ} → LengthOf script response points area text place → AnswerRow script response points area (refusal 1 text place)
   of_script : {number place second : ℕ} → ScriptRow script number place second → AnswerRow script response points area (refusal_with number 0 place second)
@@ -37,8 +36,8 @@ pub data AnswerRow (script response points area : List ℕ) : Outcome → Type 0
       → AnswerRow script response points area (record { number = 13; text = 1; place = place; second = function; units = 0 })
   constraint_false : {k : Known} {point constraint units : ℕ} → script_outcome script ≡ said k → Named k points point constraint
       → AnswerRow script response points area (record { number = 14; text = 2; place = point; second = constraint; units = units })
-  budget_ended : {k : Known} {done point term units : ℕ} → script_outcome script ≡ said k → points_of (named_sorts k.variables) points ≡ Good done
+  budget_ended : {k : Known} {done point term units : ℕ} → script_outcome script ≡ said k → points_of (named_sorts k.variables) points ≡ Ok done
       → point < done → TermNamed k term
       → AnswerRow script response points area (record { number = 15; text = 2; place = point; second = term; units = units })
-  bad_points : {k : Known} {place : ℕ} → script_outcome script ≡ said k → points_of (named_sorts k.variables) points ≡ Bad place → place ≤ length points
+  bad_points : {k : Known} {place : ℕ} → script_outcome script ≡ said k → points_of (named_sorts k.variables) points ≡ Err place → place ≤ length points
       → AnswerRow script response points area (refusal 16 2 place)

@@ -1,4 +1,5 @@
 -- The answer that the points give, by what was found.
+use Rattle.std.specs.Prelude.{Result, Ok}
 use Prim.Native.Nat.{ℕ, ◌-◌, ◌≤◌}
 use mathlib.Core.Path.{◌≡◌, ap, sym, ◌∙◌}
 use mathlib.Core.List.{List}
@@ -6,8 +7,6 @@ use lib.ListN.{length}
 use Rattle.evaluation.specs.Points.{points_of}
 use Rattle.evaluation.specs.Running.{left_of}
 use Rattle.evaluation.specs.code.Points.{SortsSmall}
-use Rattle.evaluation.specs.declared.PointList.{PointList}
-use Rattle.evaluation.specs.declared.PointList.TheVariants.{Good}
 use Rattle.evaluation.specs.declared.Ran.{Ran}
 use Rattle.evaluation.specs.declared.Ran.TheVariants.{Passed, False, Ended}
 use Rattle.evaluation.specs.declared.Run.{Run}
@@ -49,14 +48,14 @@ module _ {names places nodes : List ℕ} {p : Progress} (q : Evaluable names pla
   pub sorts_small : SortsSmall sorts
   sorts_small = rw sorts_read q.held.script.small
 
-  module _ (points : List ℕ) {list : PointList} (tested : list ≡ points_of sorts points) where
+  module _ (points : List ℕ) {list : Result ℕ ℕ} (tested : list ≡ points_of sorts points) where
     -- What the points give, by what their tests found.
-    pub outcome_by : {found : PointList} → list ≡ found → (budget : ℕ)
+    pub outcome_by : {found : Result ℕ ℕ} → list ≡ found → (budget : ℕ)
         → points_outcome q.known (terms_of q.bodies) points budget found ≡ points_give q.known (terms_of q.bodies) points budget
     outcome_by is budget =
         ap (points_outcome q.known (terms_of q.bodies) points budget) (sym is ∙ tested ∙ ap (λ (ss : List ℕ). points_of ss points) sorts_read)
 
-    module _ {n : ℕ} (good : list ≡ Good n) where
+    module _ {n : ℕ} (good : list ≡ Ok n) where
       -- The constraints and the assumptions can be run over them.
       abbrev pub constrained : Constrained places nodes p sorts points
       constrained = record { names = names; tables = q; sorts_are = sorts_read; count = n; good = sym tested ∙ good }

@@ -11,7 +11,7 @@ ghost use Rattle.verdicts.specs.code.Evaluate.{Constrained, Evaluable, Evaluates
 use evaluation::costs::body_costs;
 use evaluation::points::points_of;
 use evaluation::running::run_points;
-use evaluation::{PointList, Ran, Run, Stated};
+use evaluation::{Ran, Run, Stated};
 use forest::limits;
 use names::table::{VARIABLES, sort_in};
 use outcome::Outcome;
@@ -103,8 +103,8 @@ pub fn evaluate(
     let sorts = variable_sorts(names, variables);
     let list = points_of(&sorts[..variables], points);
     match list {
-        PointList::Bad(place) => points_answer(POINTS, place, 0, 0),
-        PointList::Good(_) => run_outcome(
+        Err(place) => points_answer(POINTS, place, 0, 0),
+        Ok(_) => run_outcome(
             run_stated(places, nodes, progress, &sorts[..variables], points, budget),
             budget,
         ),

@@ -1,9 +1,7 @@
 -- What the evaluation of a script and a response asks and gives.
-use Rattle.std.specs.Prelude.{ℕ, List, ◌≡◌}
+use Rattle.std.specs.Prelude.{ℕ, List, ◌≡◌, Result, Ok, Err}
 use Rattle.terms.specs.Labels.{Terms}
 use Rattle.evaluation.specs.Points.{points_of}
-use Rattle.evaluation.specs.declared.PointList.{PointList}
-use Rattle.evaluation.specs.declared.PointList.TheVariants.{Good, Bad}
 use Rattle.evaluation.specs.declared.Run.{Run}
 use Rattle.names.specs.Scopes.{named_sorts}
 use Rattle.script.specs.Script.{Known}
@@ -17,9 +15,9 @@ use Rattle.outcome.specs.Evaluated.{ran_with, run_outcome}
 use Rattle.outcome.specs.declared.Outcome.{Outcome}
 
 -- 16: "point list not whole points, or value outside its sort", at "list length, or first bad index"; else what the run gives.
-abbrev pub points_outcome : Known → List Terms → (points : List ℕ) → (budget : ℕ) → PointList → Outcome
-points_outcome k ts points budget (Bad place) = record { number = points_answer; text = points_text; place = place; second = 0; units = 0 }
-points_outcome k ts points budget (Good n) = run_outcome budget (ran_with k ts points n budget)
+abbrev pub points_outcome : Known → List Terms → (points : List ℕ) → (budget : ℕ) → Result ℕ ℕ → Outcome
+points_outcome k ts points budget (Err place) = record { number = points_answer; text = points_text; place = place; second = 0; units = 0 }
+points_outcome k ts points budget (Ok n) = run_outcome budget (ran_with k ts points n budget)
 
 -- What the points give.
 abbrev pub points_give : Known → List Terms → (points : List ℕ) → (budget : ℕ) → Outcome
@@ -44,7 +42,7 @@ pub record Constrained (places nodes : List ℕ) (p : Progress) (sorts points : 
   pub tables : Evaluable names places nodes p
   pub sorts_are : sorts ≡ named_sorts tables.known.variables
   pub count : ℕ
-  pub good : points_of sorts points ≡ Good count
+  pub good : points_of sorts points ≡ Ok count
 
 -- The run is that of the script's constraints and assumptions, where its functions have the terms of the response for bodies.
 abbrev pub StatedRan : (places nodes : List ℕ) → Progress → (sorts points : List ℕ) → (budget : ℕ) → Run → Type 0

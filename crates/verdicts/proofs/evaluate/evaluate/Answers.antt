@@ -13,25 +13,25 @@ slice_bounds-run_stated-end c = sorts_long c.requires c.variable_sorts-sorts.ens
 
 pub run_stated-requires : goal.run_stated-requires
 run_stated-requires c =
-    constrained c.requires c.variable_sorts-sorts.ensures c.args.points.now c.points_of-list.ensures c.in-Good.is
+    constrained c.requires c.variable_sorts-sorts.ensures c.args.points.now c.points_of-list.ensures c.in-Ok.is
 
 pub run_outcome-requires : goal.run_outcome-requires
 run_outcome-requires c =
-    let good = c.in-Good.is in
+    let good = c.in-Ok.is in
     budget_left c.requires c.variable_sorts-sorts.ensures c.args.points.now c.points_of-list.ensures good c.args.budget
     c.run_stated.ensures
 
-pub returns-in-Bad : goal.returns-in-Bad
-returns-in-Bad c = λ q.
+pub returns-in-Err : goal.returns-in-Err
+returns-in-Err c = λ q.
     let args = c.args in
     let read = c.variable_sorts-sorts.ensures in
     let tested = c.points_of-list.ensures in
-    c.points_answer.ensures ∙ outcome_by q read args.points.now tested c.in-Bad.is args.budget
+    c.points_answer.ensures ∙ outcome_by q read args.points.now tested c.in-Err.is args.budget
 
-pub returns-in-Good : goal.returns-in-Good
-returns-in-Good c = λ q.
+pub returns-in-Ok : goal.returns-in-Ok
+returns-in-Ok c = λ q.
     let args = c.args in
     let read = c.variable_sorts-sorts.ensures in
     let tested = c.points_of-list.ensures in
-    let good = c.in-Good.is in
+    let good = c.in-Ok.is in
     run_evaluated q read args.points.now tested good args.budget c.run_stated.ensures c.run_outcome.ensures
