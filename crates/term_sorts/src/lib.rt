@@ -10,19 +10,11 @@ mod nodes;
 mod operands;
 mod rules;
 
-ghost use Rattle.std.specs.Prelude.{◌≡◌, cond};
 ghost use Rattle.term_sorts.specs.code.Sorting.{SortsFilled, SortsFilling};
 
 use nodes::node_sort;
 use operands::operands_sorted;
 use terms::operands_at;
-
-// The one number where a test passes, the other where it fails.
-fn pick(test: bool, one: usize, other: usize) -> usize
-    ensures { result ≡ cond test one other }
-{
-    if test { one } else { other }
-}
 
 // Fills in the sort of each of the first `count` nodes of the forms; returns the first node that has no sort though its operands have, `count` where there is
 // none.
@@ -34,7 +26,9 @@ pub fn fill_sorts(forms: &[u64], signatures: &[u64], count: usize, column: &mut 
     for node in (0..count).rev() {
         let whole = operands_sorted(forms, column, node + 1, operands_at(forms, node) as usize);
         let sort = node_sort(forms, signatures, column, node, whole);
-        fault = pick(whole & (sort == 0), node, fault);
+        if whole & (sort == 0) {
+            fault = node;
+        }
         column[node] = sort as u8;
     }
     fault

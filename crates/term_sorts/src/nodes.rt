@@ -17,13 +17,11 @@ const NON_TERMINAL_ROW: usize = FUNCTION_ROW + limits::FUNCTIONS;
 fn first_row(kind: u64) -> usize
     ensures { result ≡ first_row kind }
 {
-    if kind == FUNCTION {
-        return FUNCTION_ROW;
+    match kind {
+        FUNCTION => FUNCTION_ROW,
+        NON_TERMINAL => NON_TERMINAL_ROW,
+        _ => 0,
     }
-    if kind == NON_TERMINAL {
-        return NON_TERMINAL_ROW;
-    }
-    0
 }
 
 // The sort of a node's tree; `whole` says whether all its operands have sorts.
