@@ -19,19 +19,11 @@ struct Sorts {
 fn with_sort(sorts: Sorts, index: usize, sort: u64) -> Sorts
     ensures { (result.one ≡ cond (eqb index 0) sort sorts.one) × (result.two ≡ cond (eqb index 1) sort sorts.two) }
 {
-    if index == 0 {
-        return Sorts {
-            one: sort,
-            two: sorts.two,
-        };
+    match index {
+        0 => Sorts { one: sort, ..sorts },
+        1 => Sorts { two: sort, ..sorts },
+        _ => sorts,
     }
-    if index == 1 {
-        return Sorts {
-            one: sorts.one,
-            two: sort,
-        };
-    }
-    sorts
 }
 
 // The value that an operator, whose label has the numbers of an `extract` as its value, gives the operands whose values the stack has from `top` up to
@@ -52,7 +44,7 @@ fn operator_at(
     let low = low_in(bounds);
     let sort = result_sort(number, high, low, sorts.one, sorts.two);
     Value {
-        sort: sort,
+        sort,
         number: apply(number, high, low, sorts.one, sorts.two, &stack[top..past]),
     }
 }
