@@ -71,12 +71,6 @@ module _ {values sorts : List ℕ} {top : ℕ} {v : Value} (e : Pushable values 
       let room : top < most_values = omega (arith, e.ready.held.most) in
       rw (lt-ltb (length e.ready.stack) most_values (omega (arith, e.ready.held.counted))) (done (held_put e.ready.held room v e.fit))
 
-  -- There is a place for it in each table.
-  pub push_place : (top ≡ most_values → ⊥) → (top < length values) × (top < length sorts)
-  push_place q =
-      let h = e.ready.held in
-      (omega (arith, h.most, h.values_long), omega (arith, h.most, h.sorts_long))
-
 -- A table that has the numbers of values, cut where the newest begin.
 cut_table : (f : Value → ℕ) (table : List ℕ) (base n : ℕ) (old new : List Value) → base + n ≤ length table → length old ≡ base
     → take (base + n) table ≡ map f (old ++ new) → (take base table ≡ map f old) × (take n (drop base table) ≡ map f new)

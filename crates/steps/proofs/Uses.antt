@@ -5,12 +5,11 @@ use mathlib.Core.Path.{◌≡◌, sym, ap, ◌∙◌}
 use mathlib.Core.Bool.{true, false, ◌||◌}
 use mathlib.Core.List.{List}
 use lib.Dec.{eqb}
-use lib.ListN.{length}
 use Rattle.forest.proofs.Laws.{Tree, size_join, size_zero, tree_of_size, size_tree}
 use Rattle.forest.specs.Forest.{join, tree}
 use Rattle.forest.specs.code.Cursors.{from, size}
 use Rattle.terms.proofs.Bodies.{Says, says}
-use Rattle.terms.proofs.Cursors.{cursor_next, tree_within}
+use Rattle.terms.proofs.Cursors.{cursor_next}
 use Rattle.terms.specs.Labels.{Terms}
 use Rattle.terms.specs.code.Codes.{defined_kind, function_kind, kind_of}
 use Rattle.terms.specs.code.Nodes.{code_at}
@@ -44,10 +43,6 @@ module _ {nodes : List ℕ} {start stop : ℕ} (e : TermsStand nodes start stop)
 
       told : Says nodes node next.l next.ops
       told = says e.all e.behind node next.l next.ops _ e.nodes_are tree_here
-
-      -- It stands within the table.
-      pub node_within : node < length nodes
-      node_within = omega (arith, tree_within e.all e.behind node next.l next.ops _ e.nodes_are tree_here)
 
       module _ {code kind : ℕ} (code_is : code ≡ code_at nodes node) (kind_is : kind ≡ kind_of code) where
         -- Whether it applies one is told by its kind.
