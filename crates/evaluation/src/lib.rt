@@ -7,13 +7,6 @@ pub mod evaluator;
 pub mod points;
 pub mod running;
 
-// How many points a list is, or the place of its fault.
-#[derive(Clone, Copy)]
-pub enum PointList {
-    Good(usize),
-    Bad(usize),
-}
-
 // What a run finds: all terms true, or the first that is false, or the first whose cost exceeds what is left; each with what is left of the budget, and the
 // latter two with the point and the term.
 #[derive(Clone, Copy)]
