@@ -9,6 +9,7 @@ pub mod Bench
 pub mod Numbers
 pub mod Lengths
 pub mod Filling
+pub mod Refused
 pub mod Copying
 pub mod Stored
 pub mod Whole
