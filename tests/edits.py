@@ -32,11 +32,10 @@ READ = ("src", "specs", "proofs")
 STATED = ("src", "specs")
 
 LISTED = re.compile(r"\w+")
-FUNCTION = re.compile(r'^((?: *#\[.*\]\n)*)( *)(?:pub(?:\([a-z]+\))? )?(?:extern "C" )?fn (\w+)', re.MULTILINE)
+FUNCTION = re.compile(r'^((?: *#\[.*\]\n)*)( *)(pub(?:\([a-z]+\))? )?(?:extern "C" )?fn (\w+)', re.MULTILINE)
 OWNER = re.compile(r"^impl(?:<[^>]*>)? (?:\S+ for )?(\w+)", re.MULTILINE)
 CYCLE = re.compile(r"#\[cycle\((\w+)\)\]")
 REFUSED = re.compile(r"(\S+) at (\S+)")
-PUBLIC_FUNCTION = re.compile(r'^ *pub (?:extern "C" )?fn (\w+)', re.MULTILINE)
 PUBLIC_MODULE = re.compile(r"^pub mod (\w+);", re.MULTILINE)
 IN_PROOF = re.compile(r"(?:\./)?proofs/(\S+?)(?:/(?:Answers|Invariants|Proof))?\.antt:\d+:\d+: error: `([^`]+)`: (.*)")
 IN_CODE = re.compile(r"note: (?:\./)?src/(\S+)\.rt:(\d+):\d+: it is not proved that .*\(`([^`]+)`\)")
@@ -101,8 +100,7 @@ def public_functions(library):
 
 def public_in(code, modules):
     """The public functions of a text of code."""
-    public = [code.count("\n", 0, found.start(1)) + 1 for found in PUBLIC_FUNCTION.finditer(code)]
-    yield from (in_module(modules, name) for line, name, _ in functions_of(code) if line in public)
+    yield from (in_module(modules, name) for _, name, _, public in functions_of(code) if public)
 
 
 def too_few():
@@ -152,11 +150,12 @@ def sum_of(path, uses, kit):
 # What the prover said
 
 def functions_of(code):
-    """Each function of a text of code: its line, its name, behind that of its type if it is a method, and its cycle of calls, if it is in one."""
+    """Each function of a text of code: the line at which it begins, its name, behind that of its type if it is a method, its cycle of calls, if it is in one, and whether it is public."""
     for found in FUNCTION.finditer(code):
         cycle = CYCLE.search(found.group(1))
         owners = OWNER.findall(code, 0, found.start()) if found.group(2) else []
-        yield code.count("\n", 0, found.start(3)) + 1, "::".join(owners[-1:] + [found.group(3)]), cycle and cycle.group(1)
+        name = "::".join(owners[-1:] + [found.group(4)])
+        yield code.count("\n", 0, found.start()) + 1, name, cycle and cycle.group(1), found.group(3) == "pub "
 
 
 def in_module(path, name):
@@ -173,7 +172,7 @@ def proved_in(path, folder):
         return [in_module(modules, last)]
     sources = [os.path.join(folder, "src", *modules) + ".rt"] if modules else [os.path.join(folder, "src", name) for name in ("lib.rt", "main.rt")]
     codes = [text_of(source) for source in sources if os.path.isfile(source)]
-    several = [in_module(modules, name) for code in codes for _, name, cycle in functions_of(code) if cycle == last[1:]]
+    several = [in_module(modules, name) for code in codes for _, name, cycle, _ in functions_of(code) if cycle == last[1:]]
     return several or [in_module(modules, last[1:])]
 
 
@@ -186,7 +185,7 @@ def refusals(log, folder):
         found = IN_CODE.match(line)
         if found:
             code = text_of(os.path.join(folder, "src", found.group(1) + ".rt"))
-            names = [name for line, name, _ in functions_of(code) if line <= int(found.group(2))]
+            names = [name for line, name, _, _ in functions_of(code) if line <= int(found.group(2))]
             yield in_module(found.group(1).split("/"), names[-1]), found.group(3)
 
 
