@@ -6,7 +6,7 @@ ghost use Rattle.terms.specs.code.Nodes.{row_width};
 ghost use Rattle.words.specs.Limits.{response_limits};
 ghost use Rattle.names.specs.code.Lookup.{Names};
 ghost use Rattle.both_texts.specs.code.Both.{Rooms};
-ghost use Rattle.both_texts.specs.code.Tables.{Gave};
+ghost use Rattle.both_texts.specs.code.Tables.{Fitting, Gave};
 
 use forest::limits::{RESPONSE_WORDS, SCRIPT_WORDS};
 use names::table;
@@ -49,13 +49,13 @@ where
     read(area, nodes.as_flattened_mut(), forms.as_flattened_mut())
 }
 
-// What a function gives that is lent an area, and tables with room for the nodes and the forms of two texts.
+// What a function gives that is lent an area, and tables that fit the nodes and the forms of two texts.
 pub fn in_tables<A, R, F>(script: &[u8], response: &[u8], area: &mut [A], read: F) -> R
 where
     F: FnOnce(&mut [A], &mut [u64], &mut [u64]) -> R,
     requires { (a : _) (nodes : _) (forms : _) → a.now ≡ area.old → Rooms response_limits script.now response.now nodes.now forms.now
         → F.pre read a nodes forms }
-    ensures { Gave (Rooms response_limits script.now response.now) (F.post read) area.old result area.new }
+    ensures { Gave (Fitting script.now response.now) (F.post read) area.old result area.new }
 {
     if (script.len() <= SHORT_SCRIPT) & (response.len() <= SHORT_RESPONSE) {
         return read_in::<SHORT_TEXTS, SHORT_SCRIPT, A, R, F>(area, read);

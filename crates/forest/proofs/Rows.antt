@@ -1,12 +1,12 @@
 -- Laws of tables, for rows of any width: reading a number, writing one, and adding a row.
-use Prim.Native.Nat.{ℕ, suc, ◌+◌, ◌*◌, ◌≤◌, ◌<◌}
-use native.Mathlib.Nat.{add-zero, mul-le-mul_right, mul-suc, mul-zero, suc-add, zero-add}
+use Prim.Native.Nat.{ℕ, suc, ◌+◌, ◌*◌, ◌/◌, ◌≤◌, ◌<◌}
+use native.Mathlib.Nat.{add-zero, le-div_iff_mul-le, mul_comm, mul-le-mul_right, mul-suc, mul-zero, suc-add, zero-add}
 use native.Mathlib.Omega.{arith}
 use mathlib.Core.Path.{◌≡◌, refl, sym, ap, ◌∙◌}
 use mathlib.Core.List.{List, [], ◌∷◌, ◌++◌, append_assoc}
 use lib.ListN.{length, get_or, drop, take, set, length-append, length-drop, take-append-drop, get_or-append, get_or-eq_default}
 use lib.Seq.{sets, sets-eq, get_or-append-add, take-append_seam, drop-append-add, drop-drop, length-take-le, set-append_left}
-use Rattle.forest.specs.code.Rows.{number_at}
+use Rattle.forest.specs.code.Rows.{number_at, widest}
 use Rattle.forest.specs.Tables.{rows, over}
 use Rattle.forest.proofs.Lists.{within}
 
@@ -14,9 +14,19 @@ set_append_add : {A : Type 0} (xs ys : List A) (n : ℕ) (v : A) → set (xs ++ 
 set_append_add [] ys n v = rw zero-add
 set_append_add (x ∷ xs) ys n v = rw (suc-add, set_append_add xs ys n v)
 
--- the place of a number in a row, by the row alone: no lower than it
+-- a row and a column of it, by the row alone: no lower than it, and below as many rows of the greatest width
 pub row_low : (width row column : ℕ) → column < width → row ≤ width * row + column
 row_low width row column h = let one : 1 ≤ width = omega arith in omega (arith, mul-le-mul_right row one)
+
+pub row_high : (width row column : ℕ) → column < width → width ≤ widest → width * row + column < widest * (row + 1)
+row_high width row column h w = omega (arith, mul-le-mul_right row w)
+
+-- a column of a row that a table has whole stands in it
+pub row_within : (width row column long : ℕ) → column < width → row < long / width → width * row + column < long
+row_within width row column long h below =
+    let some : 0 < width = omega arith in
+    let up : suc row ≤ long / width = omega arith in
+    omega (arith, (le-div_iff_mul-le {k = width} {x = suc row} {y = long} some).0 up, mul_comm (suc row) width, mul-suc width row)
 
 -- past the end of a table
 pub past : (width : ℕ) (table : List ℕ) (i column : ℕ) → length table ≤ width * i + column → 0 ≡ number_at width table i column

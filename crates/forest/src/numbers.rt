@@ -31,6 +31,9 @@ pub fn number_at(table: &[u64], width: usize, row: usize, column: usize) -> u64
     requires width_le_widest { width ≤ widest }
     ensures { result ≡ number_at width table.now row column }
 {
+    if row < table.len() / width {
+        return table[width * row + column];
+    }
     if row >= table.len() {
         return 0;
     }

@@ -1,15 +1,13 @@
 -- The names in the table, by its rows.
 use Prim.Native.Nat.{ℕ, suc, ◌+◌, ◌-◌, ◌≤◌, ◌<◌, ◌/◌, ◌%◌}
+use native.Mathlib.Numerals.{unary_clauses}
 use native.Mathlib.Omega.{arith}
 use mathlib.Core.Path.{◌≡◌, refl, sym, ◌∙◌}
 use mathlib.Core.Bool.{Bool, true, false, cond}
 use mathlib.Core.List.{List, ◌++◌}
-use lib.ListN.{drop, length, length-drop, length-replicate, replicate, set, take}
-use lib.Seq.{length-sets, length-take-le, sets, take_all}
-use borrow.Rule.Slice.PartMut.{put_mid}
-use Rattle.std.proofs.lemmas.List.Edits.{sets-eq}
-use Rattle.std.proofs.lemmas.Slice.{put_mid-paste}
-use Rattle.forest.proofs.Rows.{sets_append}
+use lib.ListN.{drop, get_or, length, replicate, set, drop_of_length-le, get_or-append, get_or-replicate, length-append, length-replicate, length-set}
+use lib.Seq.{get_or-append-add, sets}
+use Rattle.forest.proofs.Lists.{drop_next}
 use Rattle.forest.specs.Lists.{same_bytes}
 use Rattle.forest.specs.Search.{place_in}
 use Rattle.names.specs.code.Table.{longest, name_in, name_row, names_from}
@@ -50,29 +48,42 @@ module _ {names word : List ℕ} {first count place : ℕ} (w : Searching names 
 abbrev pub padded : (word : List ℕ) → List ℕ
 padded word = word ++ replicate (longest - length word) 0
 
--- A part that is put whole.
-part_put : (a k : ℕ) (l part : List ℕ) → k ≡ length part → a + k ≤ length l → put_mid a k l part ≡ sets l a part
-part_put a k l part e h =
-    let all : take k part ≡ part = take_all k part (omega arith) in
-    put_mid-paste a k l part part k refl refl e ∙ rw (all, e) (sym (sets-eq part l a (omega arith)))
+-- The first k bytes of a name and its zeros are written behind the first four bytes of its row.
+pub record Writing (before word names : List ℕ) (at k : ℕ) : Type 0 where
+  pub long : length names ≡ length before
+  pub passed : k ≤ longest
+  pub left : sets names (at + 4 + k) (drop k (padded word)) ≡ sets before (at + 4) (padded word)
 
--- A name is put into its row, and then the zeros behind it.
-pub name_put : (before word name rest : List ℕ) (start end past : ℕ) → end ≡ start + length word → past ≡ start + longest → length word ≤ longest
-    → past ≤ length before → name ≡ word
-    → rest ≡ replicate (length (take (past - end) (drop end (put_mid start (end - start) before name)))) 0
-    → put_mid end (past - end) (put_mid start (end - start) before name) rest ≡ sets before start (padded word)
-name_put before word name rest start end past end_is past_is short room name_is rest_is =
-    let first : put_mid start (end - start) before name ≡ sets before start word =
-    rw name_is (part_put start (end - start) before word (omega arith) (omega arith)) in
-    let zeros : List ℕ = replicate (longest - length word) 0 in
-    let inside : past - end ≤ length (drop end (sets before start word)) = simp (length-drop, length-sets) (omega arith) in
-    let many : length (take (past - end) (drop end (sets before start word))) ≡ longest - length word =
-    length-take-le (past - end) (drop end (sets before start word)) inside ∙ omega arith in
-    let zeros_are : rest ≡ zeros = rw (first, many) at rest_is in
-    let long : past - end ≡ length zeros = simp length-replicate (omega arith) in
-    let fits : end + (past - end) ≤ length (sets before start word) = simp length-sets (omega arith) in
-    let joined : sets (sets before start word) end zeros ≡ sets before start (word ++ zeros) = rw end_is (sym (sets_append before start word zeros)) in
-    rw (first, zeros_are) (part_put end (past - end) (sets before start word) zeros long fits ∙ joined)
+-- Nothing is written at first.
+pub unwritten : (before word : List ℕ) (at : ℕ) → Writing before word before at 0
+unwritten before word at = record { long = refl; passed = omega arith; left = simp unary_clauses }
+
+module _ (word : List ℕ) (short : length word ≤ longest) where
+  -- a name and its zeros together
+  padded_long : length (padded word) ≡ longest
+  padded_long = rw (length-append, length-replicate) (omega arith)
+
+  module _ {before names : List ℕ} {at k : ℕ} (w : Writing before word names at k) where
+    -- one byte more
+    write : k < longest → (b : ℕ) → b ≡ get_or (padded word) k 0 → Writing before word (set names (at + 4 + k) b) at (k + 1)
+    write h b e =
+        let l : k < length (padded word) = omega (arith, padded_long) in
+        let next : at + 4 + (k + 1) ≡ suc (at + 4 + k) = omega arith in
+        record { long = length-set names _ b ∙ w.long; passed = omega arith; left = rw next (rw e (rw (drop_next (padded word) k) at w.left)) }
+
+    -- a byte of the name
+    pub name_byte : k < longest → (b : ℕ) → k < length word → b ≡ get_or word k 0 → Writing before word (set names (at + 4 + k) b) at (k + 1)
+    name_byte h b l e = write h b (e ∙ sym (get_or-append word (replicate (longest - length word) 0) 0 k l))
+
+    -- a zero behind it
+    pub zero_byte : k < longest → (b : ℕ) → length word ≤ k → b ≡ 0 → Writing before word (set names (at + 4 + k) b) at (k + 1)
+    zero_byte h b l e =
+        let n : k ≡ length word + (k - length word) = omega arith in
+        write h b (e ∙ rw n (rw (get_or-append-add word) (sym (get_or-replicate (longest - length word) (k - length word) 0 0 (omega arith)))))
+
+    -- all is written
+    pub written : longest ≤ k → names ≡ sets before (at + 4) (padded word)
+    written h = let l : length (padded word) ≤ k = omega (arith, padded_long) in rw (drop_of_length-le (padded word) l) at w.left
 
 -- A row is written whole.
 pub row_written : (before word : List ℕ) (at sort place : ℕ)

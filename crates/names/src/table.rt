@@ -97,8 +97,7 @@ pub fn put_name(names: &mut [u8], row: usize, sort: u8, place: usize, word: &[u8
     names[at + 1] = (place % 256) as u8;
     names[at + 2] = (place / 256) as u8;
     names[at + 3] = word.len() as u8;
-    let start = at + 4;
-    let end = start + word.len();
-    names[start..end].copy_from_slice(word);
-    names[end..at + ROW].fill(0);
+    for k in 0..SYMBOL_BYTES {
+        names[at + 4 + k] = if k < word.len() { word[k] } else { 0 };
+    }
 }

@@ -4,7 +4,7 @@ ghost use Rattle.forest.specs.Limits.{response_words};
 ghost use Rattle.lexemes.specs.code.Table.{row_width};
 ghost use Rattle.term_nodes.specs.code.Table.{row_width as rawWidth};
 ghost use Rattle.script.specs.Outcome.{offset_of};
-ghost use Rattle.texts.specs.code.Texts.{Placed, RowEach};
+ghost use Rattle.texts.specs.code.Texts.{Placed, RowEach, response_rows};
 ghost use Rattle.texts.specs.code.Responses.{ReadsResponse, Ready};
 
 use crate::SHORT_RESPONSE;
@@ -84,6 +84,7 @@ fn response_of<const N: usize>(
     requires ready { Ready limits text.now names.now places.old nodes.old progress }
     requires few_rows { N ≤ response_words }
     requires few { min (length text.now) limits.words ≤ N }
+    requires rows { N ≡ response_rows (length text.now) }
     ensures { ReadsResponse limits text.now names.now places.old nodes.old progress
         places.new nodes.new result }
 {

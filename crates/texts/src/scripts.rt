@@ -5,7 +5,7 @@ ghost use Rattle.lexemes.specs.code.Table.{row_width};
 ghost use Rattle.term_nodes.specs.code.Table.{row_width as rawWidth};
 ghost use Rattle.words.specs.Limits.{script_limits};
 ghost use Rattle.script.specs.Outcome.{second_of};
-ghost use Rattle.texts.specs.code.Texts.{Placed, RowEach};
+ghost use Rattle.texts.specs.code.Texts.{Placed, RowEach, script_rows};
 ghost use Rattle.texts.specs.code.Scripts.{Lent, ScriptRead, in_offsets};
 
 use crate::lexed::offset_of;
@@ -100,6 +100,7 @@ fn script_of<const N: usize>(
     requires lent { Lent text.now names.old places.old nodes.old forms.old }
     requires few_rows { N ≤ script_words }
     requires few { min (length text.now) script_words ≤ N }
+    requires rows { N ≡ script_rows (length text.now) }
     ensures { ScriptRead text.now names.new places.new nodes.new forms.new result }
 {
     let mut lexemes = [[0; ROW]; N];

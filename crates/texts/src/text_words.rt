@@ -1,8 +1,8 @@
 //! The words and lexemes of a text, in tables that fit it.
-ghost use Rattle.std.specs.Prelude.{length, ◌≤◌, min};
+ghost use Rattle.std.specs.Prelude.{◌≡◌, length, ◌≤◌, min};
 ghost use Rattle.forest.specs.Limits.{script_words};
 ghost use Rattle.lexemes.specs.code.Table.{row_width};
-ghost use Rattle.texts.specs.code.Texts.{RowEach};
+ghost use Rattle.texts.specs.code.Texts.{RowEach, word_rows};
 ghost use Rattle.texts.specs.code.Lexed.{Lexed, Room};
 
 use crate::lexed::lexemes_in;
@@ -15,6 +15,7 @@ use words::{Limits, Reading, table};
 fn lexemes_of<const N: usize>(text: &[u8], limits: Limits, lexemes: &mut [u64]) -> Reading
     requires few_rows { N ≤ script_words }
     requires few { min (length text.now) limits.words ≤ N }
+    requires rows { N ≡ word_rows (min (length text.now) limits.words) }
     requires row_each { RowEach limits text.now row_width lexemes.old }
     ensures { Lexed limits text.now lexemes.new result }
 {

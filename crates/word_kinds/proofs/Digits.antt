@@ -6,8 +6,7 @@ use native.Mathlib.Omega.{arith}
 use mathlib.Core.Path.{◌≡◌, refl, sym, ◌∙◌}
 use mathlib.Core.Bool.{Bool, true, false, not, ◌&&◌, ◌||◌}
 use mathlib.Core.List.{List, [], ◌∷◌}
-use borrow.Author.Tests.{eqb-true, leb-true, ltb-true}
-use Rattle.std.specs.List.{list_all}
+use borrow.Author.Tests.{eqb-true, leb-true, ltb-true, not-true, not-false}
 use lib.Dec.{T, eqb, leb, ltb}
 use lib.ListN.{length, get_or, drop, drop_of_length-le}
 use Rattle.forest.proofs.Bools.{and_left, and_right, each, every}
@@ -18,11 +17,19 @@ use Rattle.word_kinds.specs.Bytes.{binary_digit, digit, hex_digit}
 use Rattle.word_kinds.specs.declared.Class.{Class}
 use Rattle.word_kinds.specs.declared.Class.TheVariants.{BinaryDigits, Digits, HexDigits}
 
--- as `all` tests them
-pub all_listed : (class : Class) (w : List ℕ) → list_all (in_class class) w ≡ all_in class w
-unfolding all_in
-all_listed class [] = refl
-all_listed class (b ∷ w) = rw (all_listed class w)
+module _ (class : Class) (w : List ℕ) (i : ℕ) (inv : all_in class (drop i w) ≡ all_in class w) where
+  pub all_ends : length w ≤ i → true ≡ all_in class w
+  unfolding all_in
+  all_ends h = sym (rw (drop_of_length-le w)) ∙ inv
+
+  module _ (r : Bool) (h : i < length w) (e : r ≡ in_class class (get_or w i 0)) where
+    pub all_stops : not r ≡ true → false ≡ all_in class w
+    unfolding all_in
+    all_stops t = sym (rw (drop_next w i h, sym e ∙ not-true r t)) ∙ inv
+
+    pub all_goes : not r ≡ false → all_in class (drop (i + 1) w) ≡ all_in class w
+    unfolding all_in
+    all_goes t = sym (rw (drop_next w i h, sym e ∙ not-false r t)) ∙ inv
 
 -- a number of i digits and one digit more
 digits_more : (base v d i : ℕ) → v < base ^ i → d < base → v * base + d < base ^ (i + 1)

@@ -33,19 +33,24 @@ fn in_class(class: Class, byte: u8) -> bool
 fn all_in(class: Class, word: &[u8]) -> bool
     ensures { result ≡ all_in class word.now }
 {
-    word.iter().all(|byte| in_class(class, *byte))
+    for byte in word {
+        if !in_class(class, *byte) {
+            return false;
+        }
+    }
+    true
 }
 
 // The value of a digit of base 16 or less.
 pub(crate) fn digit_value(byte: u8) -> u64
     ensures { result ≡ digit_value byte }
 {
-    let value = match byte {
-        0..=b'9' => byte.saturating_sub(b'0'),
-        b':'..=b'F' => 10 + byte.saturating_sub(b'A'),
-        _ => 10 + byte.saturating_sub(b'a'),
-    };
-    u64::from(value)
+    let code = u64::from(byte);
+    match byte {
+        0..=b'9' => code.saturating_sub(48),
+        b':'..=b'F' => 10 + code.saturating_sub(65),
+        _ => 10 + code.saturating_sub(97),
+    }
 }
 
 // The number that digits spell in a base.

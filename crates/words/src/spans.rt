@@ -7,7 +7,7 @@ ghost use Rattle.words.specs.code.Spans.{first_start};
 fn is_white(byte: u8) -> bool
     ensures { result ≡ white byte }
 {
-    matches!(byte, 9 | 10 | 13 | 32)
+    (byte == 9) | (byte == 10) | (byte == 13) | (byte == 32)
 }
 
 // What a comment begins with.

@@ -1,5 +1,6 @@
 -- Where the words of a text stand, for all that read one.
-use Rattle.std.specs.Prelude.{ℕ, ◌*◌, ◌≤◌, List, ◌++◌, ◌≡◌, length}
+use Rattle.std.specs.Prelude.{ℕ, ◌*◌, ◌≤◌, List, ◌++◌, ◌≡◌, cond, leb, length}
+use Rattle.forest.specs.Limits.{response_words, script_words}
 use Rattle.words.specs.Words.{words_of}
 use Rattle.words.specs.declared.Limits.{Limits}
 use Rattle.lexemes.specs.code.Table.{lexeme_table}
@@ -15,6 +16,18 @@ short_response = 512
 -- How many a script of middle length has.
 abbrev pub middle_script : ℕ
 middle_script = 4096
+
+-- How many rows the tables of a script have, by its length.
+abbrev pub script_rows : (length : ℕ) → ℕ
+script_rows n = cond (leb n short_script) short_script (cond (leb n middle_script) middle_script script_words)
+
+-- How many those of a response have.
+abbrev pub response_rows : (length : ℕ) → ℕ
+response_rows n = cond (leb n short_response) short_response response_words
+
+-- How many the table of the words of a text has, by how many words it can have at most.
+abbrev pub word_rows : (most : ℕ) → ℕ
+word_rows n = cond (leb n short_response) short_response (script_rows n)
 
 -- A table has a row of so many numbers for each word that a text can have within limits.
 pub record RowEach (limits : Limits) (text : List ℕ) (width : ℕ) (table : List ℕ) : Type 0 where

@@ -1,12 +1,15 @@
-use mathlib.Core.Path.{◌∙◌}
-use Rattle.std.proofs.Common.{rules}
-use Rattle.std.proofs.lemmas.Iterator.{YieldsList-from_slice}
-use Rattle.std.proofs.lemmas.Iterator.Search.{all_from_yields_List}
-use Rattle.word_kinds.specs.Kinds.{in_class}
-use Rattle.word_kinds.proofs.Digits.{all_listed}
+use mathlib.Core.Path.{refl}
+use Rattle.word_kinds.proofs.Digits.{all_ends, all_goes, all_stops}
 use Rattle.word_kinds.proofs.kinds.all_in.Goals as goal
 
+pub loop-byte-init : goal.loop-byte-init
+loop-byte-init c = refl
+
+pub returns-then-not-in_class : goal.returns-then-not-in_class
+returns-then-not-in_class c = search all_stops
+
+pub loop-byte-preserved : goal.loop-byte-preserved
+loop-byte-preserved c = search all_goes
+
 pub returns : goal.returns
-returns c =
-    all_from_yields_List (in_class c.args.class) _ _ _ c.all.ensures.ran (YieldsList-from_slice c.args.word.now (cc)) (λ x b q k. search rules)
-    ∙ all_listed _ _
+returns c = search all_ends
