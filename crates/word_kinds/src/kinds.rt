@@ -149,6 +149,7 @@ fn marked_of(word: &[u8]) -> Kind
 }
 
 // What a word is.
+#[inline(never)]
 pub fn kind_of(word: &[u8]) -> Kind
     ensures { result ≡ kind_of word.now }
 {
