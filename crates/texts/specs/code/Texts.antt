@@ -9,23 +9,23 @@ use Rattle.lexemes.specs.code.Table.{lexeme_table}
 abbrev pub short_script : ℕ
 short_script = 2048
 
--- How many a short response has.
+-- How many bytes a short response has at most.
 abbrev pub short_response : ℕ
 short_response = 512
 
--- How many a script of middle length has.
+-- How many bytes a script of middle length has at most.
 abbrev pub middle_script : ℕ
 middle_script = 4096
 
--- How many rows the tables of a script have, by its length.
-abbrev pub script_rows : (length : ℕ) → ℕ
+-- How many rows the tables of a script have, by how many bytes it has.
+abbrev pub script_rows : (bytes : ℕ) → ℕ
 script_rows n = cond (leb n short_script) short_script (cond (leb n middle_script) middle_script script_words)
 
--- How many those of a response have.
-abbrev pub response_rows : (length : ℕ) → ℕ
+-- How many rows the tables of a response have, by how many bytes it has.
+abbrev pub response_rows : (bytes : ℕ) → ℕ
 response_rows n = cond (leb n short_response) short_response response_words
 
--- How many the table of the words of a text has, by how many words it can have at most.
+-- How many rows the table of a text's words has, by how many words the text can have at most.
 abbrev pub word_rows : (most : ℕ) → ℕ
 word_rows n = cond (leb n short_response) short_response (script_rows n)
 
